@@ -27,10 +27,10 @@ use Rattle.annotated_asm.specs.ProgramText.{built, program_of, parse}
 use Rattle.annotated_asm.specs.Tables.{Names, lookup}
 use Rattle.annotated_asm.specs.declared.fault.AsmFault.{AsmFault}
 use Rattle.annotated_asm.specs.declared.fault.AsmFault.TheVariants as fault
-use Rattle.annotated_asm.specs.declared.item.Item.{Item}
+use Rattle.annotated_asm.specs.declared.item.PlacedStatement.{PlacedStatement}
 use Rattle.task_descriptor.specs.declared.program.BuildFault.TheVariants.{TooMany}
 use Rattle.annotated_asm.proofs.Runs.{parts_append}
-use Rattle.program_tokens.specs.declared.span.Span.{Span}
+use Rattle.program_tokens.specs.declared.span.TokenSpan.{TokenSpan}
 use Rattle.program_tokens.specs.declared.token.Token.{Token}
 use Rattle.annotated_asm.specs.declared.position.LabelSource.{LabelSource}
 use Rattle.annotated_asm.specs.Sources.{Sources, HasPlacesOf, no_sources, token_position, width_between, task_lists, targets_number, target_stretches, label_sources, with_labels, with_statement, with_line, with_lines, sources_of}
@@ -79,7 +79,7 @@ data_fits s p next here bytes fits h =
 grown_by : {X Y : Type 0} (xs more : List X) (ys others : List Y) → length xs ≡ length ys → length more ≡ length others → length (xs ++ more) ≡ length (ys ++ others)
 grown_by xs more ys others e f = omega (arith, length-append xs more, length-append ys others)
 
-part_fits : (labels : Names) (s : Sources) (p next : Listing) (n : ℕ) (here : Section) (ss : List Span) (ts : List Token) (said : Statement) → HasPlacesOf s p
+part_fits : (labels : Names) (s : Sources) (p next : Listing) (n : ℕ) (here : Section) (ss : List TokenSpan) (ts : List Token) (said : Statement) → HasPlacesOf s p
     → with_part labels p (record { line = n; section = here; statement = said }) ≡ Ok next → HasPlacesOf (with_statement s n ss ts here said) next
 part_fits labels s p next n here ss ts (statement.Code i marks) fits h =
     let code = first_ok (spelled labels n i) (λ code. Ok (with_code p (all_marked marks code))) next h in
@@ -114,7 +114,7 @@ part_fits labels s p next n here ss ts statement.Empty fits h = let same : p ≡
 part_fits labels s p next n here ss ts (statement.Label name) fits h = let same : p ≡ next = cc in subst (HasPlacesOf s) same fits
 part_fits labels s p next n here ss ts (statement.Section other) fits h = let same : p ≡ next = cc in subst (HasPlacesOf s) same fits
 
-statement_fits : (labels : Names) (s : Sources) (p next : Listing) (n : ℕ) (here : Section) (ss : List Span) (ts : List Token) (said : Statement) → HasPlacesOf s p
+statement_fits : (labels : Names) (s : Sources) (p next : Listing) (n : ℕ) (here : Section) (ss : List TokenSpan) (ts : List Token) (said : Statement) → HasPlacesOf s p
     → parts labels p (statement_items n here said) ≡ Ok next → HasPlacesOf (with_statement s n ss ts here said) next
 statement_fits labels s p next n here ss ts statement.Empty fits h = let same : p ≡ next = cc in subst (HasPlacesOf s) same fits
 statement_fits labels s p next n here ss ts said fits h =
@@ -127,7 +127,7 @@ labels_part : (labels : Names) (p : Listing) (n : ℕ) (here : Section) (names :
 labels_part labels p n here [] = refl
 labels_part labels p n here (name ∷ names) = labels_part labels p n here names
 
-line_fits : (labels : Names) (s : Sources) (p next : Listing) (n : ℕ) (here : Section) (names : List (List ℕ)) (found : List LabelSource) (ss : List Span) (ts : List Token) (said : Statement)
+line_fits : (labels : Names) (s : Sources) (p next : Listing) (n : ℕ) (here : Section) (names : List (List ℕ)) (found : List LabelSource) (ss : List TokenSpan) (ts : List Token) (said : Statement)
     → HasPlacesOf s p → parts labels p (map (label_item n here) names ++ statement_items n here said) ≡ Ok next
     → HasPlacesOf (with_statement (with_labels s found) n ss ts here said) next
 line_fits labels s p next n here names found ss ts said fits h =
@@ -141,29 +141,29 @@ pub record Made (s : Sources) (n : ℕ) (here : Section) (ls : List (List ℕ)) 
   pub made : with_lines s n here ls ≡ Ok sources
   pub fits : HasPlacesOf sources p
 
-lines_fit : (labels : Names) (s : Sources) (p made : Listing) (n : ℕ) (here : Section) (ls : List (List ℕ)) (items : List Item)
+lines_fit : (labels : Names) (s : Sources) (p made : Listing) (n : ℕ) (here : Section) (ls : List (List ℕ)) (items : List PlacedStatement)
     → HasPlacesOf s p → items_from n here ls ≡ Ok items → parts labels p items ≡ Ok made → Made s n here ls made
 unfolding with_lines items_from with_line line_items
 lines_fit labels s p made n here [] items fits read built =
     let none : [] ≡ items = cc in
-    let same : p ≡ made = (let e = ap (λ (xs : List Item). parts labels p xs) none ∙ built in cc) in
+    let same : p ≡ made = (let e = ap (λ (xs : List PlacedStatement). parts labels p xs) none ∙ built in cc) in
     record { sources = s; made = refl; fits = subst (HasPlacesOf s) same fits }
 lines_fit labels s p made n here (line ∷ ls) items fits read built =
     let first = first_ok (line_items n here line) (λ x. items_from (n + 1) x.1 ls >>= λ others. Ok (x.0 ++ others)) items read in
     let others = first_ok (items_from (n + 1) first.0.1 ls) (λ ys. Ok (first.0.0 ++ ys)) items first.2 in
     let tokens = first_ok (tokens_on_line n (line_tokens line)) (λ ts. on_line n (statement_of here (after_labels ts)) >>= λ said. Ok (map (label_item n here) (labels_of ts) ++ statement_items n here said, section_after here said)) first.0 first.1 in
     let said = first_ok (on_line n (statement_of here (after_labels tokens.0))) (λ x. Ok (map (label_item n here) (labels_of tokens.0) ++ statement_items n here x, section_after here x)) first.0 tokens.2 in
-    let front : List Item = map (label_item n here) (labels_of tokens.0) ++ statement_items n here said.0 in
+    let front : List PlacedStatement = map (label_item n here) (labels_of tokens.0) ++ statement_items n here said.0 in
     let is_first : (front, section_after here said.0) ≡ first.0 = (let e = said.2 in cc) in
-    let all : front ++ others.0 ≡ items = (let e = others.2 in ap (λ (x : List Item × Section). x.0 ++ others.0) is_first ∙ cc) in
-    let split = first_ok (parts labels p front) (λ q. parts labels q others.0) made (sym (parts_append labels p front others.0) ∙ ap (λ (xs : List Item). parts labels p xs) all ∙ built) in
+    let all : front ++ others.0 ≡ items = (let e = others.2 in ap (λ (x : List PlacedStatement × Section). x.0 ++ others.0) is_first ∙ cc) in
+    let split = first_ok (parts labels p front) (λ q. parts labels q others.0) made (sym (parts_append labels p front others.0) ∙ ap (λ (xs : List PlacedStatement). parts labels p xs) all ∙ built) in
     let found = label_sources n (line_spans line) 0 tokens.0 in
     let own = drop (2 * length (labels_of tokens.0)) (line_spans line) in
     let next = with_statement (with_labels s found) n own (after_labels tokens.0) here said.0 in
     let is_line : with_line s n here line ≡ Ok (next, section_after here said.0) = line_read s n here line tokens.0 said.0 tokens.1 said.1 in
     let rest = lines_fit labels next split.0 made (n + 1) (section_after here said.0) ls others.0
     (line_fits labels s p split.0 n here (labels_of tokens.0) found own (after_labels tokens.0) said.0 fits split.1)
-    (ap (λ (x : List Item × Section). items_from (n + 1) x.1 ls) is_first ∙ others.1) split.2 in
+    (ap (λ (x : List PlacedStatement × Section). items_from (n + 1) x.1 ls) is_first ∙ others.1) split.2 in
     record {
       sources = rest.sources;
       made = line_more s next n here (section_after here said.0) line ls is_line ∙ rest.made;

@@ -22,7 +22,7 @@ use Rattle.annotated_asm.specs.Tables.{Names, lookup}
 use Rattle.annotated_asm.specs.Resolve.{code_label, is_known_target, is_known_instruction, is_known, known, place_of, target_place, label_address, spelled, all_marked, target_places, with_code, descriptor, with_part, parts, no_parts}
 use Rattle.annotated_asm.specs.declared.fault.AsmFault.{AsmFault}
 use Rattle.annotated_asm.specs.declared.fault.AsmFault.TheVariants as fault
-use Rattle.annotated_asm.specs.declared.item.Item.{Item}
+use Rattle.annotated_asm.specs.declared.item.PlacedStatement.{PlacedStatement}
 use Rattle.annotated_asm.specs.declared.layout.Layout.{Layout}
 use Rattle.annotated_asm.specs.Layout.{is_beyond}
 use Rattle.annotated_asm.specs.ProgramText.{built, program_of}
@@ -102,7 +102,7 @@ part_known labels p line section statement.Empty h = refl
 part_known labels p line section (statement.Label name) h = refl
 part_known labels p line section (statement.Section other) h = refl
 
-parts_known_if : (labels : Names) (p : Listing) (items : List Item) → succeeds (parts labels p items) ≡ true → known labels items ≡ Ok tt
+parts_known_if : (labels : Names) (p : Listing) (items : List PlacedStatement) → succeeds (parts labels p items) ≡ true → known labels items ≡ Ok tt
 parts_known_if labels p [] h = refl
 parts_known_if labels p (item ∷ items) h =
     let here = part_known labels p item.line item.section item.statement (first_does (with_part labels p item) (λ next. parts labels next items) h) in
@@ -110,11 +110,11 @@ parts_known_if labels p (item ∷ items) h =
     ap (λ b. if b then known labels items else Err (fault.Unknown item.line)) here
     ∙ parts_known_if labels behind.0 items behind.1
 
-parts_known : (labels : Names) (p made : Listing) (items : List Item) → parts labels p items ≡ Ok made → known labels items ≡ Ok tt
+parts_known : (labels : Names) (p made : Listing) (items : List PlacedStatement) → parts labels p items ≡ Ok made → known labels items ≡ Ok tt
 parts_known labels p made items h = parts_known_if labels p items (ap succeeds h)
 
 -- where there are parts, no name has to be looked up for a fault
-pub built_of : (items : List Item) (layout : Layout) (made : Listing) → is_beyond layout.sizes ≡ false → parts layout.labels no_parts items ≡ Ok made
+pub built_of : (items : List PlacedStatement) (layout : Layout) (made : Listing) → is_beyond layout.sizes ≡ false → parts layout.labels no_parts items ≡ Ok made
     → program_of items layout ≡ built made (build_fault made)
 unfolding program_of
 built_of items layout made within h =

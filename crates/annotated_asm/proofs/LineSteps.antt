@@ -8,7 +8,7 @@ use Rattle.annotated_asm.specs.declared.fault.AsmFault.TheVariants as text
 use Rattle.program_tokens.specs.Grammar.{line_tokens}
 use Rattle.program_tokens.specs.Spans.{line_spans}
 use Rattle.program_tokens.specs.declared.token.Token.{Token}
-use Rattle.program_tokens.specs.declared.span.Span.{Span}
+use Rattle.program_tokens.specs.declared.span.TokenSpan.{TokenSpan}
 use Rattle.program_statements.specs.Statements.{statement_of}
 use Rattle.program_statements.specs.declared.statement.Statement.{Statement}
 use Rattle.annotated_asm.specs.Items.{labels_of, after_labels, on_line, tokens_on_line, section_after}
@@ -16,7 +16,7 @@ use Rattle.annotated_asm.specs.declared.position.LabelSource.{LabelSource}
 use Rattle.annotated_asm.specs.Sources.{Sources, label_sources, with_labels, with_statement, with_line, with_lines}
 
 -- what a line adds, from its tokens and its statement
-abbrev pub added : Sources → ℕ → Section → List Span → List Token → Statement → Sources
+abbrev pub added : Sources → ℕ → Section → List TokenSpan → List Token → Statement → Sources
 added front n here spans tokens said =
     with_statement (with_labels front (label_sources n spans 0 tokens)) n (drop (2 * length (labels_of tokens)) spans) (after_labels tokens) here said
 
@@ -29,7 +29,7 @@ line_read front n here line tokens said e f =
     ∙ ap (λ (r : Result Statement AsmFault). r >>= λ x. Ok (added front n here (line_spans line) tokens x, section_after here x)) f
 
 -- the same in the terms of the code: the places and the tokens behind the labels as it has them
-pub line_told : (front last : Sources) (n : ℕ) (here : Section) (line : List ℕ) (tokens rest : List Token) (spans own : List Span) (number : ℕ) (labels : List LabelSource) (said : Statement)
+pub line_told : (front last : Sources) (n : ℕ) (here : Section) (line : List ℕ) (tokens rest : List Token) (spans own : List TokenSpan) (number : ℕ) (labels : List LabelSource) (said : Statement)
     → tokens_on_line n (line_tokens line) ≡ Ok tokens → spans ≡ line_spans line
     → rest ≡ after_labels tokens → number ≡ 2 * length (labels_of tokens) → own ≡ drop number spans → labels ≡ label_sources n spans 0 tokens
     → on_line n (statement_of here rest) ≡ Ok said → last ≡ with_statement (with_labels front labels) n own rest here said

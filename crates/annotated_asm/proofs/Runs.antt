@@ -10,7 +10,7 @@ use Rattle.std.proofs.lemmas.Bool.{le-ltb}
 use Rattle.std.proofs.Common.{◌≡◌, ℕ, true, false, refl, sym, true≢false}
 use Rattle.annotated_asm.specs.declared.fault.AsmFault.{AsmFault}
 use Rattle.annotated_asm.specs.declared.fault.AsmFault.TheVariants as fault
-use Rattle.annotated_asm.specs.declared.item.Item.{Item}
+use Rattle.annotated_asm.specs.declared.item.PlacedStatement.{PlacedStatement}
 use Rattle.annotated_asm.specs.declared.layout.Layout.{Layout}
 use Rattle.annotated_asm.specs.declared.layout.Sizes.{Sizes}
 use Rattle.annotated_asm.specs.Tables.{Names}
@@ -31,13 +31,13 @@ bind_assoc : {A B C F : Type 0} (r : Result A F) (f : A → Result B F) (g : B �
 bind_assoc (Ok a) f g = refl
 bind_assoc (Err e) f g = refl
 
-laid_append : (front : Layout) (xs ys : List Item) → laid front (xs ++ ys) ≡ (laid front xs >>= λ next. laid next ys)
+laid_append : (front : Layout) (xs ys : List PlacedStatement) → laid front (xs ++ ys) ≡ (laid front xs >>= λ next. laid next ys)
 laid_append front [] ys = refl
 laid_append front (x ∷ xs) ys =
     bind_same (with_item front x) (λ next. laid next (xs ++ ys)) (λ next. laid next xs >>= λ last. laid last ys) (λ next. laid_append next xs ys)
     ∙ bind_assoc (with_item front x) (λ next. laid next xs) (λ last. laid last ys)
 
-pub parts_append : (labels : Names) (front : Listing) (xs ys : List Item)
+pub parts_append : (labels : Names) (front : Listing) (xs ys : List PlacedStatement)
     → parts labels front (xs ++ ys) ≡ (parts labels front xs >>= λ next. parts labels next ys)
 parts_append labels front [] ys = refl
 parts_append labels front (x ∷ xs) ys =
@@ -49,19 +49,19 @@ if_bind : {F : Type 0} (b : Bool) (r s t : Result (Unit {0}) F) (e : F) → r �
 if_bind true r s t e same = same
 if_bind false r s t e same = refl
 
-known_append : (labels : Names) (xs ys : List Item) → known labels (xs ++ ys) ≡ (known labels xs >>= λ _. known labels ys)
+known_append : (labels : Names) (xs ys : List PlacedStatement) → known labels (xs ++ ys) ≡ (known labels xs >>= λ _. known labels ys)
 known_append labels [] ys = refl
 known_append labels (x ∷ xs) ys =
     if_bind (is_known labels x.statement) (known labels (xs ++ ys)) (known labels xs) (known labels ys) (fault.Unknown x.line) (known_append labels xs ys)
 
-pub alike_same : (xs ys : List Item) → xs ≡ ys → AreAlike xs ys
+pub alike_same : (xs ys : List PlacedStatement) → xs ≡ ys → AreAlike xs ys
 alike_same xs ys same = record {
-  layout = λ front. ap (λ (zs : List Item). laid front zs) same;
-  names = λ labels. ap (λ (zs : List Item). known labels zs) same;
-  program = λ labels front. ap (λ (zs : List Item). parts labels front zs) same;
+  layout = λ front. ap (λ (zs : List PlacedStatement). laid front zs) same;
+  names = λ labels. ap (λ (zs : List PlacedStatement). known labels zs) same;
+  program = λ labels front. ap (λ (zs : List PlacedStatement). parts labels front zs) same;
 }
 
-pub alike_then : (xs ys zs : List Item) → AreAlike xs ys → AreAlike ys zs → AreAlike xs zs
+pub alike_then : (xs ys zs : List PlacedStatement) → AreAlike xs ys → AreAlike ys zs → AreAlike xs zs
 alike_then xs ys zs first second = record {
   layout = λ front. first.layout front ∙ second.layout front;
   names = λ labels. first.names labels ∙ second.names labels;
@@ -69,7 +69,7 @@ alike_then xs ys zs first second = record {
 }
 
 -- also with more items behind them
-pub alike_before : (xs ys more : List Item) → AreAlike xs ys → AreAlike (xs ++ more) (ys ++ more)
+pub alike_before : (xs ys more : List PlacedStatement) → AreAlike xs ys → AreAlike (xs ++ more) (ys ++ more)
 alike_before xs ys more alike = record {
   layout = λ front. laid_append front xs more
       ∙ ap (λ (r : Result Layout AsmFault). r >>= λ next. laid next more) (alike.layout front) ∙ sym (laid_append front ys more);
@@ -80,7 +80,7 @@ alike_before xs ys more alike = record {
 }
 
 -- and with more items before them
-pub alike_behind : (more xs ys : List Item) → AreAlike xs ys → AreAlike (more ++ xs) (more ++ ys)
+pub alike_behind : (more xs ys : List PlacedStatement) → AreAlike xs ys → AreAlike (more ++ xs) (more ++ ys)
 alike_behind more xs ys alike = record {
   layout = λ front. laid_append front more xs
       ∙ bind_same (laid front more) (λ next. laid next xs) (λ next. laid next ys) (λ next. alike.layout next) ∙ sym (laid_append front more ys);
@@ -130,27 +130,27 @@ set_last {X} (z ∷ ws) n x y some is e =
     (rest.0, (rest.1.0, ap (λ (k : ℕ). slice_set (z ∷ ws) k y) same ∙ rest.1.1))
 
 -- bytes added to those of the last item
-pub blob_joined : (items : List Item) (first line : ℕ) (here : Section) (a b : List ℕ)
+pub blob_joined : (items : List PlacedStatement) (first line : ℕ) (here : Section) (a b : List ℕ)
     → AreAlike (items ++ blob first here (a ++ b) ∷ []) ((items ++ blob first here a ∷ []) ++ blob line here b ∷ [])
 blob_joined items first line here a b =
     alike_then _ _ _ (alike_behind items _ _ (one_blob first line here a b))
     (alike_same _ _ (sym (append_assoc items (blob first here a ∷ []) (blob line here b ∷ []))))
 
-program_alike : (items all : List Item) (layout : Layout) → AreAlike items all → program_of items layout ≡ program_of all layout
+program_alike : (items all : List PlacedStatement) (layout : Layout) → AreAlike items all → program_of items layout ≡ program_of all layout
 unfolding program_of
 program_alike items all layout alike =
     (λ i. alike.names layout.labels i >>= λ _. if is_beyond layout.sizes then Err (fault.Build TooMany)
     else (alike.program layout.labels no_parts i >>= λ p. built p (build_fault p)))
 
 -- the rest of the reading of a text, from items that mean the same
-pub parsed : (text : List ℕ) (items all : List Item) (layout : Layout) → length text ≤ 4194304
+pub parsed : (text : List ℕ) (items all : List PlacedStatement) (layout : Layout) → length text ≤ 4194304
     → items_from 1 section.Text (lines text) ≡ Ok all → AreAlike items all → laid no_layout items ≡ Ok layout
     → program_of items layout ≡ parse text
 unfolding parse
 parsed text items all layout short read alike is_laid =
     program_alike items all layout alike
     ∙ ap (λ (r : Result Layout AsmFault). r >>= λ made. program_of all made) (sym is_laid ∙ alike.layout no_layout)
-    ∙ ap (λ (r : Result (List Item) AsmFault). r >>= λ xs. laid no_layout xs >>= λ made. program_of xs made) (sym read)
+    ∙ ap (λ (r : Result (List PlacedStatement) AsmFault). r >>= λ xs. laid no_layout xs >>= λ made. program_of xs made) (sym read)
     ∙ ap (λ (long : Bool). if long then Err fault.TooLong else (items_from 1 section.Text (lines text) >>= λ xs. laid no_layout xs >>= λ made. program_of xs made)) (sym (le-ltb 4194304 (length text) short))
 
 -- sections that the comparison takes for equal are

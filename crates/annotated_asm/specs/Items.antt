@@ -16,7 +16,7 @@ use Rattle.annotated_asm.specs.declared.fault.AsmFault.TheVariants as fault
 use Rattle.program_statements.specs.declared.statement.Section.{Section}
 use Rattle.program_statements.specs.declared.statement.Statement.{Statement}
 use Rattle.program_statements.specs.declared.statement.Statement.TheVariants as statement
-use Rattle.annotated_asm.specs.declared.item.Item.{Item}
+use Rattle.annotated_asm.specs.declared.item.PlacedStatement.{PlacedStatement}
 
 -- the names before the statement, each with a colon, and the tokens behind them
 abbrev pub labels_of : List Token → List (List ℕ)
@@ -43,14 +43,14 @@ tokens_on_line n (Ok tokens) = Ok tokens
 tokens_on_line n (Err token_fault.NotAscii) = Err (fault.NotAscii n)
 tokens_on_line n (Err token_fault.Token) = Err (fault.Token n)
 
-abbrev pub label_item : ℕ → Section → List ℕ → Item
+abbrev pub label_item : ℕ → Section → List ℕ → PlacedStatement
 label_item n here name = record { line = n; section = here; statement = statement.Label name }
 
-abbrev pub blob : ℕ → Section → List ℕ → Item
+abbrev pub blob : ℕ → Section → List ℕ → PlacedStatement
 blob n here bytes = record { line = n; section = here; statement = statement.Bytes bytes }
 
 -- a line that says nothing has no item for a statement
-abbrev pub statement_items : ℕ → Section → Statement → List Item
+abbrev pub statement_items : ℕ → Section → Statement → List PlacedStatement
 statement_items n here statement.Empty = []
 statement_items n here s = record { line = n; section = here; statement = s } ∷ []
 
@@ -60,14 +60,14 @@ section_after here (statement.Section next) = next
 section_after here _ = here
 
 -- the items of one line, and the section behind it
-unfoldable pub line_items : ℕ → Section → List ℕ → Result (List Item × Section) AsmFault
+unfoldable pub line_items : ℕ → Section → List ℕ → Result (List PlacedStatement × Section) AsmFault
 line_items n here line = do
   tokens ← tokens_on_line n (line_tokens line)
   s ← on_line n (statement_of here (after_labels tokens))
   Ok (map (label_item n here) (labels_of tokens) ++ statement_items n here s, section_after here s)
 
 -- the items of these lines, the first of which has this number and section
-unfoldable pub items_from : ℕ → Section → List (List ℕ) → Result (List Item) AsmFault
+unfoldable pub items_from : ℕ → Section → List (List ℕ) → Result (List PlacedStatement) AsmFault
 items_from n here [] = Ok []
 items_from n here (line ∷ lines) = do
   first ← line_items n here line
@@ -75,5 +75,5 @@ items_from n here (line ∷ lines) = do
   Ok (first.0 ++ others)
 
 -- a line's items behind those of the lines before it
-abbrev pub with_items : List Item → Result (List Item × Section) AsmFault → Result (List Item × Section) AsmFault
+abbrev pub with_items : List PlacedStatement → Result (List PlacedStatement × Section) AsmFault → Result (List PlacedStatement × Section) AsmFault
 with_items front read = read >>= λ x. Ok (front ++ x.0, x.1)

@@ -9,7 +9,7 @@ use Rattle.program_statements.specs.declared.statement.Section.TheVariants as se
 use Rattle.program_statements.specs.declared.statement.Instruction.{Instruction}
 use Rattle.program_statements.specs.declared.statement.Instruction.TheVariants as instruction
 use Rattle.program_statements.specs.declared.statement.Statement.TheVariants as statement
-use Rattle.annotated_asm.specs.declared.item.Item.{Item}
+use Rattle.annotated_asm.specs.declared.item.PlacedStatement.{PlacedStatement}
 use Rattle.annotated_asm.specs.declared.layout.Sizes.{Sizes}
 use Rattle.annotated_asm.specs.declared.layout.Layout.{Layout}
 use Rattle.annotated_asm.specs.Tables.{lookup}
@@ -43,7 +43,7 @@ abbrev pub if_new : Bool → ℕ → Layout → Result Layout AsmFault
 if_new true n layout = Err (fault.Duplicate n)
 if_new false n layout = Ok layout
 
-abbrev pub with_item : Layout → Item → Result Layout AsmFault
+abbrev pub with_item : Layout → PlacedStatement → Result Layout AsmFault
 with_item layout item = elim item.statement [
   | statement.Label name ↦ if_new (is_some (lookup layout.labels name)) item.line
       (record layout { labels = layout.labels ++ (name, symbol_at layout.sizes item.section) ∷ [] })
@@ -67,7 +67,7 @@ no_layout = record {
 
 -- the layout of these items behind what is laid out; the line of the first that defines a label, a task
 -- or the start a second time
-abbrev pub laid : Layout → List Item → Result Layout AsmFault
+abbrev pub laid : Layout → List PlacedStatement → Result Layout AsmFault
 laid layout [] = Ok layout
 laid layout (item ∷ items) = with_item layout item >>= λ next. laid next items
 

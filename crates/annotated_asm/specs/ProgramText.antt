@@ -11,7 +11,7 @@ use Rattle.annotated_asm.specs.Resolve.{known, parts, no_parts}
 use Rattle.annotated_asm.specs.declared.fault.AsmFault.{AsmFault}
 use Rattle.annotated_asm.specs.declared.fault.AsmFault.TheVariants as fault
 use Rattle.program_statements.specs.declared.statement.Section.TheVariants.{Text}
-use Rattle.annotated_asm.specs.declared.item.Item.{Item}
+use Rattle.annotated_asm.specs.declared.item.PlacedStatement.{PlacedStatement}
 use Rattle.annotated_asm.specs.declared.layout.Layout.{Layout}
 
 -- a well-formed program
@@ -20,7 +20,7 @@ built p None = Ok p
 built p (Some f) = Err (fault.Build f)
 
 -- the program of items whose layout is known
-unfoldable pub program_of : List Item → Layout → Result Listing AsmFault
+unfoldable pub program_of : List PlacedStatement → Layout → Result Listing AsmFault
 program_of items layout = do
   _ ← known layout.labels items
   if is_beyond layout.sizes then Err (fault.Build TooMany) else (do

@@ -24,7 +24,7 @@ use Rattle.program_statements.specs.declared.statement.Instruction.TheVariants a
 use Rattle.program_statements.specs.declared.statement.Statement.{Statement}
 use Rattle.program_statements.specs.declared.statement.Statement.TheVariants as statement
 use Rattle.program_statements.specs.declared.statement.Task.{Task}
-use Rattle.annotated_asm.specs.declared.item.Item.{Item}
+use Rattle.annotated_asm.specs.declared.item.PlacedStatement.{PlacedStatement}
 
 -- What names stand for.
 
@@ -70,7 +70,7 @@ is_known labels (statement.Code i marks) = is_known_instruction labels i
 is_known labels _ = true
 
 -- the line of the first item that names what is no label of the wanted kind
-abbrev pub known : Names → List Item → Result (Unit {0}) AsmFault
+abbrev pub known : Names → List PlacedStatement → Result (Unit {0}) AsmFault
 known labels [] = Ok tt
 known labels (item ∷ items) = if is_known labels item.statement then known labels items else Err (fault.Unknown item.line)
 
@@ -139,7 +139,7 @@ descriptor labels n task =
     Ok (record { name = task.name; entry = entry; create = task.create; targets = targets })
 
 -- the program so far, with what an item adds
-abbrev pub with_part : Names → Listing → Item → Result Listing AsmFault
+abbrev pub with_part : Names → Listing → PlacedStatement → Result Listing AsmFault
 with_part labels p item = elim item.statement [
   | statement.Start name ↦ place_of item.line (code_label labels name) >>= λ place. Ok (record p { start = place })
   | statement.Task task ↦
@@ -152,7 +152,7 @@ with_part labels p item = elim item.statement [
   | statement.Section other ↦ Ok p
 ]
 
-abbrev pub parts : Names → Listing → List Item → Result Listing AsmFault
+abbrev pub parts : Names → Listing → List PlacedStatement → Result Listing AsmFault
 parts labels p [] = Ok p
 parts labels p (item ∷ items) = with_part labels p item >>= λ next. parts labels next items
 

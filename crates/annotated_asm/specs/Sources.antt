@@ -10,7 +10,7 @@ use Rattle.program_tokens.specs.Grammar.{line_tokens}
 use Rattle.program_tokens.specs.Spans.{line_spans}
 use Rattle.program_tokens.specs.declared.token.Token.{Token}
 use Rattle.program_tokens.specs.declared.token.Token.TheVariants as token
-use Rattle.program_tokens.specs.declared.span.Span.{Span}
+use Rattle.program_tokens.specs.declared.span.TokenSpan.{TokenSpan}
 use Rattle.program_statements.specs.Steps.{◌>>=◌}
 use Rattle.program_statements.specs.Statements.{statement_of}
 use Rattle.program_statements.specs.declared.statement.Section.{Section}
@@ -55,27 +55,27 @@ abbrev pub no_sources : Sources
 no_sources = record { code = []; widths = []; tasks = []; lists = []; targets = []; labels = []; pieces = []; start = None }
 
 -- where the token of this number begins, in line n; behind the last token, where the line begins
-abbrev pub column_of : Option Span → ℕ
+abbrev pub column_of : Option TokenSpan → ℕ
 column_of None = 1
 column_of (Some span) = span.column
 
-abbrev pub token_position : ℕ → List Span → ℕ → Position
+abbrev pub token_position : ℕ → List TokenSpan → ℕ → Position
 token_position n spans number = record { line = n; column = column_of (slice_get spans number) }
 
 -- the column behind a token's last byte
-abbrev pub end_of : Option Span → ℕ
+abbrev pub end_of : Option TokenSpan → ℕ
 end_of None = 1
 end_of (Some span) = span.column + span.len
 
 -- how many bytes there are from the first of one token to the last of another
-abbrev pub width_between : List Span → (first last : ℕ) → ℕ
+abbrev pub width_between : List TokenSpan → (first last : ℕ) → ℕ
 width_between spans first last = end_of (slice_get spans last) - column_of (slice_get spans first)
 
-abbrev pub stretch_between : ℕ → List Span → (first last : ℕ) → Stretch
+abbrev pub stretch_between : ℕ → List TokenSpan → (first last : ℕ) → Stretch
 stretch_between n spans first last = record { position = token_position n spans first; width = width_between spans first last }
 
 -- the labels at the front of a line's tokens, the first of which has this number: each label is two tokens
-abbrev pub label_sources : ℕ → List Span → ℕ → List Token → List LabelSource
+abbrev pub label_sources : ℕ → List TokenSpan → ℕ → List Token → List LabelSource
 label_sources n spans number (token.Name name ∷ token.Colon ∷ rest) =
     record { name = name; position = token_position n spans number } ∷ label_sources n spans (number + 2) rest
 label_sources n spans number _ = []
@@ -96,23 +96,23 @@ abbrev pub targets_number : List Token → ℕ
 targets_number tokens = 4 + length (take_while is_no_name (drop 4 tokens))
 
 -- `create=REGS` is what stands from the word `create` to the word `targets`, and `targets=TS` is the rest
-abbrev pub task_lists : ℕ → List Span → List Token → TaskLists
+abbrev pub task_lists : ℕ → List TokenSpan → List Token → TaskLists
 task_lists n spans tokens = record {
   create = stretch_between n spans 2 (targets_number tokens - 1);
   targets = stretch_between n spans (targets_number tokens) (length spans - 1);
 }
 
-abbrev pub token_stretch : ℕ → Span → Stretch
+abbrev pub token_stretch : ℕ → TokenSpan → Stretch
 token_stretch n span = record { position = record { line = n; column = span.column }; width = span.len }
 
 -- where the targets stand: each is a token, with commas between them
-abbrev pub target_stretches : ℕ → List Span → List Stretch
+abbrev pub target_stretches : ℕ → List TokenSpan → List Stretch
 target_stretches n [] = []
 target_stretches n (last ∷ []) = token_stretch n last ∷ []
 target_stretches n (first ∷ comma ∷ rest) = token_stretch n first ∷ target_stretches n rest
 
 -- the map with the statement of these tokens, which stand at these places of line n, in a section
-abbrev pub with_statement : Sources → (n : ℕ) → List Span → List Token → Section → Statement → Sources
+abbrev pub with_statement : Sources → (n : ℕ) → List TokenSpan → List Token → Section → Statement → Sources
 with_statement front n spans tokens here (statement.Code i marks) = record front {
   code = front.code ++ replicate (instruction_count i) (token_position n spans 0);
   widths = front.widths ++ replicate (instruction_count i) (width_between spans 0 (length spans - 1));

@@ -6,7 +6,7 @@ ghost use Rattle.annotated_asm.specs.Steps.{Answers};
 ghost use Rattle.annotated_asm.specs.ProgramText.{built, program_of, parse, Spells};
 
 use crate::fault::AsmFault;
-use crate::item::{Item, items_of};
+use crate::item::{PlacedStatement, items_of};
 use crate::layout::{Layout, is_beyond, laid_out};
 use crate::resolve::{check_names, parts_of};
 use std::alloc::Global;
@@ -30,7 +30,11 @@ fn built(parts: Parts) -> Result<Program, AsmFault>
 
 /// The program of items whose layout is known.
 #[tactic(auto, unfolding(crate::specs::ProgramText::program_of))]
-fn program_of(alloc: Global, items: &[Item], layout: &Layout) -> Result<Program, AsmFault>
+fn program_of(
+    alloc: Global,
+    items: &[PlacedStatement],
+    layout: &Layout,
+) -> Result<Program, AsmFault>
     ensures { Answers (λ p. p) result (program_of items.now layout.now) }
 {
     if is_beyond(layout.sizes) {

@@ -10,7 +10,7 @@ impl fmt::Display for AsmFault {
 
     ghost output = { λ fault. Some (asm_fault_text fault) };
 
-    /// The number and the name of the fault, and the line (own choice).
+    /// The number and the name of the fault, and the line.
     fn fmt<W: fmt::Write>(&self, f: &mut fmt::Formatter<W>) -> fmt::Result {
         match *self {
             AsmFault::TooLong => write!(f, "1 TooLong"),

@@ -15,7 +15,7 @@ use std::alloc::{AllocError, Global};
 
 /// A label or a statement, with its place in the text.
 #[derive(Debug, Drop)]
-pub struct Item {
+pub struct PlacedStatement {
     /// The line, from 1 on.
     pub line: u32,
     /// The section of the line.
@@ -26,7 +26,7 @@ pub struct Item {
 
 /// Adds the labels at the front of a line, and answers the tokens behind them.
 fn add_labels<'a>(
-    items: &mut Vec<Item>,
+    items: &mut Vec<PlacedStatement>,
     line: u32,
     section: Section,
     tokens: &'a [Token],
@@ -36,7 +36,7 @@ fn add_labels<'a>(
 {
     let mut rest = tokens;
     while let [Token::Name(name), Token::Colon, after @ ..] = rest {
-        items.push(Item {
+        items.push(PlacedStatement {
             line,
             section,
             statement: Statement::Label(*name),
@@ -48,7 +48,7 @@ fn add_labels<'a>(
 
 /// Adds a statement, unless it is empty.
 fn add_statement(
-    items: &mut Vec<Item>,
+    items: &mut Vec<PlacedStatement>,
     line: u32,
     section: Section,
     statement: Statement,
@@ -58,7 +58,7 @@ fn add_statement(
     match statement {
         Statement::Empty => Ok(()),
         statement => {
-            items.push(Item {
+            items.push(PlacedStatement {
                 line,
                 section,
                 statement,
@@ -73,7 +73,7 @@ fn add_statement(
 fn add_line(
     alloc: Global,
     tokens: &mut Vec<Token>,
-    items: &mut Vec<Item>,
+    items: &mut Vec<PlacedStatement>,
     line: u32,
     section: Section,
     text: &[u8],
@@ -90,7 +90,7 @@ fn add_line(
 
 /// Adds bytes behind the other items: in the last one where that has bytes of the same section.
 fn add_bytes(
-    items: &mut Vec<Item>,
+    items: &mut Vec<PlacedStatement>,
     line: u32,
     section: Section,
     more: Blob,
@@ -110,10 +110,10 @@ fn add_bytes(
 }
 
 /// The item of a line's bytes.
-fn bytes_item(line: u32, section: Section, bytes: Blob) -> Item
+fn bytes_item(line: u32, section: Section, bytes: Blob) -> PlacedStatement
     ensures { result ≡ blob line section bytes }
 {
-    Item {
+    PlacedStatement {
         line,
         section,
         statement: Statement::Bytes(bytes),
@@ -121,7 +121,7 @@ fn bytes_item(line: u32, section: Section, bytes: Blob) -> Item
 }
 
 /// Whether the last item has bytes.
-fn ends_in_bytes(items: &[Item]) -> bool {
+fn ends_in_bytes(items: &[PlacedStatement]) -> bool {
     match items.last() {
         Some(item) => matches!(item.statement, Statement::Bytes(_)),
         None => false,
@@ -130,7 +130,7 @@ fn ends_in_bytes(items: &[Item]) -> bool {
 
 /// Puts the bytes of the last item into the one before it, where that has bytes of the same section, so
 /// that a run of data takes one item and not one a line.
-fn join_last(items: &mut Vec<Item>) -> Result<(), AllocError>
+fn join_last(items: &mut Vec<PlacedStatement>) -> Result<(), AllocError>
     ensures { OnOk result (AreAlike items.new.items items.old.items) }
 {
     if !ends_in_bytes(items) {
@@ -139,7 +139,7 @@ fn join_last(items: &mut Vec<Item>) -> Result<(), AllocError>
     let Some(last) = items.pop() else {
         return Ok(());
     };
-    let Item {
+    let PlacedStatement {
         line,
         section,
         statement,
@@ -147,7 +147,7 @@ fn join_last(items: &mut Vec<Item>) -> Result<(), AllocError>
     match statement {
         Statement::Bytes(more) => add_bytes(items, line, section, more),
         statement => {
-            items.push(Item {
+            items.push(PlacedStatement {
                 line,
                 section,
                 statement,
@@ -159,9 +159,9 @@ fn join_last(items: &mut Vec<Item>) -> Result<(), AllocError>
 
 /// The items of a text, or others that mean the same.
 #[tactic(auto, using(crate::proofs::ItemSteps::told_none, crate::proofs::ItemSteps::told_more))]
-pub fn items_of(alloc: Global, text: &[u8]) -> Result<Vec<Item>, AsmFault>
+pub fn items_of(alloc: Global, text: &[u8]) -> Result<Vec<PlacedStatement>, AsmFault>
     requires { length text.now ≤ 4194304 }
-    ensures ok { IfOk result (λ items. (all : List Item) × (items_from 1 Section.Text (lines text.now) ≡ Ok all) × AreAlike items.items all) }
+    ensures ok { IfOk result (λ items. (all : List PlacedStatement) × (items_from 1 Section.Text (lines text.now) ≡ Ok all) × AreAlike items.items all) }
     ensures err { IfErr result (λ fault. FailsText fault (items_from 1 Section.Text (lines text.now))) }
 {
     let mut items = Vec::new(alloc);

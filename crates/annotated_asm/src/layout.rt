@@ -5,7 +5,7 @@ ghost use Rattle.annotated_asm.specs.Steps.{Answers};
 ghost use Rattle.annotated_asm.specs.Layout.{grown, symbol_at, with_item, no_layout, laid, is_beyond};
 
 use crate::fault::AsmFault;
-use crate::item::Item;
+use crate::item::PlacedStatement;
 use crate::line::instruction_count;
 use crate::name_key::NameKey;
 use crate::table::{Symbol, Table};
@@ -72,7 +72,7 @@ fn symbol_at(sizes: Sizes, section: Section) -> Symbol
 }
 
 /// Lays out one item more.
-fn with_item(alloc: Global, layout: &mut Layout, item: &Item) -> Result<(), AsmFault>
+fn with_item(alloc: Global, layout: &mut Layout, item: &PlacedStatement) -> Result<(), AsmFault>
     ensures { Answers (λ _. layout.new) result (with_item layout.old item.now) }
 {
     let here = symbol_at(layout.sizes, item.section);
@@ -110,7 +110,7 @@ fn with_item(alloc: Global, layout: &mut Layout, item: &Item) -> Result<(), AsmF
 }
 
 /// The layout of items.
-pub fn laid_out(alloc: Global, items: &[Item]) -> Result<Layout, AsmFault>
+pub fn laid_out(alloc: Global, items: &[PlacedStatement]) -> Result<Layout, AsmFault>
     ensures { Answers (λ layout. layout) result (laid no_layout items.now) }
 {
     let key = NameKey::of(items);

@@ -3,7 +3,7 @@
 ghost use Rattle.std.specs.Prelude.{◌≡◌};
 ghost use Rattle.annotated_asm.specs.NameKeys.{after_name, keyed_by};
 
-use crate::item::Item;
+use crate::item::PlacedStatement;
 use program_statements::statement::Statement;
 use std::hash::{BuildHasher, DefaultHasher, FoldHasher, Hasher};
 
@@ -17,7 +17,7 @@ pub struct NameKey {
 }
 
 /// Takes in the name that an item defines, if it defines one.
-fn take_name(names: &mut DefaultHasher, item: &Item)
+fn take_name(names: &mut DefaultHasher, item: &PlacedStatement)
     ensures { names.new ≡ after_name names.old item.now }
 {
     match &item.statement {
@@ -29,7 +29,7 @@ fn take_name(names: &mut DefaultHasher, item: &Item)
 
 impl NameKey {
     /// The key of the labels and tasks that items define.
-    pub fn of(items: &[Item]) -> NameKey
+    pub fn of(items: &[PlacedStatement]) -> NameKey
         ensures { result.hasher ≡ keyed_by items.now }
     {
         let mut names = DefaultHasher::new();

@@ -6,13 +6,13 @@ ghost use Rattle.program_tokens.specs.Spans.{line_spans};
 ghost use Rattle.annotated_asm.specs.Sources.{column_of, token_position, end_of, width_between, stretch_between, is_no_name, targets_number, task_lists, token_stretch, target_stretches};
 
 use crate::position::{Position, Stretch, TaskLists};
-use program_tokens::span::{Span, read_spans};
+use program_tokens::span::{TokenSpan, read_spans};
 use program_tokens::token::Token;
 use std::alloc::{AllocError, Global};
 
 /// Puts the places of a line's tokens in place of those that are there. No place ends behind what a number of
 /// the machine can tell.
-pub(crate) fn read_places(spans: &mut Vec<Span>, text: &[u8]) -> Result<(), AllocError>
+pub(crate) fn read_places(spans: &mut Vec<TokenSpan>, text: &[u8]) -> Result<(), AllocError>
     ensures places { OnOk result (spans.new.items ≡ line_spans text.now) }
     ensures ends { OnOk result (All (λ span. span.column + span.len < 2 ^ 64) spans.new.items) }
 {
@@ -21,7 +21,7 @@ pub(crate) fn read_places(spans: &mut Vec<Span>, text: &[u8]) -> Result<(), Allo
 }
 
 /// The column of a token.
-fn column_of(span: Option<&Span>) -> usize
+fn column_of(span: Option<&TokenSpan>) -> usize
     ensures { result ≡ column_of (option_copied span.entry) }
 {
     match span {
@@ -31,7 +31,7 @@ fn column_of(span: Option<&Span>) -> usize
 }
 
 /// Where the token of this number begins.
-pub(crate) fn token_position(line: u32, spans: &[Span], number: usize) -> Position
+pub(crate) fn token_position(line: u32, spans: &[TokenSpan], number: usize) -> Position
     ensures { result ≡ token_position line spans.now number }
 {
     Position {
@@ -41,7 +41,7 @@ pub(crate) fn token_position(line: u32, spans: &[Span], number: usize) -> Positi
 }
 
 /// The column behind the last byte of the token of this number.
-fn end_of(spans: &[Span], number: usize) -> usize
+fn end_of(spans: &[TokenSpan], number: usize) -> usize
     requires { All (λ span. span.column + span.len < 2 ^ 64) spans.now }
     ensures { result ≡ end_of (slice_get spans.now number) }
 {
@@ -54,7 +54,7 @@ fn end_of(spans: &[Span], number: usize) -> usize
 }
 
 /// How many bytes there are from the first of one token to the last of another.
-pub(crate) fn width_between(spans: &[Span], first: usize, last: usize) -> usize
+pub(crate) fn width_between(spans: &[TokenSpan], first: usize, last: usize) -> usize
     requires { All (λ span. span.column + span.len < 2 ^ 64) spans.now }
     ensures { result ≡ width_between spans.now first last }
 {
@@ -62,7 +62,7 @@ pub(crate) fn width_between(spans: &[Span], first: usize, last: usize) -> usize
 }
 
 /// What stands from the first byte of one token to the last of another.
-fn stretch_between(line: u32, spans: &[Span], first: usize, last: usize) -> Stretch
+fn stretch_between(line: u32, spans: &[TokenSpan], first: usize, last: usize) -> Stretch
     requires { All (λ span. span.column + span.len < 2 ^ 64) spans.now }
     ensures { result ≡ stretch_between line spans.now first last }
 {
@@ -108,7 +108,7 @@ pub(crate) fn targets_number(tokens: &[Token]) -> usize
 }
 
 /// Where the lists of a `.task` of these tokens stand.
-pub(crate) fn task_lists(line: u32, spans: &[Span], tokens: &[Token]) -> TaskLists
+pub(crate) fn task_lists(line: u32, spans: &[TokenSpan], tokens: &[Token]) -> TaskLists
     requires { All (λ span. span.column + span.len < 2 ^ 64) spans.now }
     ensures { result ≡ task_lists line spans.now tokens.now }
 {
@@ -121,7 +121,7 @@ pub(crate) fn task_lists(line: u32, spans: &[Span], tokens: &[Token]) -> TaskLis
 }
 
 /// Where a token stands.
-fn token_stretch(line: u32, span: &Span) -> Stretch
+fn token_stretch(line: u32, span: &TokenSpan) -> Stretch
     ensures { result ≡ token_stretch line span.now }
 {
     Stretch {
@@ -138,7 +138,7 @@ fn token_stretch(line: u32, span: &Span) -> Stretch
 pub(crate) fn target_stretches(
     alloc: Global,
     line: u32,
-    spans: &[Span],
+    spans: &[TokenSpan],
 ) -> Result<Vec<Stretch>, AllocError>
     ensures { IfOk result (λ list. list.items ≡ target_stretches line spans.now) }
 {

@@ -15,7 +15,7 @@ use crate::places::{
 use crate::position::{DataSource, LabelSource, Position, SourceMap};
 use program_statements::statement::{Section, Statement};
 use program_tokens::line::first_line;
-use program_tokens::span::Span;
+use program_tokens::span::TokenSpan;
 use program_tokens::token::Token;
 use std::alloc::{AllocError, Global};
 use task_descriptor::name::Name;
@@ -35,7 +35,7 @@ fn first_label<'a>(tokens: &'a [Token]) -> Option<(Name, &'a [Token])>
 fn add_labels<'a>(
     labels: &mut Vec<LabelSource>,
     line: u32,
-    spans: &[Span],
+    spans: &[TokenSpan],
     tokens: &'a [Token],
 ) -> Result<(&'a [Token], usize), AllocError>
     ensures rest { IfOk result (λ cut. cut.0.now ≡ after_labels tokens.now) }
@@ -78,7 +78,7 @@ fn add_task(
     alloc: Global,
     map: &mut SourceMap,
     line: u32,
-    spans: &[Span],
+    spans: &[TokenSpan],
     tokens: &[Token],
 ) -> Result<(), AllocError>
     requires { All (λ span. span.column + span.len < 2 ^ 64) spans.now }
@@ -101,7 +101,7 @@ fn add_statement(
     alloc: Global,
     map: &mut SourceMap,
     line: u32,
-    spans: &[Span],
+    spans: &[TokenSpan],
     tokens: &[Token],
     section: Section,
     statement: &Statement,
@@ -130,7 +130,7 @@ fn add_statement(
 #[derive(Drop)]
 struct Read {
     tokens: Vec<Token>,
-    spans: Vec<Span>,
+    spans: Vec<TokenSpan>,
 }
 
 /// Adds what a line says, and answers the section behind it.

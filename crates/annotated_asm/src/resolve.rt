@@ -10,7 +10,7 @@ ghost use Rattle.annotated_asm.specs.Resolve.{index_of_symbol, code_label, addre
 ghost use Rattle.annotated_asm.specs.Expansions.{ops_of};
 
 use crate::fault::AsmFault;
-use crate::item::Item;
+use crate::item::PlacedStatement;
 use crate::table::{Symbol, Table};
 use mips_instructions::instruction::{LogicKind, Op};
 use mips_instructions::number::{Gpr, Place};
@@ -96,7 +96,7 @@ fn is_known(labels: &Table, statement: &Statement) -> bool
 }
 
 /// Finds the first item that names what is no label of the wanted kind.
-pub fn check_names(labels: &Table, items: &[Item]) -> Result<(), AsmFault>
+pub fn check_names(labels: &Table, items: &[PlacedStatement]) -> Result<(), AsmFault>
     ensures { result ≡ known labels.now items.now }
 {
     for item in items {
@@ -297,7 +297,12 @@ fn add_code(parts: &mut Parts, marks: Marks, code: Expansion) -> Result<(), Allo
 }
 
 /// Adds what an item is to the program so far.
-fn add_part(alloc: Global, labels: &Table, parts: &mut Parts, item: &Item) -> Result<(), AsmFault>
+fn add_part(
+    alloc: Global,
+    labels: &Table,
+    parts: &mut Parts,
+    item: &PlacedStatement,
+) -> Result<(), AsmFault>
     ensures { Answers (λ _. listing_of parts.new) result (with_part labels.now (listing_of parts.old) item.now) }
 {
     match &item.statement {
@@ -320,7 +325,7 @@ fn add_part(alloc: Global, labels: &Table, parts: &mut Parts, item: &Item) -> Re
 }
 
 /// The parts of the program that items are.
-pub fn parts_of(alloc: Global, labels: &Table, items: &[Item]) -> Result<Parts, AsmFault>
+pub fn parts_of(alloc: Global, labels: &Table, items: &[PlacedStatement]) -> Result<Parts, AsmFault>
     ensures { Answers listing_of result (parts labels.now no_parts items.now) }
 {
     let start = match Place::new(0) {

@@ -13,31 +13,31 @@ use Rattle.program_statements.specs.Statements.{statement_of}
 use Rattle.annotated_asm.specs.Items.{labels_of, after_labels, label_item, statement_items, section_after, tokens_on_line, on_line, line_items, items_from}
 use Rattle.annotated_asm.specs.declared.fault.AsmFault.{AsmFault}
 use Rattle.program_statements.specs.declared.fault.StatementFault.{StatementFault}
-use Rattle.annotated_asm.specs.declared.item.Item.{Item}
+use Rattle.annotated_asm.specs.declared.item.PlacedStatement.{PlacedStatement}
 use Rattle.program_statements.specs.declared.statement.Section.{Section}
 use Rattle.program_statements.specs.declared.statement.Statement.{Statement}
 use Rattle.canonical_text.proofs.Spelling.{Reads, line_reads, no_newline}
 
 -- items in front of a reading
-abbrev pub onto : List Item → Result (List Item) AsmFault → Result (List Item) AsmFault
+abbrev pub onto : List PlacedStatement → Result (List PlacedStatement) AsmFault → Result (List PlacedStatement) AsmFault
 onto front read = read >>= λ others. Ok (front ++ others)
 
 -- from line n in a section the text gives these items, and behind it stands line m, in a section of its own
-pub record Chunk (n : ℕ) (here : Section) (text : List ℕ) (m : ℕ) (behind : Section) (items : List Item) : Type 0 where
+pub record Chunk (n : ℕ) (here : Section) (text : List ℕ) (m : ℕ) (behind : Section) (items : List PlacedStatement) : Type 0 where
   pub reads : (rest : List ℕ) → items_from n here (lines (text ++ rest)) ≡ onto items (items_from m behind (lines rest))
 
-unit : (read : Result (List Item) AsmFault) → read ≡ onto [] read
+unit : (read : Result (List PlacedStatement) AsmFault) → read ≡ onto [] read
 unit (Ok items) = refl
 unit (Err fault) = refl
 
-nested : (front more : List Item) (read : Result (List Item) AsmFault) → onto front (onto more read) ≡ onto (front ++ more) read
-nested front more (Ok items) = ap (λ (xs : List Item). Ok xs) (sym (append_assoc front more items))
+nested : (front more : List PlacedStatement) (read : Result (List PlacedStatement) AsmFault) → onto front (onto more read) ≡ onto (front ++ more) read
+nested front more (Ok items) = ap (λ (xs : List PlacedStatement). Ok xs) (sym (append_assoc front more items))
 nested front more (Err fault) = refl
 
 pub no_lines : (n : ℕ) (here : Section) → Chunk n here [] n here []
 no_lines n here = record { reads = λ rest. unit (items_from n here (lines rest)) }
 
-pub joined : {n m k : ℕ} {here behind last : Section} {a b : List ℕ} {front more : List Item}
+pub joined : {n m k : ℕ} {here behind last : Section} {a b : List ℕ} {front more : List PlacedStatement}
     → Chunk n here a m behind front → Chunk m behind b k last more → Chunk n here (a ++ b) k last (front ++ more)
 joined {n} {m} {k} {here} {behind} {last} {a} {b} {front} {more} c d = record {
   reads = λ rest.
@@ -61,11 +61,11 @@ one_line n here text tokens s r means =
     ap (λ (read : Result (List Token) TokenFault). tokens_on_line n read >>= λ ts. on_line n (statement_of here (after_labels ts)) >>= λ s. Ok (map (label_item n here) (labels_of ts) ++ statement_items n here s, section_after here s)) (line_reads r)
     ∙ ap (λ (read : Result Statement StatementFault). on_line n read >>= λ s. Ok (map (label_item n here) (labels_of tokens) ++ statement_items n here s, section_after here s)) means
 
-first_line : (n : ℕ) (here : Section) (text : List ℕ) (others : List (List ℕ)) (items : List Item) (behind : Section)
+first_line : (n : ℕ) (here : Section) (text : List ℕ) (others : List (List ℕ)) (items : List PlacedStatement) (behind : Section)
     → line_items n here text ≡ Ok (items, behind) → items_from n here (text ∷ others) ≡ onto items (items_from (n + 1) behind others)
 unfolding items_from
 first_line n here text others items behind is =
-    ap (λ (read : Result (List Item × Section) AsmFault). read >>= λ first. items_from (n + 1) first.1 others >>= λ more. Ok (first.0 ++ more)) is
+    ap (λ (read : Result (List PlacedStatement × Section) AsmFault). read >>= λ first. items_from (n + 1) first.1 others >>= λ more. Ok (first.0 ++ more)) is
 
 pub line_chunk : (n : ℕ) (here : Section) {text : List ℕ} {tokens : List Token} (s : Statement) → Reads text tokens
     → statement_of here (after_labels tokens) ≡ Ok s
@@ -77,10 +77,10 @@ line_chunk n here {text} {tokens} s r means = record {
 }
 
 -- the items of a text that is such a chunk
-pub all_items : {n m : ℕ} {here behind : Section} {text : List ℕ} {items : List Item} → Chunk n here text m behind items
+pub all_items : {n m : ℕ} {here behind : Section} {text : List ℕ} {items : List PlacedStatement} → Chunk n here text m behind items
     → items_from n here (lines text) ≡ Ok items
 unfolding items_from line_items line_tokens tokens_after
 all_items {n} {m} {here} {behind} {text} {items} c =
     ap (λ (t : List ℕ). items_from n here (lines t)) (sym (append-nil text))
     ∙ c.reads []
-    ∙ ap (λ (xs : List Item). Ok xs) (append-nil items)
+    ∙ ap (λ (xs : List PlacedStatement). Ok xs) (append-nil items)

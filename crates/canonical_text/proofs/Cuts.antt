@@ -12,7 +12,7 @@ use Rattle.std.proofs.lemmas.Option.{slice_get_past}
 use Rattle.program_tokens.specs.Numbers.{begins_with_digit}
 use Rattle.program_tokens.specs.Grammar.{is_blank, is_name_byte, is_name_start, begins_number, kind_of, goes_on, token_of, with_token, tokens_after}
 use Rattle.program_tokens.specs.Spans.{spans_after}
-use Rattle.program_tokens.specs.declared.span.Span.{Span}
+use Rattle.program_tokens.specs.declared.span.TokenSpan.{TokenSpan}
 use Rattle.program_tokens.specs.declared.token.Token.{Token}
 use Rattle.program_tokens.specs.declared.token.LineFault.{LineFault}
 use Rattle.canonical_text.proofs.Spelling.{ends}
@@ -172,29 +172,29 @@ single : (t : Token) (reading : Result (List Token) LineFault) → with_token (S
 single t (Ok others) = refl
 single t (Err bad) = refl
 
-none_there : (k : ℕ) (span : Span) → (let no : List Span = [] in slice_get no k) ≡ Some span → ⊥
-none_there k span h = let past : (let no : List Span = [] in slice_get no k) ≡ None = slice_get_past [] k (omega arith) in cc
+none_there : (k : ℕ) (span : TokenSpan) → (let no : List TokenSpan = [] in slice_get no k) ≡ Some span → ⊥
+none_there k span h = let past : (let no : List TokenSpan = [] in slice_get no k) ≡ None = slice_get_past [] k (omega arith) in cc
 
 -- a token ends behind the bytes before it
-here_or_later : (P : Type 0) (here : Span) (rest : List Span) (k : ℕ) (span : Span) → (k ≡ 0 → here ≡ span → P) → ((m : ℕ) → k ≡ suc m → slice_get rest m ≡ Some span → P)
+here_or_later : (P : Type 0) (here : TokenSpan) (rest : List TokenSpan) (k : ℕ) (span : TokenSpan) → (k ≡ 0 → here ≡ span → P) → ((m : ℕ) → k ≡ suc m → slice_get rest m ≡ Some span → P)
     → slice_get (here ∷ rest) k ≡ Some span → P
 here_or_later P here rest zero span first later h = first refl cc
 here_or_later P here rest (suc m) span first later h = later m refl h
 
-pub beyond : (column taken k : ℕ) (x : List ℕ) (span : Span) → slice_get (spans_after column taken x) k ≡ Some span → column + taken < span.column + span.len
+pub beyond : (column taken k : ℕ) (x : List ℕ) (span : TokenSpan) → slice_get (spans_after column taken x) k ≡ Some span → column + taken < span.column + span.len
 unfolding spans_after
 beyond column zero k [] span h = absurd (none_there k span h)
 beyond column (suc taken) k [] span h = absurd (none_there k span h)
 beyond column (suc taken) k (b ∷ bs) span h = omega (arith, beyond (column + 1) taken k bs span h)
 beyond column zero k (b ∷ bs) span h =
     let n = length (take_while (goes_on (kind_of b bs)) bs) in
-    let here : Span = record { column = column; len = 1 + n } in
+    let here : TokenSpan = record { column = column; len = 1 + n } in
     (elim (is_blank b) as (λ v. slice_get (if v then spans_after (column + 1) 0 bs else (if b == byte "#" then [] else here ∷ spans_after (column + 1) n bs)) k ≡ Some span → column + 0 < span.column + span.len) [
       | true ↦ λ e. omega (arith, beyond (column + 1) 0 k bs span e)
       | false ↦ λ e. (elim (b == byte "#") as (λ v. slice_get (if v then [] else here ∷ spans_after (column + 1) n bs) k ≡ Some span → column + 0 < span.column + span.len) [
         | true ↦ λ f. absurd (none_there k span f)
         | false ↦ λ f. here_or_later (column + 0 < span.column + span.len) here (spans_after (column + 1) n bs) k span
-            (λ is same. subst (λ (s : Span). column + 0 < s.column + s.len) same (omega arith))
+            (λ is same. subst (λ (s : TokenSpan). column + 0 < s.column + s.len) same (omega arith))
             (λ m is g. omega (arith, beyond (column + 1) n m bs span g)) f
       ]) e
     ]) h
@@ -261,7 +261,7 @@ later_cut b m f bs ts not_blank not_comment read less make =
       behind = r.behind;
     })
 
-pub cut : (column taken k e : ℕ) (x : List ℕ) (ts : List Token) (span : Span) → tokens_after taken x ≡ Ok ts
+pub cut : (column taken k e : ℕ) (x : List ℕ) (ts : List Token) (span : TokenSpan) → tokens_after taken x ≡ Ok ts
     → slice_get (spans_after column taken x) k ≡ Some span → span.column + span.len ≡ column + e → Cut taken k e x ts
 unfolding tokens_after spans_after
 cut column zero k e [] ts span read there is = absurd (none_there k span there)
@@ -271,7 +271,7 @@ cut column (suc taken) k e (b ∷ bs) ts span read there is =
     (λ f same. cut (column + 1) taken k f bs ts span read there (omega (arith, is, same)))
 cut column zero k e (b ∷ bs) ts span read there is =
     let n = length (take_while (goes_on (kind_of b bs)) bs) in
-    let here : Span = record { column = column; len = 1 + n } in
+    let here : TokenSpan = record { column = column; len = 1 + n } in
     (elim (is_blank b) as (λ v. is_blank b ≡ v → slice_get (if v then spans_after (column + 1) 0 bs else (if b == byte "#" then [] else here ∷ spans_after (column + 1) n bs)) k ≡ Some span → Cut 0 k e (b ∷ bs) ts) [
       | true ↦ λ blank there. blank_passed b k e bs ts blank (omega (arith, beyond (column + 1) 0 k bs span there, is))
           (λ f same. cut (column + 1) 0 k f bs ts span (sym (blank_step b bs blank) ∙ read) there (omega (arith, is, same)))
@@ -279,7 +279,7 @@ cut column zero k e (b ∷ bs) ts span read there is =
         | true ↦ λ comment there. absurd (none_there k span there)
         | false ↦ λ not_comment there. here_or_later (Cut 0 k e (b ∷ bs) ts) here (spans_after (column + 1) n bs) k span
             (λ is_first same.
-            let size : suc n ≡ e = omega (arith, is, ap (λ (s : Span). s.column + s.len) same) in
+            let size : suc n ≡ e = omega (arith, is, ap (λ (s : TokenSpan). s.column + s.len) same) in
             subst (λ (j : ℕ). Cut 0 j e (b ∷ bs) ts) (sym is_first) (subst (λ (m : ℕ). Cut 0 0 m (b ∷ bs) ts) size (first_cut b bs ts not_blank not_comment read)))
             (λ m is_more more.
             let above = beyond (column + 1) n m bs span more in

@@ -17,7 +17,7 @@ use Rattle.annotated_asm.specs.Layout.{instruction_count, counted, grown, if_new
 use Rattle.annotated_asm.specs.declared.fault.AsmFault.{AsmFault}
 use Rattle.annotated_asm.specs.declared.layout.Layout.{Layout}
 use Rattle.annotated_asm.specs.declared.layout.Sizes.{Sizes}
-use Rattle.annotated_asm.specs.declared.item.Item.{Item}
+use Rattle.annotated_asm.specs.declared.item.PlacedStatement.{PlacedStatement}
 use Rattle.program_statements.specs.declared.statement.Section.{Section}
 use Rattle.program_statements.specs.declared.statement.Section.TheVariants as section
 use Rattle.annotated_asm.specs.declared.table.Symbol.{Symbol}
@@ -27,13 +27,13 @@ use Rattle.canonical_text.proofs.SourceItems.{item, start_items, behind_one, tas
 
 -- One list of items behind another.
 
-after_first : (read : Result Layout AsmFault) (xs ys : List Item)
+after_first : (read : Result Layout AsmFault) (xs ys : List PlacedStatement)
     → ((layout : Layout) → laid layout (xs ++ ys) ≡ (laid layout xs >>= λ next. laid next ys))
     → (read >>= λ next. laid next (xs ++ ys)) ≡ ((read >>= λ next. laid next xs) >>= λ next. laid next ys)
 after_first (Ok layout) xs ys each = each layout
 after_first (Err fault) xs ys each = refl
 
-pub laid-append : (layout : Layout) (xs ys : List Item) → laid layout (xs ++ ys) ≡ (laid layout xs >>= λ next. laid next ys)
+pub laid-append : (layout : Layout) (xs ys : List PlacedStatement) → laid layout (xs ++ ys) ≡ (laid layout xs >>= λ next. laid next ys)
 laid-append layout [] ys = refl
 laid-append layout (x ∷ xs) ys = after_first (with_item layout x) xs ys (λ next. laid-append next xs ys)
 
@@ -85,12 +85,12 @@ one_instruction tasks m index small = ap (counted index) (one_word tasks m.op) �
 abbrev IsNew : List Descriptor → ℕ → Names → Type 0
 IsNew tasks index labels = (k : ℕ) (t : Descriptor) → slice_get tasks k ≡ Some t → index ≤ t.entry → lookup labels t.name ≡ None
 
-laid_instruction : (tasks : List Descriptor) (n index : ℕ) (m : Marked) (rest : List Item) (b f : ℕ) (labels names : Names) (started : Bool) → index + 1 ≤ 4096
+laid_instruction : (tasks : List Descriptor) (n index : ℕ) (m : Marked) (rest : List PlacedStatement) (b f : ℕ) (labels names : Names) (started : Bool) → index + 1 ≤ 4096
     → laid (layout index b f labels names started) (item n section.Text (code_statement tasks m) ∷ rest) ≡ laid (layout (index + 1) b f labels names started) rest
 laid_instruction tasks n index m rest b f labels names started small =
     ap (λ c. laid (layout c b f labels names started) rest) (one_instruction tasks m index small)
 
-laid_line : (tasks : List Descriptor) (n index : ℕ) (at : Option Descriptor) (m : Marked) (rest : List Item) (b f : ℕ) (labels names : Names) (started : Bool)
+laid_line : (tasks : List Descriptor) (n index : ℕ) (at : Option Descriptor) (m : Marked) (rest : List PlacedStatement) (b f : ℕ) (labels names : Names) (started : Bool)
     → index + 1 ≤ 4096 → IsNew tasks index labels → find (λ t. t.entry == index) tasks ≡ at
     → laid (layout index b f labels names started) ((label_items n at ++ (item (behind_one n at) section.Text (code_statement tasks m) ∷ [])) ++ rest)
     ≡ laid (layout (index + 1) b f (labels ++ label_rows index at) names started) rest
@@ -187,7 +187,7 @@ laid_start : (n : ℕ) (at : Option Descriptor) → laid no_layout (start_items 
 laid_start n None = refl
 laid_start n (Some task) = refl
 
-then_laid : (l m : Layout) (xs ys : List Item) (last : Result Layout AsmFault) → laid l xs ≡ Ok m → laid m ys ≡ last → laid l (xs ++ ys) ≡ last
+then_laid : (l m : Layout) (xs ys : List PlacedStatement) (last : Result Layout AsmFault) → laid l xs ≡ Ok m → laid m ys ≡ last → laid l (xs ++ ys) ≡ last
 then_laid l m xs ys last first second = laid-append l xs ys ∙ ap (λ (r : Result Layout AsmFault). r >>= λ next. laid next ys) first ∙ second
 
 pub laid_out : (p : Listing) → has_duplicate p.tasks ≡ false → length p.code ≤ 4096

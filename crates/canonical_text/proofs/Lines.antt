@@ -19,7 +19,7 @@ use Rattle.program_statements.specs.declared.statement.Statement.TheVariants as 
 use Rattle.annotated_asm.specs.Items.{labels_of, after_labels, label_item, statement_items, section_after, tokens_on_line, on_line, line_items, items_from}
 use Rattle.annotated_asm.specs.Layout.{instruction_count}
 use Rattle.annotated_asm.specs.declared.fault.AsmFault.{AsmFault}
-use Rattle.annotated_asm.specs.declared.item.Item.{Item}
+use Rattle.annotated_asm.specs.declared.item.PlacedStatement.{PlacedStatement}
 use Rattle.canonical_text.specs.MarkedText.{Written, own_spans, newline_before, with_create, statement_line, forward_of, code_behind, tasks_behind, with_statement, with_line, with_lines}
 use Rattle.canonical_text.specs.Differs.{AreMasks}
 use Rattle.canonical_text.proofs.Statements.{first_ok}
@@ -52,12 +52,12 @@ same_section here (statement.Code i marks) code tasks = refl
 same_section here (statement.Task task) code tasks = refl
 same_section here s code tasks = refl
 
-remarked_labels : (n : ℕ) (here : Section) (names : List (List ℕ)) (more : List Item) (code : List Marked) (tasks : List Descriptor)
+remarked_labels : (n : ℕ) (here : Section) (names : List (List ℕ)) (more : List PlacedStatement) (code : List Marked) (tasks : List Descriptor)
     → remarked code tasks (map (label_item n here) names ++ more) ≡ map (label_item n here) names ++ remarked code tasks more
 remarked_labels n here [] more code tasks = refl
-remarked_labels n here (name ∷ names) more code tasks = ap (λ (xs : List Item). label_item n here name ∷ xs) (remarked_labels n here names more code tasks)
+remarked_labels n here (name ∷ names) more code tasks = ap (λ (xs : List PlacedStatement). label_item n here name ∷ xs) (remarked_labels n here names more code tasks)
 
-remarked_statement : (n : ℕ) (here : Section) (s : Statement) (more : List Item) (code : List Marked) (tasks : List Descriptor)
+remarked_statement : (n : ℕ) (here : Section) (s : Statement) (more : List PlacedStatement) (code : List Marked) (tasks : List Descriptor)
     → remarked code tasks (statement_items n here s ++ more) ≡ statement_items n here (wanted code tasks s) ++ remarked (code_behind code s) (tasks_behind tasks s) more
 remarked_statement n here statement.Empty more code tasks = refl
 remarked_statement n here (statement.Code i marks) more code tasks = refl
@@ -89,7 +89,7 @@ joined n (line ∷ lines) = (newline_before n ++ line) ++ joined (n + 1) lines
 abbrev pub AreRead : List (List ℕ) → Type 0
 AreRead lines = AllByRecursion (λ line. (ts : List Token) × (line_tokens line ≡ Ok ts)) lines
 
-pub record Rewritten (front : Written) (n : ℕ) (here : Section) (old : List (List ℕ)) (items : List Item) : Type 0 where
+pub record Rewritten (front : Written) (n : ℕ) (here : Section) (old : List (List ℕ)) (items : List PlacedStatement) : Type 0 where
   pub out : Written
   pub made : with_lines front n here old ≡ Ok out
   pub lines : List (List ℕ)
@@ -111,21 +111,21 @@ unfolding line_items
 one_item n here line labels s r =
     ap (λ (x : Result (List Token) TokenFault). tokens_on_line n x >>= λ ts. on_line n (statement_of here (after_labels ts)) >>= λ s. Ok (map (label_item n here) (labels_of ts) ++ statement_items n here s, section_after here s)) r.read
     ∙ ap (λ (x : Result Statement StatementFault). on_line n x >>= λ s. Ok (map (label_item n here) (labels_of r.tokens) ++ statement_items n here s, section_after here s)) r.said
-    ∙ ap (λ (names : List (List ℕ)). let made : Result (List Item × Section) AsmFault = Ok (map (label_item n here) names ++ statement_items n here s, section_after here s) in made) r.labelled_so
+    ∙ ap (λ (names : List (List ℕ)). let made : Result (List PlacedStatement × Section) AsmFault = Ok (map (label_item n here) names ++ statement_items n here s, section_after here s) in made) r.labelled_so
 
-more_items : (n : ℕ) (here behind : Section) (line : List ℕ) (lines : List (List ℕ)) (first others : List Item) → line_items n here line ≡ Ok (first, behind) → items_from (n + 1) behind lines ≡ Ok others
+more_items : (n : ℕ) (here behind : Section) (line : List ℕ) (lines : List (List ℕ)) (first others : List PlacedStatement) → line_items n here line ≡ Ok (first, behind) → items_from (n + 1) behind lines ≡ Ok others
     → items_from n here (line ∷ lines) ≡ Ok (first ++ others)
 unfolding items_from
 more_items n here behind line lines first others e f =
-    ap (λ (r : Result (List Item × Section) AsmFault). r >>= λ first. items_from (n + 1) first.1 lines >>= λ others. Ok (first.0 ++ others)) e
-    ∙ ap (λ (r : Result (List Item) AsmFault). r >>= λ others. Ok (first ++ others)) f
+    ap (λ (r : Result (List PlacedStatement × Section) AsmFault). r >>= λ first. items_from (n + 1) first.1 lines >>= λ others. Ok (first.0 ++ others)) e
+    ∙ ap (λ (r : Result (List PlacedStatement) AsmFault). r >>= λ others. Ok (first ++ others)) f
 
 more_lines : (front next out : Written) (n : ℕ) (here behind : Section) (line : List ℕ) (lines : List (List ℕ)) → with_line front n here line ≡ Ok (next, behind) → with_lines next (n + 1) behind lines ≡ Ok out
     → with_lines front n here (line ∷ lines) ≡ Ok out
 unfolding with_lines
 more_lines front next out n here behind line lines e f = ap (λ (r : Result (Written × Section) AsmFault). r >>= λ x. with_lines x.0 (n + 1) x.1 lines) e ∙ f
 
-pub rewritten : (front : Written) (n : ℕ) (here : Section) (old : List (List ℕ)) (items : List Item) → AreMasks front.tasks → items_from n here old ≡ Ok items → Rewritten front n here old items
+pub rewritten : (front : Written) (n : ℕ) (here : Section) (old : List (List ℕ)) (items : List PlacedStatement) → AreMasks front.tasks → items_from n here old ≡ Ok items → Rewritten front n here old items
 unfolding with_lines items_from line_items
 rewritten front n here [] items small read =
     let none : [] ≡ items = cc in
@@ -136,7 +136,7 @@ rewritten front n here [] items small read =
       size = refl;
       text = sym (append-nil front.text);
       each = tt;
-      read = ap (λ (xs : List Item). let made : Result (List Item) AsmFault = Ok (remarked front.code front.tasks xs) in made) none;
+      read = ap (λ (xs : List PlacedStatement). let made : Result (List PlacedStatement) AsmFault = Ok (remarked front.code front.tasks xs) in made) none;
     }
 rewritten front n here (line ∷ ls) items small read =
     let first = first_ok (line_items n here line) (λ x. items_from (n + 1) x.1 ls >>= λ others. Ok (x.0 ++ others)) items read in
@@ -144,20 +144,20 @@ rewritten front n here (line ∷ ls) items small read =
     let tokens = first_ok (tokens_on_line n (line_tokens line)) (λ ts. on_line n (statement_of here (after_labels ts)) >>= λ said. Ok (map (label_item n here) (labels_of ts) ++ statement_items n here said, section_after here said)) first.0 first.1 in
     let said = first_ok (on_line n (statement_of here (after_labels tokens.0))) (λ x. Ok (map (label_item n here) (labels_of tokens.0) ++ statement_items n here x, section_after here x)) first.0 tokens.2 in
     let s = said.0 in
-    let labels : List Item = map (label_item n here) (labels_of tokens.0) in
+    let labels : List PlacedStatement = map (label_item n here) (labels_of tokens.0) in
     let is_first : (labels ++ statement_items n here s, section_after here s) ≡ first.0 = (let e = said.2 in cc) in
-    let all : (labels ++ statement_items n here s) ++ others.0 ≡ items = (let e = others.2 in ap (λ (x : List Item × Section). x.0 ++ others.0) is_first ∙ cc) in
+    let all : (labels ++ statement_items n here s) ++ others.0 ≡ items = (let e = others.2 in ap (λ (x : List PlacedStatement × Section). x.0 ++ others.0) is_first ∙ cc) in
     let e = read_line n (line_tokens line) tokens.0 tokens.1 in
     let f = said_line n (statement_of here (after_labels tokens.0)) s said.1 in
     let new = statement_line front.code front.tasks (own_spans line tokens.0) (after_labels tokens.0) s line in
     let r = line_says here line tokens.0 s front.code front.tasks small e f in
     let next = with_statement front n line tokens.0 s in
-    let rest = rewritten next (n + 1) (section_after here s) ls others.0 (masks_behind front.tasks s small) (ap (λ (x : List Item × Section). items_from (n + 1) x.1 ls) is_first ∙ others.1) in
+    let rest = rewritten next (n + 1) (section_after here s) ls others.0 (masks_behind front.tasks s small) (ap (λ (x : List PlacedStatement × Section). items_from (n + 1) x.1 ls) is_first ∙ others.1) in
     let code = code_behind front.code s in
     let tasks = tasks_behind front.tasks s in
     let joined_items : (labels ++ statement_items n here (wanted front.code front.tasks s)) ++ remarked code tasks others.0 ≡ remarked front.code front.tasks items =
     append_assoc labels (statement_items n here (wanted front.code front.tasks s)) (remarked code tasks others.0)
-    ∙ ap (λ (xs : List Item). labels ++ xs) (sym (remarked_statement n here s others.0 front.code front.tasks))
+    ∙ ap (λ (xs : List PlacedStatement). labels ++ xs) (sym (remarked_statement n here s others.0 front.code front.tasks))
     ∙ sym (remarked_labels n here (labels_of tokens.0) (statement_items n here s ++ others.0) front.code front.tasks)
     ∙ ap (remarked front.code front.tasks) (sym (append_assoc labels (statement_items n here s) others.0) ∙ all) in
     record {
@@ -169,6 +169,6 @@ rewritten front n here (line ∷ ls) items small read =
       each = ((r.tokens, r.read), rest.each);
       read = more_items n here (section_after here s) new rest.lines (labels ++ statement_items n here (wanted front.code front.tasks s)) (remarked code tasks others.0)
           (one_item n here new (labels_of tokens.0) (wanted front.code front.tasks s) r
-          ∙ ap (λ (x : Section). let made : Result (List Item × Section) AsmFault = Ok (labels ++ statement_items n here (wanted front.code front.tasks s), x) in made) (same_section here s front.code front.tasks)) rest.read
-          ∙ ap (λ (xs : List Item). let made : Result (List Item) AsmFault = Ok xs in made) joined_items;
+          ∙ ap (λ (x : Section). let made : Result (List PlacedStatement × Section) AsmFault = Ok (labels ++ statement_items n here (wanted front.code front.tasks s), x) in made) (same_section here s front.code front.tasks)) rest.read
+          ∙ ap (λ (xs : List PlacedStatement). let made : Result (List PlacedStatement) AsmFault = Ok xs in made) joined_items;
     }

@@ -21,7 +21,7 @@ use Rattle.annotated_asm.specs.Resolve.{known, parts, no_parts}
 use Rattle.annotated_asm.specs.ProgramText.{built, program_of, parse}
 use Rattle.annotated_asm.specs.declared.fault.AsmFault.{AsmFault}
 use Rattle.annotated_asm.specs.declared.fault.AsmFault.TheVariants as fault
-use Rattle.annotated_asm.specs.declared.item.Item.{Item}
+use Rattle.annotated_asm.specs.declared.item.PlacedStatement.{PlacedStatement}
 use Rattle.annotated_asm.specs.declared.layout.Layout.{Layout}
 use Rattle.canonical_text.proofs.Spelling.{no_newline}
 use Rattle.canonical_text.specs.MarkedText.{nothing_of, newline_before, text_in, marked_text}
@@ -64,7 +64,7 @@ all_lines_back (line ∷ others) some each =
 
 -- a text that spells a program is read in these stages
 pub record Stages (text : List ℕ) (p : Listing) : Type 0 where
-  pub items : List Item
+  pub items : List PlacedStatement
   pub layout : Layout
   pub read : items_from 1 Text (lines text) ≡ Ok items
   pub laid_so : laid no_layout items ≡ Ok layout
@@ -129,7 +129,7 @@ reads_back text p q h d =
       spells = λ short.
           cond-false (nat_lt 4194304 (length r.out.text)) (Err fault.TooLong) (items_from 1 Text (lines r.out.text) >>= λ items. laid no_layout items >>= λ layout. program_of items layout) (le-ltb 4194304 (length r.out.text) short)
           ∙ ap (λ (ls : List (List ℕ)). items_from 1 Text ls >>= λ items. laid no_layout items >>= λ layout. program_of items layout) back
-          ∙ ap (λ (x : Result (List Item) AsmFault). x >>= λ items. laid no_layout items >>= λ layout. program_of items layout) r.read
+          ∙ ap (λ (x : Result (List PlacedStatement) AsmFault). x >>= λ items. laid no_layout items >>= λ layout. program_of items layout) r.read
           ∙ ap (λ (x : Result Layout AsmFault). x >>= λ layout. program_of new layout) (laid_same no_layout h.items q.code q.tasks ∙ h.laid_so)
           ∙ ap (λ (x : Result (Unit {0}) AsmFault). x >>= λ _. if is_beyond h.layout.sizes then Err (fault.Build TooMany) else (parts h.layout.labels no_parts new >>= λ q. built q (build_fault q))) (known_same h.layout.labels h.items q.code q.tasks ∙ h.names)
           ∙ cond-false (is_beyond h.layout.sizes) (Err (fault.Build TooMany)) (parts h.layout.labels no_parts new >>= λ q. built q (build_fault q)) h.within
@@ -138,7 +138,7 @@ reads_back text p q h d =
     }
 
 -- The same of the text's items, however they were read.
-pub law : (text : List ℕ) (items : List Item) (p q : Listing) → parse text ≡ Ok p → items_from 1 Text (lines text) ≡ Ok items → DiffersInMarks p q items
+pub law : (text : List ℕ) (items : List PlacedStatement) (p q : Listing) → parse text ≡ Ok p → items_from 1 Text (lines text) ≡ Ok items → DiffersInMarks p q items
     → (bytes : List ℕ) × (marked_text text q ≡ Ok bytes) × (length bytes ≤ 4194304 → parse bytes ≡ Ok q)
 law text items p q h read d =
     let s = stages text p h in

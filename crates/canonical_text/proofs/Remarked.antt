@@ -25,7 +25,7 @@ use Rattle.annotated_asm.specs.Resolve.{code_label, place_of, target_place, targ
 use Rattle.annotated_asm.specs.Tables.{Names, lookup}
 use Rattle.annotated_asm.specs.declared.fault.AsmFault.{AsmFault}
 use Rattle.annotated_asm.specs.declared.fault.AsmFault.TheVariants as fault
-use Rattle.annotated_asm.specs.declared.item.Item.{Item}
+use Rattle.annotated_asm.specs.declared.item.PlacedStatement.{PlacedStatement}
 use Rattle.annotated_asm.specs.declared.layout.Layout.{Layout}
 use Rattle.canonical_text.specs.Differs.{AlikeCode, AlikeTasks, SameRest, bare_first, bare_code, AreBare}
 use Rattle.canonical_text.proofs.Statements.{first_ok}
@@ -44,7 +44,7 @@ wanted code tasks (statement.Code i marks) = statement.Code i (wanted_marks code
 wanted code tasks (statement.Task task) = statement.Task (wanted_task tasks task)
 wanted code tasks s = s
 
-abbrev pub remarked : List Marked → List Descriptor → List Item → List Item
+abbrev pub remarked : List Marked → List Descriptor → List PlacedStatement → List PlacedStatement
 remarked code tasks [] = []
 remarked code tasks (item ∷ items) =
     record item { statement = wanted code tasks item.statement } ∷ remarked (code_behind code item.statement) (tasks_behind tasks item.statement) items
@@ -61,7 +61,7 @@ same_layout layout line here (statement.Code i marks) code tasks = refl
 same_layout layout line here (statement.Task task) code tasks = refl
 same_layout layout line here s code tasks = refl
 
-pub laid_same : (layout : Layout) (items : List Item) (code : List Marked) (tasks : List Descriptor) → laid layout (remarked code tasks items) ≡ laid layout items
+pub laid_same : (layout : Layout) (items : List PlacedStatement) (code : List Marked) (tasks : List Descriptor) → laid layout (remarked code tasks items) ≡ laid layout items
 laid_same layout [] code tasks = refl
 laid_same layout (item ∷ items) code tasks =
     ap (λ (r : Result Layout AsmFault). r >>= λ next. laid next (remarked (code_behind code item.statement) (tasks_behind tasks item.statement) items)) (same_layout layout item.line item.section item.statement code tasks)
@@ -73,7 +73,7 @@ same_known labels (statement.Code i marks) code tasks = refl
 same_known labels (statement.Task task) code tasks = refl
 same_known labels s code tasks = refl
 
-pub known_same : (labels : Names) (items : List Item) (code : List Marked) (tasks : List Descriptor) → known labels (remarked code tasks items) ≡ known labels items
+pub known_same : (labels : Names) (items : List PlacedStatement) (code : List Marked) (tasks : List Descriptor) → known labels (remarked code tasks items) ≡ known labels items
 known_same labels [] code tasks = refl
 known_same labels (item ∷ items) code tasks =
     ap (λ (b : Bool). if b then known labels (remarked (code_behind code item.statement) (tasks_behind tasks item.statement) items) else Err (fault.Unknown item.line)) (same_known labels item.statement code tasks)
@@ -122,7 +122,7 @@ part_grown labels p next n here statement.Empty h = let is : p ≡ next = cc in 
 part_grown labels p next n here (statement.Label name) h = let is : p ≡ next = cc in not_grown p next (ap (λ (q : Listing). q.code) (sym is)) (ap (λ (q : Listing). q.tasks) (sym is))
 part_grown labels p next n here (statement.Section other) h = let is : p ≡ next = cc in not_grown p next (ap (λ (q : Listing). q.code) (sym is)) (ap (λ (q : Listing). q.tasks) (sym is))
 
-parts_grown : (labels : Names) (p last : Listing) (items : List Item) → parts labels p items ≡ Ok last → Grown p last
+parts_grown : (labels : Names) (p last : Listing) (items : List PlacedStatement) → parts labels p items ≡ Ok last → Grown p last
 parts_grown labels p last [] h = let is : p ≡ last = cc in not_grown p last (ap (λ (q : Listing). q.code) (sym is)) (ap (λ (q : Listing). q.tasks) (sym is))
 parts_grown labels p last (item ∷ items) h =
     let k = first_ok (with_part labels p item) (λ next. parts labels next items) last h in
@@ -371,7 +371,7 @@ no_tasks (m ∷ more) (z ∷ tasks) none alike = absurd cc
 listing_is : (p q : Listing) → p.code ≡ q.code → p.bytes ≡ q.bytes → p.fixed ≡ q.fixed → p.tasks ≡ q.tasks → p.start ≡ q.start → p ≡ q
 listing_is p q code bytes fixed tasks start = λ i. record { code = code i; bytes = bytes i; fixed = fixed i; tasks = tasks i; start = start i }
 
-pub remarked_parts : (labels : Names) (p now last whole : Listing) (items : List Item) (code more : List Marked) (tasks others : List Descriptor)
+pub remarked_parts : (labels : Names) (p now last whole : Listing) (items : List PlacedStatement) (code more : List Marked) (tasks others : List Descriptor)
     → parts labels p items ≡ Ok last → Way p now last whole code tasks more others → SameRest last whole → AreBare code items
     → parts labels now (remarked code tasks items) ≡ Ok whole
 remarked_parts labels p now last whole [] code more tasks others h way rest bare =

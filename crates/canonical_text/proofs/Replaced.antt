@@ -12,7 +12,7 @@ use Rattle.std.proofs.lemmas.List.Folds.{list_all-append}
 use Rattle.std.proofs.lemmas.Option.{slice_get-get_or}
 use Rattle.program_tokens.specs.Grammar.{is_blank, is_text_byte, kind_of, goes_on, token_of, tokens_after, line_tokens}
 use Rattle.program_tokens.specs.Spans.{spans_after, line_spans}
-use Rattle.program_tokens.specs.declared.span.Span.{Span}
+use Rattle.program_tokens.specs.declared.span.TokenSpan.{TokenSpan}
 use Rattle.program_tokens.specs.declared.token.Token.{Token}
 use Rattle.program_tokens.specs.declared.token.LineFault.TheVariants as fault
 use Rattle.program_tokens.proofs.Steps.{with_tokens, blank_step, comment_step}
@@ -29,7 +29,7 @@ spans_length column (suc taken) [] ts read = let none : [] ≡ ts = cc in ap len
 spans_length column (suc taken) (b ∷ bs) ts read = spans_length (column + 1) taken bs ts read
 spans_length column zero (b ∷ bs) ts read =
     let n = length (take_while (goes_on (kind_of b bs)) bs) in
-    let here : Span = record { column = column; len = 1 + n } in
+    let here : TokenSpan = record { column = column; len = 1 + n } in
     (elim (is_blank b) as (λ v. is_blank b ≡ v → length (if v then spans_after (column + 1) 0 bs else (if b == byte "#" then [] else here ∷ spans_after (column + 1) n bs)) ≡ length ts) [
       | true ↦ λ blank. spans_length (column + 1) 0 bs ts (sym (blank_step b bs blank) ∙ read)
       | false ↦ λ not_blank. (elim (b == byte "#") as (λ v. (b == byte "#") ≡ v → length (if v then [] else here ∷ spans_after (column + 1) n bs) ≡ length ts) [
@@ -108,7 +108,7 @@ pub text_cut : (x : List ℕ) (ts : List Token) (i : ℕ) → tokens_after 0 x �
     → Cut 0 i (behind_token (slice_get (spans_after 1 0 x) i)) x ts
 text_cut x ts i read inside =
     let spans = spans_after 1 0 x in
-    let none : Span = record { column = 0; len = 0 } in
+    let none : TokenSpan = record { column = 0; len = 0 } in
     let there = slice_get-get_or spans i none (omega (arith, spans_length 1 0 x ts read, inside)) in
     let span = get_or spans i none in
     let above = beyond 1 0 i x span there in

@@ -13,7 +13,7 @@ use Rattle.annotated_asm.specs.Tables.{Names}
 use Rattle.annotated_asm.specs.Resolve.{code_label, is_known_target, is_known_instruction, is_known, known, place_of, target_place, spelled, all_marked, target_places, descriptor, with_part, with_data, parts, no_parts}
 use Rattle.annotated_asm.specs.declared.fault.AsmFault.{AsmFault}
 use Rattle.annotated_asm.specs.declared.fault.AsmFault.TheVariants as fault
-use Rattle.annotated_asm.specs.declared.item.Item.{Item}
+use Rattle.annotated_asm.specs.declared.item.PlacedStatement.{PlacedStatement}
 use Rattle.program_statements.specs.declared.statement.Section.{Section}
 use Rattle.program_statements.specs.declared.statement.Section.TheVariants as section
 use Rattle.program_statements.specs.declared.statement.Statement.TheVariants as statement
@@ -45,12 +45,12 @@ goes_on : (b : Bool) (first all : Result (Unit {0}) AsmFault) (bad : AsmFault) �
 goes_on true first all bad then h = then h
 goes_on false first all bad then h = absurd cc
 
-known-append : (labels : Names) (xs ys : List Item) → known labels xs ≡ Ok tt → known labels ys ≡ Ok tt → known labels (xs ++ ys) ≡ Ok tt
+known-append : (labels : Names) (xs ys : List PlacedStatement) → known labels xs ≡ Ok tt → known labels ys ≡ Ok tt → known labels (xs ++ ys) ≡ Ok tt
 known-append labels [] ys first second = second
 known-append labels (x ∷ xs) ys first second =
     goes_on (is_known labels x.statement) (known labels xs) (known labels (xs ++ ys)) (fault.Unknown x.line) (λ e. known-append labels xs ys e second) first
 
-known_one : (labels : Names) (i : Item) (rest : List Item) → is_known labels i.statement ≡ true → known labels rest ≡ Ok tt → known labels (i ∷ rest) ≡ Ok tt
+known_one : (labels : Names) (i : PlacedStatement) (rest : List PlacedStatement) → is_known labels i.statement ≡ true → known labels rest ≡ Ok tt → known labels (i ∷ rest) ≡ Ok tt
 known_one labels i rest is others = cond-true (is_known labels i.statement) (known labels rest) (Err (fault.Unknown i.line)) is ∙ others
 
 target_known : (labels : Names) (at : Option Descriptor) (place : ℕ) → IfSome at (IsLabelled labels) → is_known_target labels (target_named at place) ≡ true
@@ -75,7 +75,7 @@ tasks_known labels tasks n (t ∷ ts) h others =
 instruction_known : (labels : Names) (tasks : List Descriptor) (o : Op) → AreLabelled labels tasks → is_known_instruction labels (written tasks o) ≡ true
 instruction_known labels tasks o h = written_known labels tasks o (λ place. place_known labels tasks place h)
 
-line_known : (labels : Names) (tasks : List Descriptor) (n : ℕ) (at : Option Descriptor) (m : Marked) (rest : List Item) → AreLabelled labels tasks → known labels rest ≡ Ok tt
+line_known : (labels : Names) (tasks : List Descriptor) (n : ℕ) (at : Option Descriptor) (m : Marked) (rest : List PlacedStatement) → AreLabelled labels tasks → known labels rest ≡ Ok tt
     → known labels ((label_items n at ++ (item (behind_one n at) section.Text (code_statement tasks m) ∷ [])) ++ rest) ≡ Ok tt
 line_known labels tasks n None m rest h others =
     known_one labels (item n section.Text (code_statement tasks m)) rest (instruction_known labels tasks m.op h) others
@@ -147,13 +147,13 @@ code_back labels tasks n o h = written_back labels tasks n o (λ place. place_ba
 
 -- The parts.
 
-after_first : (labels : Names) (read : Result Listing AsmFault) (xs ys : List Item)
+after_first : (labels : Names) (read : Result Listing AsmFault) (xs ys : List PlacedStatement)
     → ((p : Listing) → parts labels p (xs ++ ys) ≡ (parts labels p xs >>= λ next. parts labels next ys))
     → (read >>= λ next. parts labels next (xs ++ ys)) ≡ ((read >>= λ next. parts labels next xs) >>= λ next. parts labels next ys)
 after_first labels (Ok p) xs ys each = each p
 after_first labels (Err bad) xs ys each = refl
 
-parts-append : (labels : Names) (p : Listing) (xs ys : List Item) → parts labels p (xs ++ ys) ≡ (parts labels p xs >>= λ next. parts labels next ys)
+parts-append : (labels : Names) (p : Listing) (xs ys : List PlacedStatement) → parts labels p (xs ++ ys) ≡ (parts labels p xs >>= λ next. parts labels next ys)
 parts-append labels p [] ys = refl
 parts-append labels p (x ∷ xs) ys = after_first labels (with_part labels p x) xs ys (λ next. parts-append labels next xs ys)
 
@@ -172,12 +172,12 @@ tasks_back labels tasks n (t ∷ ts) p h others =
     ∙ tasks_back labels tasks (n + 1) ts (record p { tasks = p.tasks ++ t ∷ [] }) h others.1
     ∙ ap (λ (all : List Descriptor). Ok (record p { tasks = all })) (append_assoc p.tasks (t ∷ []) ts)
 
-instruction_back : (labels : Names) (tasks : List Descriptor) (n : ℕ) (m : Marked) (rest : List Item) (p : Listing) → AreLabelled labels tasks
+instruction_back : (labels : Names) (tasks : List Descriptor) (n : ℕ) (m : Marked) (rest : List PlacedStatement) (p : Listing) → AreLabelled labels tasks
     → parts labels p (item n section.Text (code_statement tasks m) ∷ rest) ≡ parts labels (record p { code = p.code ++ m ∷ [] }) rest
 instruction_back labels tasks n m rest p h =
     ap (λ read. (read >>= λ code. Ok (record p { code = p.code ++ all_marked (record { forward = m.forward; stop = m.stop }) code })) >>= λ next. parts labels next rest) (code_back labels tasks n m.op h)
 
-line_back : (labels : Names) (tasks : List Descriptor) (n : ℕ) (at : Option Descriptor) (m : Marked) (rest : List Item) (p : Listing) → AreLabelled labels tasks
+line_back : (labels : Names) (tasks : List Descriptor) (n : ℕ) (at : Option Descriptor) (m : Marked) (rest : List PlacedStatement) (p : Listing) → AreLabelled labels tasks
     → parts labels p ((label_items n at ++ (item (behind_one n at) section.Text (code_statement tasks m) ∷ [])) ++ rest) ≡ parts labels (record p { code = p.code ++ m ∷ [] }) rest
 line_back labels tasks n None m rest p h = instruction_back labels tasks n m rest p h
 line_back labels tasks n (Some t) m rest p h = instruction_back labels tasks (n + 1) m rest p h
@@ -227,7 +227,7 @@ start_back labels n start (Some t) p some h e =
     ap (λ read. (read >>= λ place. Ok (record p { start = place })) >>= λ next. parts labels next []) (ap (place_of n) h.0 ∙ place_within n t.entry h.1)
     ∙ ap (λ place. Ok (record p { start = place })) (eqb-true t.entry start e)
 
-then_parts : (labels : Names) (p q : Listing) (xs ys : List Item) (last : Result Listing AsmFault) → parts labels p xs ≡ Ok q → parts labels q ys ≡ last → parts labels p (xs ++ ys) ≡ last
+then_parts : (labels : Names) (p q : Listing) (xs ys : List PlacedStatement) (last : Result Listing AsmFault) → parts labels p xs ≡ Ok q → parts labels q ys ≡ last → parts labels p (xs ++ ys) ≡ last
 then_parts labels p q xs ys last first second = parts-append labels p xs ys ∙ ap (λ (r : Result Listing AsmFault). r >>= λ next. parts labels next ys) first ∙ second
 
 pub program_back : (p : Listing) (labels : Names) → AreLabelled labels p.tasks → is_some (find (λ t. t.entry == p.start) p.tasks) ≡ true

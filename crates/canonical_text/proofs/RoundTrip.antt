@@ -19,7 +19,7 @@ use Rattle.annotated_asm.specs.ProgramText.{built, program_of, parse}
 use Rattle.annotated_asm.specs.declared.fault.AsmFault.{AsmFault}
 use Rattle.annotated_asm.specs.declared.fault.AsmFault.TheVariants as fault
 use Rattle.annotated_asm.specs.declared.layout.Layout.{Layout}
-use Rattle.annotated_asm.specs.declared.item.Item.{Item}
+use Rattle.annotated_asm.specs.declared.item.PlacedStatement.{PlacedStatement}
 use Rattle.program_statements.specs.declared.statement.Section.TheVariants as section
 use Rattle.task_descriptor.specs.declared.program.BuildFault.TheVariants.{TooMany}
 use Rattle.canonical_text.specs.Ranges.{IsInRange, IsTaskInRange}
@@ -111,7 +111,7 @@ parsed p h is =
     let short = length-canonical p is limit.code limit.bytes limit.fixed limit.tasks (all_from_gets (λ t. length t.targets ≤ 16) p.tasks limit.targets) in
     let started = is_some (find (λ t. t.entry == p.start) p.tasks) in
     cond-false (nat_lt 4194304 (length (canonical_text p))) (Err fault.TooLong) (items_from 1 section.Text (lines (canonical_text p)) >>= λ items. laid no_layout items >>= λ layout. program_of items layout) (le-ltb 4194304 (length (canonical_text p)) short)
-    ∙ ap (λ (read : Result (List Item) AsmFault). read >>= λ items. laid no_layout items >>= λ layout. program_of items layout) (text_items p is)
+    ∙ ap (λ (read : Result (List PlacedStatement) AsmFault). read >>= λ items. laid no_layout items >>= λ layout. program_of items layout) (text_items p is)
     ∙ ap (λ (read : Result Layout AsmFault). read >>= λ layout. program_of (items p) layout) (laid_out p (passes p h).distinct limit.code)
     ∙ program_is p started h
 

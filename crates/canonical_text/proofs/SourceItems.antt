@@ -4,19 +4,19 @@ use Rattle.std.specs.Prelude.{◌==◌, find}
 use Rattle.task_descriptor.specs.Listing.{Listing}
 use Rattle.task_descriptor.specs.declared.descriptor.Marked.{Marked}
 use Rattle.task_descriptor.specs.declared.descriptor.Descriptor.{Descriptor}
-use Rattle.annotated_asm.specs.declared.item.Item.{Item}
+use Rattle.annotated_asm.specs.declared.item.PlacedStatement.{PlacedStatement}
 use Rattle.program_statements.specs.declared.statement.Section.{Section}
 use Rattle.program_statements.specs.declared.statement.Section.TheVariants as section
 use Rattle.program_statements.specs.declared.statement.Statement.{Statement}
 use Rattle.program_statements.specs.declared.statement.Statement.TheVariants as statement
 use Rattle.canonical_text.proofs.Meanings.{target_of, written}
 
-abbrev pub item : ℕ → Section → Statement → Item
+abbrev pub item : ℕ → Section → Statement → PlacedStatement
 item n here s = record { line = n; section = here; statement = s }
 
 -- Each with the number of its line, and the number of the line behind it.
 
-abbrev pub start_items : ℕ → Option Descriptor → List Item
+abbrev pub start_items : ℕ → Option Descriptor → List PlacedStatement
 start_items n None = []
 start_items n (Some task) = item n section.Text (statement.Start task.name) ∷ []
 
@@ -28,7 +28,7 @@ abbrev pub task_statement : List Descriptor → Descriptor → Statement
 task_statement tasks task =
     statement.Task (record { name = task.name; create = task.create; targets = map (target_of tasks) task.targets })
 
-abbrev pub task_items : List Descriptor → ℕ → List Descriptor → List Item
+abbrev pub task_items : List Descriptor → ℕ → List Descriptor → List PlacedStatement
 task_items tasks n [] = []
 task_items tasks n (task ∷ others) = (item n section.Text (task_statement tasks task) ∷ []) ++ task_items tasks (n + 1) others
 
@@ -36,14 +36,14 @@ abbrev pub behind_tasks : ℕ → List Descriptor → ℕ
 behind_tasks n [] = n
 behind_tasks n (task ∷ others) = behind_tasks (n + 1) others
 
-abbrev pub label_items : ℕ → Option Descriptor → List Item
+abbrev pub label_items : ℕ → Option Descriptor → List PlacedStatement
 label_items n None = []
 label_items n (Some task) = item n section.Text (statement.Label task.name) ∷ []
 
 abbrev pub code_statement : List Descriptor → Marked → Statement
 code_statement tasks m = statement.Code (written tasks m.op) (record { forward = m.forward; stop = m.stop })
 
-abbrev pub code_items : List Descriptor → (n index : ℕ) → List Marked → List Item
+abbrev pub code_items : List Descriptor → (n index : ℕ) → List Marked → List PlacedStatement
 code_items tasks n index [] = []
 code_items tasks n index (m ∷ code) =
     let at = find (λ t. t.entry == index) tasks in
@@ -54,7 +54,7 @@ behind_code tasks n index [] = n
 behind_code tasks n index (m ∷ code) =
     behind_code tasks (behind_one n (find (λ t. t.entry == index) tasks) + 1) (index + 1) code
 
-abbrev pub byte_items : ℕ → Section → List ℕ → List Item
+abbrev pub byte_items : ℕ → Section → List ℕ → List PlacedStatement
 byte_items n here [] = []
 byte_items n here (b ∷ bytes) = (item n here (statement.Bytes (b ∷ [])) ∷ []) ++ byte_items (n + 1) here bytes
 
@@ -62,7 +62,7 @@ abbrev pub behind_bytes : ℕ → List ℕ → ℕ
 behind_bytes n [] = n
 behind_bytes n (b ∷ bytes) = behind_bytes (n + 1) bytes
 
-abbrev pub data_items : ℕ → Section → List ℕ → List Item
+abbrev pub data_items : ℕ → Section → List ℕ → List PlacedStatement
 data_items n here (a ∷ b ∷ c ∷ d ∷ bytes) =
     (item n here (statement.Bytes (a ∷ b ∷ c ∷ d ∷ [])) ∷ []) ++ data_items (n + 1) here bytes
 data_items n here bytes = byte_items n here bytes
@@ -72,7 +72,7 @@ behind_data n (a ∷ b ∷ c ∷ d ∷ bytes) = behind_data (n + 1) bytes
 behind_data n bytes = behind_bytes n bytes
 
 -- the directive of a section stands in the section before it
-abbrev pub section_items : ℕ → (before here : Section) → List ℕ → List Item
+abbrev pub section_items : ℕ → (before here : Section) → List ℕ → List PlacedStatement
 section_items n before here [] = []
 section_items n before here (b ∷ bytes) = (item n before (statement.Section here) ∷ []) ++ data_items (n + 1) here (b ∷ bytes)
 
@@ -84,7 +84,7 @@ abbrev pub section_behind : (before here : Section) → List ℕ → Section
 section_behind before here [] = before
 section_behind before here (b ∷ bytes) = here
 
-abbrev pub items : Listing → List Item
+abbrev pub items : Listing → List PlacedStatement
 items p =
     let start = find (λ t. t.entry == p.start) p.tasks in
     let tasks_at = behind_one 1 start in

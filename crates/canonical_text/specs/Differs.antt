@@ -1,4 +1,4 @@
--- What it means that a program differs from that of a text in create masks and forward bits alone (own choice).
+-- What it means that a program differs from that of a text in create masks and forward bits alone.
 use Rattle.std.specs.Prelude.{◌≡◌, ℕ, suc, ◌<◌, ◌^◌, false, None, List, [], ◌∷◌}
 use Rattle.std.specs.List.{AllByRecursion}
 use Rattle.task_descriptor.specs.Listing.{Listing, build_fault}
@@ -7,7 +7,7 @@ use Rattle.task_descriptor.specs.declared.descriptor.Descriptor.{Descriptor}
 use Rattle.program_statements.specs.declared.statement.Statement.{Statement}
 use Rattle.program_statements.specs.declared.statement.Statement.TheVariants as statement
 use Rattle.annotated_asm.specs.Layout.{instruction_count}
-use Rattle.annotated_asm.specs.declared.item.Item.{Item}
+use Rattle.annotated_asm.specs.declared.item.PlacedStatement.{PlacedStatement}
 use Rattle.canonical_text.specs.MarkedText.{code_behind}
 
 -- Programs that differ in these marks.
@@ -33,7 +33,7 @@ abbrev pub bare_code : List Marked → Statement → Type 0
 bare_code code (statement.Code i marks) = bare_first (instruction_count i) code
 bare_code code _ = Unit {0}
 
-abbrev pub AreBare : List Marked → List Item → Type 0
+abbrev pub AreBare : List Marked → List PlacedStatement → Type 0
 AreBare code [] = Unit {0}
 AreBare code (item ∷ items) = bare_code code item.statement × AreBare (code_behind code item.statement) items
 
@@ -49,7 +49,7 @@ AreMasks tasks = AllByRecursion (λ t. t.create < 2 ^ 34) tasks
 
 -- The program q is the program p of the text but for create masks and forward bits, and the first of the two instructions
 -- of each pseudo-instruction of the text carries no forward bit.
-pub record DiffersInMarks (p q : Listing) (items : List Item) : Type 0 where
+pub record DiffersInMarks (p q : Listing) (items : List PlacedStatement) : Type 0 where
   pub code : AlikeCode p.code q.code
   pub tasks : AlikeTasks p.tasks q.tasks
   pub rest : SameRest p q

@@ -1,4 +1,4 @@
--- The number and the name of what keeps marks out of a text (own choice).
+-- The number and the name of what keeps marks out of a text.
 use Rattle.std.specs.Prelude.{ℕ, List, codes}
 use Rattle.canonical_text.specs.declared.fault.MarksFault.{MarksFault}
 use Rattle.canonical_text.specs.declared.fault.MarksFault.TheVariants.{TooLong, Differs, OutOfMemory}

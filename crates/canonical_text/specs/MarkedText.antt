@@ -1,4 +1,4 @@
--- The text of a program with other create masks and forward bits (own choice): in a line that has to change one
+-- The text of a program with other create masks and forward bits: in a line that has to change one
 -- stretch is replaced, and every other byte of the text stays.
 use Rattle.std.specs.Prelude.{◌≡◌, ◌⊎◌, ℕ, ◌+◌, ◌-◌, ◌*◌, ◌<◌, ◌≤◌, ◌==◌, Bool, true, false, List, [], ◌∷◌, ◌++◌, length, take, drop, map, slice_get, codes, Option, Some, None, Result, Ok, Err, if◌then◌else◌}
 use Rattle.task_descriptor.specs.Listing.{Listing}
@@ -9,7 +9,7 @@ use Rattle.task_descriptor.specs.declared.descriptor.Descriptor.{Descriptor}
 use Rattle.program_tokens.specs.Lines.{lines}
 use Rattle.program_tokens.specs.Grammar.{is_name_byte, line_tokens}
 use Rattle.program_tokens.specs.Spans.{line_spans}
-use Rattle.program_tokens.specs.declared.span.Span.{Span}
+use Rattle.program_tokens.specs.declared.span.TokenSpan.{TokenSpan}
 use Rattle.program_tokens.specs.declared.token.Token.{Token}
 use Rattle.program_tokens.specs.declared.token.Token.TheVariants as token
 use Rattle.program_tokens.specs.declared.token.Mark.TheVariants as mark
@@ -31,12 +31,12 @@ use Rattle.canonical_text.specs.declared.fault.MarksFault.{MarksFault}
 use Rattle.canonical_text.specs.declared.fault.MarksFault.TheVariants as fault
 
 -- How many bytes of a line stand before the end of a token.
-abbrev pub behind_token : Option Span → ℕ
+abbrev pub behind_token : Option TokenSpan → ℕ
 behind_token None = 0
 behind_token (Some span) = span.column + span.len - 1
 
 -- The line with other bytes in place of those from the end of one token to the end of another.
-abbrev pub replaced : List Span → (from to : ℕ) → (bytes line : List ℕ) → List ℕ
+abbrev pub replaced : List TokenSpan → (from to : ℕ) → (bytes line : List ℕ) → List ℕ
 replaced spans from to bytes line =
     take (behind_token (slice_get spans from)) line ++ (bytes ++ drop (behind_token (slice_get spans to)) line)
 
@@ -47,7 +47,7 @@ stop_count stop.None = 0
 stop_count _ = 1
 
 -- `!f` is put behind the last operand, with a blank before it
-abbrev pub with_forward : List Span → List Token → Stop → List ℕ → List ℕ
+abbrev pub with_forward : List TokenSpan → List Token → Stop → List ℕ → List ℕ
 with_forward spans tokens stop line =
     let last = length tokens - (stop_count stop + 1) in replaced spans last last (codes " !f") line
 
@@ -60,11 +60,11 @@ abbrev pub forward_number : List Token → ℕ
 forward_number tokens = length tokens - (if is_forward (slice_get tokens (length tokens - 1)) then 1 else 2)
 
 -- the blanks before a `!f` go with it
-abbrev pub without_forward : List Span → List Token → List ℕ → List ℕ
+abbrev pub without_forward : List TokenSpan → List Token → List ℕ → List ℕ
 without_forward spans tokens line = replaced spans (forward_number tokens - 1) (forward_number tokens) [] line
 
 -- the line of an instruction with these marks, whose forward bit is to be this one
-abbrev pub code_line : (wanted : Bool) → Marks → List Span → List Token → List ℕ → List ℕ
+abbrev pub code_line : (wanted : Bool) → Marks → List TokenSpan → List Token → List ℕ → List ℕ
 code_line true marks spans tokens line = if marks.forward then line else with_forward spans tokens marks.stop line
 code_line false marks spans tokens line = if marks.forward then without_forward spans tokens line else line
 
@@ -81,14 +81,14 @@ separator [] = []
 separator (b ∷ bytes) = if is_name_byte b then 32 ∷ [] else []
 
 -- the registers from behind `create=` to the word `targets` are written in their canonical form
-abbrev pub with_create : ℕ → List Target → List Span → List Token → List ℕ → List ℕ
+abbrev pub with_create : ℕ → List Target → List TokenSpan → List Token → List ℕ → List ℕ
 with_create create targets spans tokens line =
     let last = length tokens - (list_size targets + 3) in
     let rest = drop (behind_token (slice_get spans last)) line in
     replaced spans 3 last (listed (map register_text (members create)) ++ separator rest) line
 
 -- the line of a task whose create mask is to be this one
-abbrev pub task_line : (wanted : ℕ) → Task → List Span → List Token → List ℕ → List ℕ
+abbrev pub task_line : (wanted : ℕ) → Task → List TokenSpan → List Token → List ℕ → List ℕ
 task_line wanted task spans tokens line = if wanted == task.create then line else with_create wanted task.targets spans tokens line
 
 -- Whole texts.
@@ -109,7 +109,7 @@ create_of None now = now
 create_of (Some task) now = task.create
 
 -- the line of a statement; of an instruction of the text that is two of the machine the marks are the second's
-abbrev pub statement_line : List Marked → List Descriptor → List Span → List Token → Statement → List ℕ → List ℕ
+abbrev pub statement_line : List Marked → List Descriptor → List TokenSpan → List Token → Statement → List ℕ → List ℕ
 statement_line code tasks spans tokens (statement.Code i marks) line =
     code_line (forward_of (slice_get code (instruction_count i - 1)) marks.forward) marks spans tokens line
 statement_line code tasks spans tokens (statement.Task task) line =
@@ -130,7 +130,7 @@ abbrev pub newline_before : ℕ → List ℕ
 newline_before n = if n == 1 then [] else 10 ∷ []
 
 -- the tokens of a line's labels, and their places, stand in front of the statement's
-abbrev pub own_spans : List ℕ → List Token → List Span
+abbrev pub own_spans : List ℕ → List Token → List TokenSpan
 own_spans line tokens = drop (length tokens - length (after_labels tokens)) (line_spans line)
 
 abbrev pub with_statement : Written → ℕ → List ℕ → List Token → Statement → Written

@@ -8,13 +8,13 @@ ghost use Rattle.canonical_text.specs.MarkedText.{behind_token as behind, replac
 use crate::print::write_create;
 use mips_instructions::number::RegSet;
 use program_statements::statement::{Marks, Target, Task};
-use program_tokens::span::Span;
+use program_tokens::span::TokenSpan;
 use program_tokens::token::{Mark, Token};
 use std::alloc::{AllocError, Global};
 use task_descriptor::descriptor::Stop;
 
 /// How many bytes of a line stand before the end of a token, up to more than any line has.
-fn behind_token(spans: &[Span], number: usize) -> usize
+fn behind_token(spans: &[TokenSpan], number: usize) -> usize
     ensures { result ≡ min (behind (slice_get spans.now number)) (2 ^ 64 - 2) }
 {
     match spans.get(number) {
@@ -24,7 +24,7 @@ fn behind_token(spans: &[Span], number: usize) -> usize
 }
 
 /// The bytes of a line up to the end of a token.
-fn up_to<'a>(line: &'a [u8], spans: &[Span], number: usize) -> &'a [u8]
+fn up_to<'a>(line: &'a [u8], spans: &[TokenSpan], number: usize) -> &'a [u8]
     ensures { result.now ≡ take (behind (slice_get spans.now number)) line.now }
 {
     let end = behind_token(spans, number);
@@ -32,7 +32,7 @@ fn up_to<'a>(line: &'a [u8], spans: &[Span], number: usize) -> &'a [u8]
 }
 
 /// The bytes of a line behind the end of a token.
-fn from<'a>(line: &'a [u8], spans: &[Span], number: usize) -> &'a [u8]
+fn from<'a>(line: &'a [u8], spans: &[TokenSpan], number: usize) -> &'a [u8]
     ensures { result.now ≡ drop (behind (slice_get spans.now number)) line.now }
 {
     let end = behind_token(spans, number);
@@ -42,7 +42,7 @@ fn from<'a>(line: &'a [u8], spans: &[Span], number: usize) -> &'a [u8]
 /// Writes a line with other bytes in place of those from the end of one token to the end of another.
 fn write_replaced(
     text: &mut Vec<u8>,
-    spans: &[Span],
+    spans: &[TokenSpan],
     first: usize,
     last: usize,
     bytes: &[u8],
@@ -85,7 +85,7 @@ pub(crate) fn write_code_line(
     text: &mut Vec<u8>,
     wanted: bool,
     marks: Marks,
-    spans: &[Span],
+    spans: &[TokenSpan],
     tokens: &[Token],
     line: &[u8],
 ) -> Result<(), AllocError>
@@ -134,7 +134,7 @@ fn write_with_create(
     text: &mut Vec<u8>,
     create: RegSet,
     targets: &[Target],
-    spans: &[Span],
+    spans: &[TokenSpan],
     tokens: &[Token],
     line: &[u8],
 ) -> Result<(), AllocError>
@@ -154,7 +154,7 @@ pub(crate) fn write_task_line(
     text: &mut Vec<u8>,
     wanted: RegSet,
     task: &Task,
-    spans: &[Span],
+    spans: &[TokenSpan],
     tokens: &[Token],
     line: &[u8],
 ) -> Result<(), AllocError>

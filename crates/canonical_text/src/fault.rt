@@ -32,7 +32,7 @@ impl fmt::Display for MarksFault {
 
     ghost output = { λ fault. Some (marks_fault_text fault) };
 
-    /// The number and the name of the fault (own choice).
+    /// The number and the name of the fault.
     fn fmt<W: fmt::Write>(&self, f: &mut fmt::Formatter<W>) -> fmt::Result {
         match *self {
             MarksFault::TooLong => write!(f, "1 TooLong"),

@@ -6,7 +6,7 @@ ghost use Rattle.program_tokens.specs.Lines.{lines};
 ghost use Rattle.program_statements.specs.declared.statement.Section.TheVariants.{Text};
 ghost use Rattle.annotated_asm.specs.Items.{items_from};
 ghost use Rattle.annotated_asm.specs.ProgramText.{Spells};
-ghost use Rattle.annotated_asm.specs.declared.item.Item.{Item};
+ghost use Rattle.annotated_asm.specs.declared.item.PlacedStatement.{PlacedStatement};
 ghost use Rattle.canonical_text.specs.MarkedText.{marked_text};
 ghost use Rattle.canonical_text.specs.Differs.{DiffersInMarks};
 
@@ -14,6 +14,6 @@ ghost use Rattle.canonical_text.specs.Differs.{DiffersInMarks};
 /// that other one, unless it is longer than a program text may be. A forward bit on the first of the two
 /// instructions of a pseudo-instruction is one that no text can say.
 pub fn marks_are_read_back()
-    ensures { (text : List ℕ) (items : List Item) (p q : Listing) → Spells text p → items_from 1 Text (lines text) ≡ Ok items → DiffersInMarks p q items
+    ensures { (text : List ℕ) (items : List PlacedStatement) (p q : Listing) → Spells text p → items_from 1 Text (lines text) ≡ Ok items → DiffersInMarks p q items
         → (bytes : List ℕ) × (marked_text text q ≡ Ok bytes) × (length bytes ≤ 4194304 → Spells bytes q) }
 {}

@@ -174,7 +174,7 @@ fn room_for(program: &Program) -> usize {
     room
 }
 
-/// The canonical text of a program (own choice): `.start`, the tasks in order, the instructions, one a
+/// The canonical text of a program: `.start`, the tasks in order, the instructions, one a
 /// line, each task's label alone on the line before, then the bytes of data and of read-only data.
 pub fn print(alloc: Global, program: &Program) -> Result<Vec<u8>, AllocError>
     ensures { IfOk result (λ text. text.items ≡ canonical_text program.now) }

@@ -11,7 +11,7 @@ use annotated_asm::line::{instruction_count, section_after, statement_at, tokens
 use mips_instructions::number::RegSet;
 use program_statements::statement::{Section, Statement};
 use program_tokens::line::first_line;
-use program_tokens::span::{Span, read_spans};
+use program_tokens::span::{TokenSpan, read_spans};
 use program_tokens::token::Token;
 use std::alloc::{AllocError, Global};
 use task_descriptor::descriptor::{Descriptor, Marked};
@@ -77,7 +77,7 @@ fn write_statement_line(
     text: &mut Vec<u8>,
     code: &[Marked],
     tasks: &[Descriptor],
-    spans: &[Span],
+    spans: &[TokenSpan],
     tokens: &[Token],
     statement: &Statement,
     line: &[u8],
@@ -127,7 +127,7 @@ fn tasks_behind<'a>(tasks: &'a [Descriptor], statement: &Statement) -> &'a [Desc
 #[derive(Drop)]
 struct Read {
     tokens: Vec<Token>,
-    spans: Vec<Span>,
+    spans: Vec<TokenSpan>,
 }
 
 /// What of a program is still to come.

@@ -1,4 +1,4 @@
--- Which job the words of a command line ask for, over which files, or why none (own choice). Which
+-- Which job the words of a command line ask for, over which files, or why none. Which
 -- subcommand the words name, and with which values, is what `clap` makes of them.
 use Rattle.std.specs.Prelude.{◌≡◌, ◌≢◌, ◌⊎◌, ◌≤◌, ◌==◌, ℕ, Bool, true, false, not, List, [], length, map, Option, is_none, Some, None, Result, Ok, Err, ◌&&◌, ◌||◌, IsSome, IfSome, IsSomeAnd, ⊤, if◌then◌else◌, codes, option_and_then, MatchResult, unwrap_or}
 use Rattle.std.specs.String.{string_bytes}

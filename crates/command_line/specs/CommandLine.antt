@@ -1,4 +1,4 @@
--- What the program takes on its command line: the subcommands, and the files and options of each (own choice).
+-- What the program takes on its command line: the subcommands, and the files and options of each.
 use Rattle.std.specs.Prelude.{◌≡◌, ℕ, pos, true, false, if◌then◌else◌, List, [], ◌∷◌, Some, codes}
 use Rattle.std.specs.Str.{bytes_eq}
 use Rattle.clap.specs.Words.{App, Rule, Shape, Text, app_of, new_rule}

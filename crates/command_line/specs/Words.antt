@@ -1,4 +1,4 @@
--- What the values of `--predict`, `--schedule`, `--format`, `--color`, `--emit` and `--axis` stand for (own choice).
+-- What the values of `--predict`, `--schedule`, `--format`, `--color`, `--emit` and `--axis` stand for.
 use Rattle.std.specs.Prelude.{ℕ, ◌+◌, ◌-◌, ◌*◌, ◌==◌, ◌&&◌, nat_le, if◌then◌else◌, List, [], ◌∷◌, length, map, Option, Some, None, codes}
 use Rattle.std.specs.Char.{is_ascii_digit}
 use Rattle.std.specs.Option.{option_map}

@@ -71,7 +71,7 @@ impl From<clap::Error> for UsageFault {
 /// What a command line asks for. The first word is the program's own name. What `clap` decides comes first,
 /// then whether there are as many files as `--least` asks for, then the values of `--format`, of `--color`, of
 /// `--schedule`, of `--predict` for `curve`, of `--emit`, of `--predict` for `run`, and at last whether `--in-place` can be meant and
-/// whether further programs can have the job, too. (own choice)
+/// whether further programs can have the job, too.
 pub fn request_of(alloc: Global, words: &[String]) -> Result<Request, UsageFault>
     ensures files { IfOk result (λ r. HasFilesOf r.job r.paths) }
     ensures request { IfOk result (λ r. AskFor (map string_bytes words.now) r) }

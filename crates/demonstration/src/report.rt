@@ -25,7 +25,7 @@ use jobs::job::DemonstrateEmit;
 use jobs::ranges::{Budget, Units};
 use machine_model::event::Event;
 use mips_plain::outcome::OutOfMemory;
-use report_texts::report::{Report, refused_program};
+use report_texts::report::{JobReport, refused_program};
 use std::alloc::{AllocError, Global};
 use task_descriptor::program::Program;
 
@@ -43,7 +43,7 @@ pub fn demonstrate(
     steps: Budget,
     emit: DemonstrateEmit,
     text: &[u8],
-) -> Result<Report, AllocError>
+) -> Result<JobReport, AllocError>
     ensures { IfOk result (IsDemonstrateReport units steps emit text.now) }
 {
     match assemble(alloc, text) {
@@ -64,7 +64,7 @@ fn demonstrate_program(
     emit: DemonstrateEmit,
     places: &[Position],
     program: &Program,
-) -> Result<Report, AllocError>
+) -> Result<JobReport, AllocError>
     ensures { IfOk result (IsDemonstrated units steps emit places.now program.now) }
 {
     if is_sound(alloc, program)? {
@@ -80,12 +80,12 @@ fn demonstrate_program(
 }
 
 /// What is written where the annotations are right.
-fn nothing_to_show(alloc: Global) -> Result<Report, AllocError>
+fn nothing_to_show(alloc: Global) -> Result<JobReport, AllocError>
     ensures { IfOk result (λ report. report ≡ nothing_to_show_report) }
 {
     let mut text = String::new(alloc);
     writeln!(text, "the annotations are right: no run shows anything")?;
-    Ok(Report::new(text.into_bytes(), 0))
+    Ok(JobReport::new(text.into_bytes(), 0))
 }
 
 /// What is written where no run is found.
@@ -95,12 +95,12 @@ fn nothing_found(
     steps: Budget,
     places: &[Position],
     program: &Program,
-) -> Result<Report, AllocError>
+) -> Result<JobReport, AllocError>
     ensures { IfOk result (FindsNothing units steps program.now places.now) }
 {
     let first = first_finding(alloc, program)?;
     let text = told_nothing(alloc, units, steps, places, program, first.list.as_slice())?;
-    Ok(Report::new(text.into_bytes(), 3))
+    Ok(JobReport::new(text.into_bytes(), 3))
 }
 
 /// That no run is found, and findings.
@@ -139,12 +139,12 @@ fn tell_of_run(
     places: &[Position],
     program: &Program,
     found: &Demonstration,
-) -> Result<Report, AllocError>
+) -> Result<JobReport, AllocError>
     requires { IsDemonstration program.now found.now }
     ensures { IfOk result (TellsOfRun emit program.now places.now) }
 {
     let text = run_text(alloc, emit, places, program, found)?;
-    Ok(Report::new(text.into_bytes(), 1))
+    Ok(JobReport::new(text.into_bytes(), 1))
 }
 
 /// A run that shows something, in words or as a picture.

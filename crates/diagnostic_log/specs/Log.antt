@@ -1,5 +1,5 @@
 -- A log as a JSON value (SARIF 2.1.0, OASIS Standard, 27 March 2020; which of the optional properties it has
--- is own choice), and its text.
+-- is this project's choice), and its text.
 use Rattle.std.specs.Prelude.{ℕ, List, [], ◌∷◌, ◌++◌, Bool, true, false, ◌||◌, if◌then◌else◌, fold, codes}
 use Rattle.std.specs.Fmt.{decimal}
 use Rattle.json.specs.Json.{Json, boolean, number, string, array, object, Items, no_items, item, Members, no_members, member}

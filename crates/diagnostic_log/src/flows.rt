@@ -9,7 +9,7 @@ use crate::places::write_location;
 use crate::text::LoggedText;
 use diagnostics::diagnostic::{Note, Span};
 
-/// How many places of a path are told at either end of it (own choice): a path can have nearly as many as the
+/// How many places of a path are told at either end of it: a path can have nearly as many as the
 /// program has instructions, and each diagnostic its own.
 const TOLD_AT_AN_END: usize = 50;
 

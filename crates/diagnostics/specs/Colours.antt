@@ -1,4 +1,4 @@
--- Colours of a terminal (ECMA-48, "select graphic rendition"; which, is own choice, as clang's).
+-- Colours of a terminal (ECMA-48, "select graphic rendition"; which ones is this project's choice, as clang's).
 use Rattle.std.specs.Prelude.{ℕ, List, [], ◌∷◌, ◌++◌, codes}
 use Rattle.diagnostics.specs.declared.colour.Colour.{Colour}
 use Rattle.diagnostics.specs.declared.colour.Colour.TheVariants.{Never, Always}

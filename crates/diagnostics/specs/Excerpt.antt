@@ -1,4 +1,4 @@
--- How a line is shown, with a caret below the part that is meant (own choice, in the form of gcc). What is shown has no
+-- How a line is shown, with a caret below the part that is meant (in the form of gcc). What is shown has no
 -- control byte but tabs, so it does nothing to a terminal.
 use Rattle.std.specs.Prelude.{ℕ, ◌-◌, ◌/◌, ◌%◌, max, Bool, true, false, ◌&&◌, ◌||◌, not, List, [], ◌∷◌, ◌++◌, take, drop, length, replicate, codes, slice_get, slice_index, Option, Some, None, nat_lt, nat_le, nat_eq, if◌then◌else◌}
 use Rattle.std.specs.Fmt.{decimal}

@@ -1,4 +1,4 @@
--- Words that are nearly the same (own choice): one slip of the writer makes one of the other.
+-- Words that are nearly the same: one slip of the writer makes one of the other.
 use Rattle.std.specs.Prelude.{ℕ, List, [], ◌∷◌, Bool, false, drop, Option, Some, None, if◌then◌else◌, ◌==◌, ◌&&◌, ◌||◌}
 use Rattle.std.specs.Str.{bytes_eq}
 

@@ -1,4 +1,4 @@
--- How a message quotes bytes of a text, or writes them (own choice).
+-- How a message quotes bytes of a text, or writes them.
 use Rattle.std.specs.Prelude.{ℕ, List, ◌++◌, codes, length, nat_le, if◌then◌else◌}
 use Rattle.diagnostics.specs.Excerpt.{is_readable, shown, front}
 

@@ -1,4 +1,4 @@
--- The text form of diagnostics (own choice, in the form of gcc and clang).
+-- The text form of diagnostics (in the form of gcc and clang).
 use Rattle.std.specs.Prelude.{ℕ, ◌-◌, List, [], ◌∷◌, ◌++◌, take, drop, length, codes, Option, Some, None, nat_le, if◌then◌else◌}
 use Rattle.std.specs.Fmt.{decimal}
 use Rattle.std.specs.List.{flat_map}

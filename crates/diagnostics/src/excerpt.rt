@@ -12,7 +12,7 @@ use crate::colour::{CARET, Colour};
 use crate::diagnostic::Span;
 use std::alloc::{AllocError, Global};
 
-/// How many bytes the longest line has that is shown as a whole (own choice).
+/// How many bytes the longest line has that is shown as a whole.
 const LONGEST_WHOLE: usize = 1_000;
 
 /// How many bytes are shown of a longer line.

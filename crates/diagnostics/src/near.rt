@@ -36,7 +36,7 @@ fn is_slip(word: &[u8], other: &[u8]) -> bool
 }
 
 /// Whether one slip makes one word of the other: a letter too many, one left out, one wrong, or two neighbours
-/// exchanged (own choice).
+/// exchanged.
 pub fn is_near(word: &[u8], other: &[u8]) -> bool
     ensures { result ≡ is_near word.now other.now }
 {

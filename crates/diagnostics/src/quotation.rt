@@ -8,7 +8,7 @@ use crate::words;
 use crate::words::Words;
 use std::alloc::{AllocError, Global};
 
-/// How many bytes a message quotes at most (own choice).
+/// How many bytes a message quotes at most.
 const MOST_QUOTED: usize = 40;
 
 /// Bytes of a text as an excerpt shows them: without control bytes but tabs, and without letters that steer a terminal.

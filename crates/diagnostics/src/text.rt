@@ -14,7 +14,7 @@ use crate::files::{Files, TextFile};
 use crate::label::Label;
 use std::alloc::{AllocError, Global};
 
-/// How many places after the first the longest path has that is shown as a whole (own choice).
+/// How many places after the first the longest path has that is shown as a whole.
 const LONGEST_REST: usize = 11;
 
 /// How many of the places after the first are shown of a longer one, at either end.

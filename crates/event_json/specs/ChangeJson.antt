@@ -1,4 +1,4 @@
--- What an event changed, as objects of JSON (own choice).
+-- What an event changed, as objects of JSON.
 use Rattle.std.specs.Prelude.{ℕ, List, [], ◌∷◌, ◌++◌, map, codes}
 use Rattle.json.specs.Json.{Json}
 use Rattle.task_descriptor.specs.Listing.{Listing}

@@ -1,4 +1,4 @@
--- An event with its answer and with what it changed, as an object of JSON (own choice).
+-- An event with its answer and with what it changed, as an object of JSON.
 use Rattle.std.specs.Prelude.{ℕ, List, [], ◌∷◌, ◌++◌, codes, Result}
 use Rattle.json.specs.Json.{Json}
 use Rattle.task_descriptor.specs.Listing.{Listing}

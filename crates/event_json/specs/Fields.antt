@@ -1,4 +1,4 @@
--- Objects and lists of JSON from their parts, and the parts that several objects have (own choice).
+-- Objects and lists of JSON from their parts, and the parts that several objects have.
 use Rattle.std.specs.Prelude.{ℕ, List, [], ◌∷◌, ◌++◌, codes, flat_map, slice_get, Option, Some, None}
 use Rattle.std.specs.Fmt.{decimal}
 use Rattle.json.specs.Json.{Json, number, string, array, object, Items, no_items, item, Members, no_members, member}

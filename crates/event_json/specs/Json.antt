@@ -1,4 +1,4 @@
--- Some events as lines of JSON (own choice).
+-- Some events as lines of JSON.
 use Rattle.std.specs.Prelude.{ℕ, List, ◌++◌}
 use Rattle.task_descriptor.specs.Listing.{Listing}
 use Rattle.machine_model.specs.Answer.{play}

@@ -1,4 +1,4 @@
--- The first line, as an object of JSON (own choice).
+-- The first line, as an object of JSON.
 use Rattle.std.specs.Prelude.{ℕ, List, [], ◌∷◌, ◌++◌, codes, length}
 use Rattle.json.specs.Json.{Json}
 use Rattle.task_descriptor.specs.Listing.{Listing}

@@ -1,4 +1,4 @@
--- The time of an event, in microseconds from the beginning of the run (own choice).
+-- The time of an event, in microseconds from the beginning of the run.
 use Rattle.std.specs.Prelude.{ℕ, ◌+◌, List, [], ◌∷◌, Bool, true, nat_eq, if◌then◌else◌, slice_get, Option, Some, None}
 use Rattle.machine_model.specs.declared.event.Event.{Event}
 use Rattle.machine_model.specs.HeadEvent.{active_after, position_of}

@@ -4,7 +4,7 @@ use Rattle.std.proofs.Common.{◌≡◌, ℕ, zero, suc, ◌+◌, List, [], ◌�
 use Rattle.std.specs.Result.{result_err}
 use Rattle.machine_model.specs.declared.event.Event.{Event}
 use Rattle.event_script.specs.declared.bad_line.BadLine.{BadLine}
-use Rattle.event_script.specs.declared.fault.LineFault.{LineFault}
+use Rattle.event_script.specs.declared.fault.EventFault.{EventFault}
 use Rattle.event_script.specs.declared.fault.ScriptFault.{ScriptFault}
 use Rattle.event_script.specs.EventScript.{event_in, at_line, ◌>>=◌, events_from, bad_line, bad_from, first_bad}
 
@@ -12,7 +12,7 @@ passed_on : (e : Event) (r : Result (List Event) ScriptFault) → result_err r �
 passed_on e (Ok events) = refl
 passed_on e (Err fault) = refl
 
-one_line : (n : ℕ) (r : Result Event LineFault) (more : List BadLine) (rest : Result (List Event) ScriptFault) → first_bad more ≡ result_err rest
+one_line : (n : ℕ) (r : Result Event EventFault) (more : List BadLine) (rest : Result (List Event) ScriptFault) → first_bad more ≡ result_err rest
     → first_bad (bad_line n r ++ more) ≡ result_err (at_line n r >>= (λ event. rest >>= (λ events. Ok (event ∷ events))))
 one_line n (Ok e) more rest before = before ∙ passed_on e rest
 one_line n (Err fault) more rest before = refl

@@ -4,7 +4,7 @@ use Rattle.std.specs.List.{slice_split, position, position_or_len}
 use Rattle.std.specs.Str.{bytes_eq}
 use Rattle.std.proofs.lemmas.List.{length-map}
 use Rattle.task_descriptor.specs.declared.descriptor.Descriptor.{Descriptor}
-use Rattle.event_script.specs.declared.fault.LineFault.TheVariants.{NoEvent}
+use Rattle.event_script.specs.declared.fault.EventFault.TheVariants.{NoEvent}
 use Rattle.event_script.specs.EventScript.{is_space, misfit, operand_count, event_of, event_in, names_in}
 use Rattle.text_pieces.proofs.Splits.{split_cons}
 

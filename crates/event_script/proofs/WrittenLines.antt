@@ -19,8 +19,8 @@ use Rattle.task_descriptor.specs.declared.descriptor.Descriptor.{Descriptor}
 use Rattle.task_descriptor.specs.declared.program.BuildFault.{BuildFault}
 use Rattle.machine_model.specs.declared.event.Event.{Event}
 use Rattle.machine_model.specs.declared.event.Event.TheVariants.{Assign, Exec, Transfer, Drain, Squash, Retire, Fault, Drop}
-use Rattle.event_script.specs.declared.fault.LineFault.{LineFault}
-use Rattle.event_script.specs.declared.fault.LineFault.TheVariants.{NoName}
+use Rattle.event_script.specs.declared.fault.EventFault.{EventFault}
+use Rattle.event_script.specs.declared.fault.EventFault.TheVariants.{NoName}
 use Rattle.event_script.specs.declared.fault.ScriptFault.{ScriptFault}
 use Rattle.event_script.specs.EventScript.{is_newline, is_space, is_number, number_in, register_in, if_register, if_task, assigned, at_position, with_two, event_of, event_in, at_line, ◌>>=◌, events_from, lines, names_in, script_of}
 use Rattle.event_script.specs.ScriptText.{name_at, event_text, script_text, IsTold, NamesRegister}
@@ -236,7 +236,7 @@ read_from p well n (e ∷ es) all =
     let names = names_in p.tasks in
     let line = line_of p well e all.0.0 all.0.1 in
     ap (events_from n names) (first_line (event_text p e) (script_text p es) line.no_newline)
-    ∙ ap (λ (first : Result Event LineFault). at_line n first >>= (λ event. events_from (n + 1) names (lines (script_text p es)) >>= (λ events. Ok (event ∷ events)))) line.spells
+    ∙ ap (λ (first : Result Event EventFault). at_line n first >>= (λ event. events_from (n + 1) names (lines (script_text p es)) >>= (λ events. Ok (event ∷ events)))) line.spells
     ∙ ap (λ (rest : Result (List Event) ScriptFault). rest >>= (λ events. Ok (e ∷ events))) (read_from p well (n + 1) es all.1)
 
 pub written_is_read : (p : Listing) → IsWellFormed p → (events : List Event) → All (λ e. IsTold p e × NamesRegister e) events → script_of p (script_text p events) ≡ Ok events

@@ -1,4 +1,4 @@
--- Reading the text of an event script (own choice): the events that its lines spell, or the first line
+-- Reading the text of an event script: the events that its lines spell, or the first line
 -- that spells none. The lines are `assign NAME`, `exec K`, `transfer K $R`, `drain K $R`, `squash K`,
 -- `retire`, `fault` and `drop K`, where K is a position in the queue of units and R a register.
 use Rattle.std.specs.Prelude.{ℕ, zero, suc, ◌+◌, ◌-◌, Bool, false, ◌&&◌, ◌||◌, not, List, [], ◌∷◌, ◌++◌, length, map, take, drop, position, Option, None, Some, Result, Ok, Err, nat_lt, nat_le, ◌==◌, if◌then◌else◌, codes}
@@ -14,8 +14,8 @@ use Rattle.machine_model.specs.declared.event.Event.TheVariants.{Assign, Exec, T
 use Rattle.event_script.specs.declared.fault.ScriptFault.{ScriptFault}
 use Rattle.event_script.specs.declared.fault.ScriptFault.TheVariants.{Line, TaskName}
 use Rattle.event_script.specs.declared.bad_line.BadLine.{BadLine}
-use Rattle.event_script.specs.declared.fault.LineFault.{LineFault}
-use Rattle.event_script.specs.declared.fault.LineFault.TheVariants.{NoEvent, TooFew, TooMany, NoPosition, NoRegister, NoName, NoTask}
+use Rattle.event_script.specs.declared.fault.EventFault.{EventFault}
+use Rattle.event_script.specs.declared.fault.EventFault.TheVariants.{NoEvent, TooFew, TooMany, NoPosition, NoRegister, NoName, NoTask}
 
 -- ---- the lines of a text
 
@@ -75,7 +75,7 @@ operand_count verb =
 
 -- What is wrong with so many words behind a first word, if they make no event: that no event begins so, that they are too
 -- few or too many, and else `wrong`.
-abbrev pub misfit : (wanted : Option ℕ) → (count : ℕ) → (wrong : LineFault) → LineFault
+abbrev pub misfit : (wanted : Option ℕ) → (count : ℕ) → (wrong : EventFault) → EventFault
 misfit None count wrong = NoEvent
 misfit (Some wanted) count wrong =
     if nat_lt count wanted then TooFew
@@ -83,22 +83,22 @@ misfit (Some wanted) count wrong =
     else wrong)
 
 -- of a word that stands alone
-abbrev pub alone : List ℕ → Result Event LineFault
+abbrev pub alone : List ℕ → Result Event EventFault
 alone verb =
     if bytes_eq verb (codes "retire") then Ok Retire
     else (if bytes_eq verb (codes "fault") then Ok Fault
     else Err (misfit (operand_count verb) 0 NoEvent))
 
-abbrev pub if_task : Option ℕ → Result Event LineFault
+abbrev pub if_task : Option ℕ → Result Event EventFault
 if_task None = Err NoTask
 if_task (Some task) = Ok (Assign task)
 
 -- the assignment of the task of a name
-abbrev pub assigned : List (List ℕ) → List ℕ → Result Event LineFault
+abbrev pub assigned : List (List ℕ) → List ℕ → Result Event EventFault
 assigned names name = if is_name name then if_task (position (λ other. bytes_eq other name) names) else Err NoName
 
 -- of a verb and a position
-abbrev pub at_position : List ℕ → Option ℕ → Result Event LineFault
+abbrev pub at_position : List ℕ → Option ℕ → Result Event EventFault
 at_position verb None = Err (misfit (operand_count verb) 1 NoPosition)
 at_position verb (Some k) =
     if bytes_eq verb (codes "exec") then Ok (Exec k)
@@ -107,11 +107,11 @@ at_position verb (Some k) =
     else Err (misfit (operand_count verb) 1 NoEvent)))
 
 -- of a verb and one word behind it
-abbrev pub with_one : List (List ℕ) → (verb word : List ℕ) → Result Event LineFault
+abbrev pub with_one : List (List ℕ) → (verb word : List ℕ) → Result Event EventFault
 with_one names verb word = if bytes_eq verb (codes "assign") then assigned names word else at_position verb (number_in word)
 
 -- of a verb, a position and a register
-abbrev pub with_two : List ℕ → (position register : Option ℕ) → Result Event LineFault
+abbrev pub with_two : List ℕ → (position register : Option ℕ) → Result Event EventFault
 with_two verb None register = Err (misfit (operand_count verb) 2 NoPosition)
 with_two verb (Some k) None = Err (misfit (operand_count verb) 2 NoRegister)
 with_two verb (Some k) (Some r) =
@@ -120,14 +120,14 @@ with_two verb (Some k) (Some r) =
     else Err (misfit (operand_count verb) 2 NoEvent))
 
 -- of the words of a line, with the names of the tasks
-abbrev pub event_of : List (List ℕ) → (words : List (List ℕ)) → Result Event LineFault
+abbrev pub event_of : List (List ℕ) → (words : List (List ℕ)) → Result Event EventFault
 event_of names [] = Err NoEvent
 event_of names (verb ∷ []) = alone verb
 event_of names (verb ∷ word ∷ []) = with_one names verb word
 event_of names (verb ∷ first ∷ second ∷ []) = with_two verb (number_in first) (register_in second)
 event_of names (verb ∷ first ∷ second ∷ third ∷ more) = Err (misfit (operand_count verb) 3 NoEvent)
 
-abbrev pub event_in : List (List ℕ) → (line : List ℕ) → Result Event LineFault
+abbrev pub event_in : List (List ℕ) → (line : List ℕ) → Result Event EventFault
 event_in names line = event_of names (words line)
 
 -- ---- where a line goes wrong
@@ -161,7 +161,7 @@ abbrev pub word_at : ℕ → (line : List ℕ) → LinePart
 word_at k line = part_from line (from_word k line) (first_word (from_word k line))
 
 -- the word that is wrong; of too few words the line's end, of too many all that are too many
-abbrev pub wrong_part : LineFault → (line : List ℕ) → LinePart
+abbrev pub wrong_part : EventFault → (line : List ℕ) → LinePart
 wrong_part NoEvent line = word_at 0 line
 wrong_part TooFew line = record { before = length line; bytes = [] }
 wrong_part (TooMany words) line = part_from line (from_word words line) (from_word words line)
@@ -172,11 +172,11 @@ wrong_part NoTask line = word_at 1 line
 
 -- ---- the events of the lines, or the first line with a fault
 
-abbrev pub fault_at : ℕ → LineFault → ScriptFault
+abbrev pub fault_at : ℕ → EventFault → ScriptFault
 fault_at n NoTask = TaskName n
 fault_at n _ = Line n
 
-abbrev pub at_line : ℕ → Result Event LineFault → Result Event ScriptFault
+abbrev pub at_line : ℕ → Result Event EventFault → Result Event ScriptFault
 at_line n (Ok event) = Ok event
 at_line n (Err fault) = Err (fault_at n fault)
 
@@ -208,7 +208,7 @@ script_of program text = script_parse text (names_in program.tasks)
 -- ---- all lines with a fault
 
 -- line n spells no event, and why
-abbrev pub bad_line : (n : ℕ) → Result Event LineFault → List BadLine
+abbrev pub bad_line : (n : ℕ) → Result Event EventFault → List BadLine
 bad_line n (Ok event) = []
 bad_line n (Err fault) = record { line = n; fault = fault } ∷ []
 

@@ -1,4 +1,4 @@
--- The number and the name of what is wrong with a script, and the line (own choice).
+-- The number and the name of what is wrong with a script, and the line.
 use Rattle.std.specs.Prelude.{ℕ, List, ◌++◌, codes}
 use Rattle.std.specs.Fmt.{decimal}
 use Rattle.event_script.specs.declared.fault.ScriptFault.{ScriptFault}

@@ -1,4 +1,4 @@
--- Writing the text of an event script (own choice): each event on a line of its own, as reading takes it.
+-- Writing the text of an event script: each event on a line of its own, as reading takes it.
 use Rattle.std.specs.Prelude.{ℕ, ◌<◌, ◌≤◌, List, [], ◌∷◌, ◌++◌, length, flat_map, slice_get, Option, Some, None, codes}
 use Rattle.std.specs.Fmt.{decimal}
 use Rattle.task_descriptor.specs.Listing.{Listing}

@@ -3,7 +3,7 @@
 ghost use Rattle.std.specs.Prelude.{◌≡◌, ◌≤◌, ◌++◌, [], ◌∷◌, IfOk, OnOk, length, position, take};
 ghost use Rattle.event_script.specs.EventScript.{is_space, lines as lines_of, behind, first_word, from_word, word_at, bad_lines, bad_from};
 
-use crate::fault::LineFault;
+use crate::fault::EventFault;
 use crate::reading::{event_of, next_line};
 use crate::task_names::TaskNames;
 use std::alloc::{AllocError, Global};
@@ -15,7 +15,7 @@ pub struct BadLine {
     /// The line, from 1.
     pub line: usize,
     /// Why it spells none.
-    pub fault: LineFault,
+    pub fault: EventFault,
 }
 
 /// How many bytes stand in front of the first space of a text.
@@ -67,7 +67,7 @@ fn word_at(line: &[u8], number: usize) -> (usize, &[u8])
     (line.len() - rest.len(), first_word(rest))
 }
 
-impl LineFault {
+impl EventFault {
     ghost use Rattle.std.specs.Prelude.{◌≡◌};
     ghost use Rattle.event_script.specs.EventScript.{wrong_part};
 
@@ -78,11 +78,11 @@ impl LineFault {
         ensures bytes { result.1.now ≡ (wrong_part self line.now).bytes }
     {
         match self {
-            LineFault::NoEvent => word_at(line, 0),
-            LineFault::NoPosition | LineFault::NoName | LineFault::NoTask => word_at(line, 1),
-            LineFault::NoRegister => word_at(line, 2),
-            LineFault::TooFew => (line.len(), &line[line.len()..]),
-            LineFault::TooMany(words) => {
+            EventFault::NoEvent => word_at(line, 0),
+            EventFault::NoPosition | EventFault::NoName | EventFault::NoTask => word_at(line, 1),
+            EventFault::NoRegister => word_at(line, 2),
+            EventFault::TooFew => (line.len(), &line[line.len()..]),
+            EventFault::TooMany(words) => {
                 let rest = from_word(line, words);
                 (line.len() - rest.len(), rest)
             }
@@ -95,7 +95,7 @@ fn add_line(
     list: &mut Vec<BadLine>,
     most: usize,
     line: usize,
-    fault: LineFault,
+    fault: EventFault,
 ) -> Result<(), AllocError>
     requires { length list.old.items ≤ most }
     ensures room { OnOk result (length list.new.items ≤ most) }

@@ -17,7 +17,7 @@ pub enum ScriptFault {
 
 /// Why a line spells no event: the first of these that holds.
 #[derive(Clone, Copy, Debug, PartialEq, Eq, Error)]
-pub enum LineFault {
+pub enum EventFault {
     /// No event begins with its first word.
     #[error("no event begins with the first word")]
     NoEvent,
@@ -41,7 +41,7 @@ pub enum LineFault {
     NoTask,
 }
 
-impl LineFault {
+impl EventFault {
     ghost use Rattle.std.specs.Prelude.{◌≡◌};
     ghost use Rattle.event_script.specs.EventScript.{fault_at};
 
@@ -50,7 +50,7 @@ impl LineFault {
         ensures { result ≡ fault_at line self }
     {
         match self {
-            LineFault::NoTask => ScriptFault::TaskName(line),
+            EventFault::NoTask => ScriptFault::TaskName(line),
             _ => ScriptFault::Line(line),
         }
     }

@@ -10,7 +10,7 @@ impl fmt::Display for ScriptFault {
 
     ghost output = { λ fault. Some (script_fault_text fault) };
 
-    /// The number and the name of the fault, and the line (own choice).
+    /// The number and the name of the fault, and the line.
     fn fmt<W: fmt::Write>(&self, f: &mut fmt::Formatter<W>) -> fmt::Result {
         match *self {
             ScriptFault::Line(line) => write!(f, "1 Line {line}"),

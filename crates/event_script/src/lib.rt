@@ -1,4 +1,4 @@
-//! Event scripts: the events that are given to the machine, one on each line of a text (own choice).
+//! Event scripts: the events that are given to the machine, one on each line of a text.
 #![tactic(auto)]
 
 pub mod bad_line;

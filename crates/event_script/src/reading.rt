@@ -4,7 +4,7 @@ ghost use Rattle.std.specs.Prelude.{◌≡◌, ◌+◌, ◌^◌, ◌<◌, ◌≤
 ghost use Rattle.std.specs.List.{slice_split};
 ghost use Rattle.event_script.specs.EventScript.{lines as lines_of, number_in, register_in, operand_count, misfit, alone as alone_of, assigned as assigned_of, at_position as at_position_of, with_one as with_one_of, with_two as with_two_of, event_in, script_parse, script_of};
 
-use crate::fault::{LineFault, ScriptFault};
+use crate::fault::{EventFault, ScriptFault};
 use crate::task_names::TaskNames;
 use machine_model::event::Event;
 use mips_instructions::number::Reg;
@@ -74,19 +74,19 @@ fn operand_count(verb: &[u8]) -> Option<usize>
 /// What is wrong with so many words behind a first word that make no event: that no event begins so, that they
 /// are too few or too many, and else `wrong`.
 #[cold]
-fn misfit(verb: &[u8], count: usize, wrong: LineFault) -> LineFault
+fn misfit(verb: &[u8], count: usize, wrong: EventFault) -> EventFault
     ensures { result ≡ misfit (operand_count verb.now) count wrong }
 {
     match operand_count(verb) {
-        None => LineFault::NoEvent,
-        Some(wanted) if count < wanted => LineFault::TooFew,
-        Some(wanted) if wanted < count => LineFault::TooMany(wanted + 1),
+        None => EventFault::NoEvent,
+        Some(wanted) if count < wanted => EventFault::TooFew,
+        Some(wanted) if wanted < count => EventFault::TooMany(wanted + 1),
         Some(_) => wrong,
     }
 }
 
 /// The event of a word that stands alone.
-fn alone(verb: &[u8]) -> Result<Event, LineFault>
+fn alone(verb: &[u8]) -> Result<Event, EventFault>
     ensures { result ≡ alone_of verb.now }
 {
     if verb == b"retire".as_slice() {
@@ -94,26 +94,26 @@ fn alone(verb: &[u8]) -> Result<Event, LineFault>
     } else if verb == b"fault".as_slice() {
         Ok(Event::Fault)
     } else {
-        Err(misfit(verb, 0, LineFault::NoEvent))
+        Err(misfit(verb, 0, EventFault::NoEvent))
     }
 }
 
 /// The assignment of the task of this name.
-fn assigned(names: &TaskNames, name: &[u8]) -> Result<Event, LineFault>
+fn assigned(names: &TaskNames, name: &[u8]) -> Result<Event, EventFault>
     requires { length names.now ≤ 1024 }
     ensures { result ≡ assigned_of names.now name.now }
 {
     let Some(name) = Name::new(name) else {
-        return Err(LineFault::NoName);
+        return Err(EventFault::NoName);
     };
     match names.number_of(&name) {
         Some(task) => Ok(Event::Assign(task as u32)),
-        None => Err(LineFault::NoTask),
+        None => Err(EventFault::NoTask),
     }
 }
 
 /// The event of a verb and a position.
-fn at_position(verb: &[u8], k: u32) -> Result<Event, LineFault>
+fn at_position(verb: &[u8], k: u32) -> Result<Event, EventFault>
     ensures { result ≡ at_position_of verb.now (Some k) }
 {
     if verb == b"exec".as_slice() {
@@ -123,12 +123,12 @@ fn at_position(verb: &[u8], k: u32) -> Result<Event, LineFault>
     } else if verb == b"drop".as_slice() {
         Ok(Event::Drop(k))
     } else {
-        Err(misfit(verb, 1, LineFault::NoEvent))
+        Err(misfit(verb, 1, EventFault::NoEvent))
     }
 }
 
 /// The event of a verb and one word behind it.
-fn with_one(names: &TaskNames, verb: &[u8], word: &[u8]) -> Result<Event, LineFault>
+fn with_one(names: &TaskNames, verb: &[u8], word: &[u8]) -> Result<Event, EventFault>
     requires { length names.now ≤ 1024 }
     ensures { result ≡ with_one_of names.now verb.now word.now }
 {
@@ -137,12 +137,12 @@ fn with_one(names: &TaskNames, verb: &[u8], word: &[u8]) -> Result<Event, LineFa
     }
     match number_of(word) {
         Some(k) => at_position(verb, k),
-        None => Err(misfit(verb, 1, LineFault::NoPosition)),
+        None => Err(misfit(verb, 1, EventFault::NoPosition)),
     }
 }
 
 /// The event of a verb, a position and a register.
-fn with_both(verb: &[u8], k: u32, register: Reg) -> Result<Event, LineFault>
+fn with_both(verb: &[u8], k: u32, register: Reg) -> Result<Event, EventFault>
     ensures { result ≡ with_two_of verb.now (Some k) (Some register) }
 {
     if verb == b"transfer".as_slice() {
@@ -150,25 +150,25 @@ fn with_both(verb: &[u8], k: u32, register: Reg) -> Result<Event, LineFault>
     } else if verb == b"drain".as_slice() {
         Ok(Event::Drain(k, register))
     } else {
-        Err(misfit(verb, 2, LineFault::NoEvent))
+        Err(misfit(verb, 2, EventFault::NoEvent))
     }
 }
 
 /// The event of a verb and two words behind it.
-fn with_two(verb: &[u8], first: &[u8], second: &[u8]) -> Result<Event, LineFault>
+fn with_two(verb: &[u8], first: &[u8], second: &[u8]) -> Result<Event, EventFault>
     ensures { result ≡ with_two_of verb.now (number_in first.now) (register_in second.now) }
 {
     let Some(k) = number_of(first) else {
-        return Err(misfit(verb, 2, LineFault::NoPosition));
+        return Err(misfit(verb, 2, EventFault::NoPosition));
     };
     match register_of(second) {
         Some(register) => with_both(verb, k, register),
-        None => Err(misfit(verb, 2, LineFault::NoRegister)),
+        None => Err(misfit(verb, 2, EventFault::NoRegister)),
     }
 }
 
 /// The event that a line spells, which is given without its LF.
-pub fn event_of(names: &TaskNames, line: &[u8]) -> Result<Event, LineFault>
+pub fn event_of(names: &TaskNames, line: &[u8]) -> Result<Event, EventFault>
     requires { length names.now ≤ 1024 }
     ensures { result ≡ event_in names.now line.now }
 {
@@ -179,7 +179,7 @@ pub fn event_of(names: &TaskNames, line: &[u8]) -> Result<Event, LineFault>
         return with_one(names, verb, operands);
     };
     if let Some(_) = cut(b' ', second) {
-        return Err(misfit(verb, 3, LineFault::NoEvent));
+        return Err(misfit(verb, 3, EventFault::NoEvent));
     }
     with_two(verb, first, second)
 }

@@ -1,4 +1,4 @@
--- What an event changed, read off the state before it, s, and the state behind it, s' (own choice).
+-- What an event changed, read off the state before it, s, and the state behind it, s'.
 use Rattle.std.specs.Prelude.{ℕ, suc, List, [], ◌∷◌, ◌++◌, Bool, false, nat_eq, not, ◌&&◌, ◌%◌, ◌^◌, if◌then◌else◌, flat_map, length, drop, slice_get, is_some, unwrap_or, Option, Some, None}
 use Rattle.std.specs.List.{range_with_len}
 use Rattle.mips_plain.specs.MemoryMap.{byte_of, effective}

@@ -1,4 +1,4 @@
--- The end of a trace (own choice): how the run stands, the registers of the head that are not 0, as all were at
+-- The end of a trace: how the run stands, the registers of the head that are not 0, as all were at
 -- the start, and the words of data memory that are not what they were at the start.
 use Rattle.std.specs.Prelude.{ℕ, ◌+◌, ◌*◌, List, [], ◌∷◌, ◌++◌, flat_map, nat_eq, if◌then◌else◌, slice_get, Option, Some, None, codes}
 use Rattle.std.specs.List.{range_with_len}

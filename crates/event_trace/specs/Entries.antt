@@ -1,4 +1,4 @@
--- Events one after the other (own choice): the model's answer to each, and what it changed between the states
+-- Events one after the other: the model's answer to each, and what it changed between the states
 -- before and behind it.
 use Rattle.std.specs.Prelude.{◌≡◌, ℕ, suc, List, [], ◌++◌, ◌∷◌, Result, Ok, Err}
 use Rattle.task_descriptor.specs.Listing.{Listing}

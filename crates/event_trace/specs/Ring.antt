@@ -1,4 +1,4 @@
--- The units round the ring (own choice): each keeps its number there, while the head moves on by one at each task
+-- The units round the ring: each keeps its number there, while the head moves on by one at each task
 -- that retires.
 use Rattle.std.specs.Prelude.{ℕ, ◌+◌, ◌%◌, length}
 use Rattle.machine_model.specs.Machine.{State}

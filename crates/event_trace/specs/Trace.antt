@@ -1,4 +1,4 @@
--- A whole trace (own choice).
+-- A whole trace.
 use Rattle.std.specs.Prelude.{ℕ, List, ◌++◌, Result}
 use Rattle.task_descriptor.specs.Listing.{Listing}
 use Rattle.machine_model.specs.Answer.{play}

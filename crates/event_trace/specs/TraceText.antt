@@ -1,4 +1,4 @@
--- The text of a trace (own choice): each event, as a script says it, behind its number and with its answer;
+-- The text of a trace: each event, as a script says it, behind its number and with its answer;
 -- and under it what it changed, one change on a line, with the lines of the program text.
 use Rattle.std.specs.Prelude.{ℕ, List, [], ◌∷◌, ◌++◌, false, flat_map, slice_get, Option, Some, None, codes}
 use Rattle.std.specs.Fmt.{decimal, digits}

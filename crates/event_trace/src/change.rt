@@ -8,7 +8,7 @@ use machine_model::event::Standing;
 use mips_instructions::number::Reg;
 use std::alloc::{AllocError, Global};
 
-/// What an event changed (own choice). A unit is known by its position, which counts from the head of the
+/// What an event changed. A unit is known by its position, which counts from the head of the
 /// queue, the head being 0, and by the number of its task. Instructions are known by their index, and words
 /// are unsigned.
 #[derive(Clone, Copy, Debug, PartialEq, Eq)]

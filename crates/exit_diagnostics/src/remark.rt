@@ -2,7 +2,7 @@
 
 use finding_paths::mark::CostlyMark;
 
-/// What may be forgotten: a way to a task, or a stop (own choice).
+/// What may be forgotten: a way to a task, or a stop.
 #[derive(Clone, Copy, Debug, PartialEq, Eq)]
 pub enum StopRemark {
     /// This task never runs: the program starts elsewhere, and no other task has it as a target.
@@ -16,7 +16,7 @@ pub enum StopRemark {
     GoesInto { task: u32, index: u32, into: u32 },
 }
 
-/// What could be better about the marks of a program (own choice).
+/// What could be better about the marks of a program.
 #[derive(Clone, Copy, Debug, PartialEq, Eq)]
 pub enum Remark {
     /// A stop, or a way to a task, may be forgotten.

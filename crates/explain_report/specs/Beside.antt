@@ -1,4 +1,4 @@
--- What `explain` says of a certificate that is given beside a program (own choice): what is wrong with it alone; or, where
+-- What `explain` says of a certificate that is given beside a program: what is wrong with it alone; or, where
 -- nothing is, that the checker finds more with it than with the least certificate.
 use Rattle.std.specs.Prelude.{◌≡◌, ◌==◌, ℕ, Bool, true, false, nat_lt, if◌then◌else◌, List, [], ◌∷◌, ◌++◌, codes, length, Option, Some, None, Result, Ok, Err}
 use Rattle.std.specs.Fmt.{decimal}

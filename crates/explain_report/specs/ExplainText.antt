@@ -1,4 +1,4 @@
--- The text of `explain` (own choice).
+-- The text of `explain`.
 use Rattle.std.specs.Prelude.{◌≡◌, ℕ, Bool, true, false, List, [], ◌++◌, codes, Option}
 use Rattle.jobs.specs.declared.job.Colors.{Colors}
 use Rattle.jobs.specs.declared.job.Colors.TheVariants as colors

@@ -1,5 +1,5 @@
 -- What `explain` says: what is wrong with a program text, or with the marks of its program, what could be better about
--- them, and what is wrong with a certificate and with an event script that are given beside it (own choice).
+-- them, and what is wrong with a certificate and with an event script that are given beside it.
 use Rattle.std.specs.Prelude.{◌≡◌, ℕ, Bool, true, false, not, ◌&&◌, List, [], ◌∷◌, ◌++◌, Option, Some, None, Result, Ok, Err}
 use Rattle.task_descriptor.specs.Listing.{Listing}
 use Rattle.annotated_asm.specs.declared.fault.AsmFault.{AsmFault}

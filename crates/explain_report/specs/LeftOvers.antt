@@ -1,4 +1,4 @@
--- What is left to mend by hand in the text that `annotate` proposes, as it is said on standard error (own choice).
+-- What is left to mend by hand in the text that `annotate` proposes, as it is said on standard error.
 use Rattle.std.specs.Prelude.{◌≡◌, ◌≢◌, ℕ, nat_eq, if◌then◌else◌, List, [], ◌∷◌, ◌++◌, length, codes, Option, None, Result, Ok, Err, IsSomeAnd}
 use Rattle.std.specs.Fmt.{decimal}
 use Rattle.task_descriptor.specs.Listing.{Listing}

@@ -1,4 +1,4 @@
--- What `explain` writes for tools: with `--format sarif` a log, with `--format json` an object a line (own choice).
+-- What `explain` writes for tools: with `--format sarif` a log, with `--format json` an object a line.
 use Rattle.std.specs.Prelude.{◌≡◌, ℕ, Bool, List, Option}
 use Rattle.program_tokens.specs.Lines.{lines}
 use Rattle.diagnostics.specs.declared.diagnostic.Diagnostic.{Diagnostic}

@@ -11,7 +11,7 @@ use diagnostics::diagnostic::Diagnostic;
 use diagnostics::files::{Files, TextFile};
 use diagnostics::text::text_of;
 use jobs::job::{Colors, Texts};
-use report_texts::report::Report;
+use report_texts::report::JobReport;
 use std::alloc::{AllocError, Global};
 
 /// What `explain` writes of a program text, whose file has this name, with warnings or without, and of the texts of a
@@ -29,7 +29,7 @@ pub fn explain(
     warnings: bool,
     asked: Colors,
     texts: &Texts,
-) -> Result<Report, AllocError>
+) -> Result<JobReport, AllocError>
     ensures { IfOk result (λ report. IsExplainReport name.now (option_map string_bytes cert_file.now)
         (option_map string_bytes script_file.now) warnings asked
         texts.now.program.items texts.now.certificate texts.now.script.items report) }
@@ -58,7 +58,7 @@ pub fn explain(
         explained.said.as_slice(),
     )?;
     write_harm_line(&mut said, explained.has_wrong_marks, name)?;
-    Ok(Report::new(said.into_bytes(), explained.status))
+    Ok(JobReport::new(said.into_bytes(), explained.status))
 }
 
 // Adds the command that looks for a run that goes wrong, where marks are wrong.

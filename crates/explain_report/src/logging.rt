@@ -11,7 +11,7 @@ use diagnostic_log::sarif::log_text;
 use diagnostic_log::text::{LoggedText, LoggedTexts};
 use diagnostics::diagnostic::Diagnostic;
 use jobs::job::Texts;
-use report_texts::report::Report;
+use report_texts::report::JobReport;
 use std::alloc::{AllocError, Global};
 
 /// A form of diagnostics for tools.
@@ -36,7 +36,7 @@ pub fn explain_log(
     script_file: &Option<String>,
     warnings: bool,
     texts: &Texts,
-) -> Result<Report, AllocError>
+) -> Result<JobReport, AllocError>
     ensures { IfOk result (λ report. IsLogReport name.now (option_map string_bytes cert_file.now)
         (option_map string_bytes script_file.now) warnings
         texts.now.program.items texts.now.certificate texts.now.script.items report) }
@@ -64,7 +64,7 @@ pub fn explain_json(
     script_file: &Option<String>,
     warnings: bool,
     texts: &Texts,
-) -> Result<Report, AllocError>
+) -> Result<JobReport, AllocError>
     ensures { IfOk result (λ report. IsJsonReport name.now (option_map string_bytes cert_file.now)
         (option_map string_bytes script_file.now) warnings
         texts.now.program.items texts.now.certificate texts.now.script.items report) }
@@ -89,7 +89,7 @@ fn explain_as(
     script_file: &Option<String>,
     warnings: bool,
     texts: &Texts,
-) -> Result<Report, AllocError>
+) -> Result<JobReport, AllocError>
     ensures { IfOk result (λ report. IsToolReport form name.now (option_map string_bytes cert_file.now)
         (option_map string_bytes script_file.now) warnings
         texts.now.program.items texts.now.certificate texts.now.script.items report) }
@@ -117,7 +117,7 @@ fn explain_as(
         script,
         explained.said.as_slice(),
     )?;
-    Ok(Report::new(written, explained.status))
+    Ok(JobReport::new(written, explained.status))
 }
 
 // What is said of texts in files of these names, in a form for tools.

@@ -1,4 +1,4 @@
--- Which path shows a finding, rule by rule (own choice): where it begins, and what it comes to.
+-- Which path shows a finding, rule by rule: where it begins, and what it comes to.
 use Rattle.std.specs.Prelude.{◌≡◌, ℕ, Bool, true, false, List, Option, Some, None}
 use Rattle.task_descriptor.specs.Listing.{Listing}
 use Rattle.task_graph.specs.Edges.{Path}

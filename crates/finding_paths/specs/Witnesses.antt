@@ -1,7 +1,7 @@
 -- What a witness is: a path along inner edges, told by the indices that it comes to.
 --
 -- Inner edges and paths are those of the task (the stop marks of Sohi, Breach, Vijaykumar,
--- "Multiscalar Processors", ISCA 1995, section 2.2, say where it ends); witnesses are own choice.
+-- "Multiscalar Processors", ISCA 1995, section 2.2, say where it ends); witnesses are this project's choice.
 use Rattle.std.specs.Prelude.{◌≡◌, ℕ, Bool, true, false, nat_eq, List, [], ◌∷◌, ◌++◌, length, ◌≤◌, slice_get, Option, Some, None}
 use Rattle.mips_instructions.specs.Instruction.{dests}
 use Rattle.task_descriptor.specs.Listing.{Listing}

@@ -2,7 +2,7 @@
 
 use mips_instructions::number::Reg;
 
-/// A mark that costs speed, or code that no task reaches (own choice).
+/// A mark that costs speed, or code that no task reaches.
 #[derive(Clone, Copy, Debug, PartialEq, Eq)]
 pub enum CostlyMark {
     /// The create mask of this task, which has a target, has the register, and no instruction that the task

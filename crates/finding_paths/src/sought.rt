@@ -2,7 +2,7 @@
 
 use mips_instructions::number::Reg;
 
-/// The instruction that a path is to come to (own choice).
+/// The instruction that a path is to come to.
 #[derive(Clone, Copy, Debug, PartialEq, Eq)]
 pub enum Sought {
     /// The instruction at this index.

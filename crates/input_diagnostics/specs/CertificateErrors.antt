@@ -1,4 +1,4 @@
--- What is wrong with a certificate that is given beside a program (own choice).
+-- What is wrong with a certificate that is given beside a program.
 use Rattle.std.specs.Prelude.{◌≡◌, ℕ, List, [], Result, Ok, Err}
 use Rattle.task_descriptor.specs.Listing.{Listing}
 use Rattle.mask_certificate.specs.declared.fault.CertFault.{CertFault}

@@ -1,4 +1,4 @@
--- What is meant by a word that is wrong (own choice).
+-- What is meant by a word that is wrong.
 use Rattle.std.specs.Prelude.{ℕ, List, [], ◌∷◌, length, find, nat_lt, if◌then◌else◌, Option, Some, None, Result, Ok, Err}
 use Rattle.std.specs.Option.{option_or}
 use Rattle.std.specs.Str.{str_eq_ignore_ascii_case}

@@ -1,5 +1,4 @@
--- What is said of a certificate that does not fit its program: of the findings of the rules 1 to 4, which judge it alone
--- (own choice).
+-- What is said of a certificate that does not fit its program: of the findings of the rules 1 to 4, which judge it alone.
 use Rattle.std.specs.Prelude.{ℕ, zero, suc, ◌+◌, ◌-◌, ◌^◌, min, Bool, true, false, ◌&&◌, ◌||◌, ◌==◌, nat_lt, nat_le, if◌then◌else◌, List, [], ◌∷◌, ◌++◌, length, take, drop, filter, slice_get, position, bit_or, codes, unwrap_or, Option, Some, None}
 use Rattle.std.specs.Fmt.{decimal}
 use Rattle.std.specs.List.{take_while}

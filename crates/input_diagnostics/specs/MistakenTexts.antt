@@ -1,4 +1,4 @@
--- A certificate or a script of events that is given as a program (own choice).
+-- A certificate or a script of events that is given as a program.
 use Rattle.std.specs.Prelude.{ℕ, List, [], length, nat_eq, codes, if◌then◌else◌, Option, Some, None}
 use Rattle.std.specs.List.{list_any, starts_with}
 use Rattle.std.specs.Str.{bytes_eq}

@@ -1,4 +1,4 @@
--- What the diagnostics about a certificate and about an event script have in common (own choice).
+-- What the diagnostics about a certificate and about an event script have in common.
 use Rattle.std.specs.Prelude.{ℕ, ◌+◌, ◌-◌, min, List, [], length, slice_get, unwrap_or, codes, Some}
 use Rattle.diagnostics.specs.declared.code.Code.{Code}
 use Rattle.diagnostics.specs.declared.diagnostic.Diagnostic.{Diagnostic}

@@ -1,4 +1,4 @@
--- What is wrong with the text of an event script (own choice).
+-- What is wrong with the text of an event script.
 use Rattle.std.specs.Prelude.{ℕ, ◌+◌, ◌-◌, Bool, true, false, not, ◌&&◌, ◌||◌, ◌==◌, nat_eq, if◌then◌else◌, List, [], ◌∷◌, ◌++◌, length, take, position, slice_get, slice_index, codes, is_some, Option, Some, None, Result, Ok, Err}
 use Rattle.std.specs.List.{starts_with}
 use Rattle.std.specs.Str.{byte, bytes_eq}
@@ -6,8 +6,8 @@ use Rattle.canonical_text.specs.CanonicalText.{register_text}
 use Rattle.task_descriptor.specs.Listing.{Listing}
 use Rattle.event_script.specs.EventScript.{LinePart, is_space, is_number, first_word, wrong_part, lines, names_in, bad_lines}
 use Rattle.event_script.specs.declared.bad_line.BadLine.{BadLine}
-use Rattle.event_script.specs.declared.fault.LineFault.{LineFault}
-use Rattle.event_script.specs.declared.fault.LineFault.TheVariants.{NoEvent, TooFew, TooMany, NoPosition, NoRegister, NoName, NoTask}
+use Rattle.event_script.specs.declared.fault.EventFault.{EventFault}
+use Rattle.event_script.specs.declared.fault.EventFault.TheVariants.{NoEvent, TooFew, TooMany, NoPosition, NoRegister, NoName, NoTask}
 use Rattle.diagnostics.specs.declared.code.Code.{Code}
 use Rattle.diagnostics.specs.declared.code.Code.TheVariants.{ScriptLine, ScriptTaskName}
 use Rattle.diagnostics.specs.declared.diagnostic.Diagnostic.{Diagnostic}
@@ -82,30 +82,30 @@ abbrev pub position_slip : (register : Option ℕ) → (after : List ℕ) → Sl
 position_slip None after = Word NoPosition
 position_slip (Some r) after = if is_number after then Exchanged r else Word NoPosition
 
-abbrev pub word_slip : (line : List ℕ) → LineFault → Slip
+abbrev pub word_slip : (line : List ℕ) → EventFault → Slip
 word_slip line NoRegister = register_slip (register_meant (wrong_part NoRegister line).bytes)
 word_slip line NoPosition = position_slip (register_meant (wrong_part NoPosition line).bytes) (wrong_part NoRegister line).bytes
 word_slip line fault = Word fault
 
-abbrev pub space_slip : (space : Option ℕ) → (line : List ℕ) → LineFault → Slip
+abbrev pub space_slip : (space : Option ℕ) → (line : List ℕ) → EventFault → Slip
 space_slip None line fault = word_slip line fault
 space_slip (Some before) line fault = Space before
 
-abbrev pub comma_slip : (comma : Option ℕ) → (line : List ℕ) → LineFault → Slip
+abbrev pub comma_slip : (comma : Option ℕ) → (line : List ℕ) → EventFault → Slip
 comma_slip None line fault = space_slip (stray_space false 0 line) line fault
 comma_slip (Some before) line fault = Comma before
 
-abbrev pub tab_slip : (tab : Option ℕ) → (line : List ℕ) → LineFault → Slip
+abbrev pub tab_slip : (tab : Option ℕ) → (line : List ℕ) → EventFault → Slip
 tab_slip None line fault = comma_slip (position is_comma line) line fault
 tab_slip (Some before) line fault = Tab before
 
-abbrev pub slip_by : (strict : Option ℕ) → (line : List ℕ) → LineFault → Slip
+abbrev pub slip_by : (strict : Option ℕ) → (line : List ℕ) → EventFault → Slip
 slip_by None line fault = tab_slip (position is_tab line) line fault
 slip_by (Some before) line fault = Strict before
 
 -- an empty line, else a byte order mark, else what only `replay --strict` reads, else a tab, a comma or a space that is too
 -- much, else a word
-abbrev pub slip_of : (line : List ℕ) → LineFault → Slip
+abbrev pub slip_of : (line : List ℕ) → EventFault → Slip
 slip_of line fault =
     if length line == 0 then Empty
     else (if has_byte_order_mark line then ByteOrderMark
@@ -126,7 +126,7 @@ slip_span n line (Exchanged r) = span n 0 (length line)
 slip_span n line (Word fault) = part_span n (wrong_part fault line)
 
 -- what is wrong with a word; of too few and too many words no word is named
-abbrev pub word_message : LineFault → (word : List ℕ) → List ℕ
+abbrev pub word_message : EventFault → (word : List ℕ) → List ℕ
 word_message NoEvent word = quoted word ++ codes " begins no event"
 word_message TooFew word = codes "a word is missing here"
 word_message (TooMany words) word = codes "this is more than the event takes"
@@ -156,13 +156,13 @@ abbrev pub meant_help : Span → (words : List ℕ) → (one : Option (List ℕ)
 meant_help at words None = in_words words
 meant_help at words (Some one) = by_text (codes "did you mean " ++ (one ++ codes "?")) at one
 
-abbrev pub word_help : LineFault → (line : List ℕ) → List ℕ
+abbrev pub word_help : EventFault → (line : List ℕ) → List ℕ
 word_help NoPosition line = codes "write a number from 0 to 999 without leading zeros"
 word_help NoRegister line = codes "write $ and the register's number, from $0 to $33, without leading zeros"
 word_help NoName line = name_help
 word_help _ line = form_help (first_word line)
 
-abbrev pub word_remedy : Listing → Span → (line : List ℕ) → LineFault → Help
+abbrev pub word_remedy : Listing → Span → (line : List ℕ) → EventFault → Help
 word_remedy p at line NoTask = meant_help at name_help (meant (wrong_part NoTask line).bytes (names_in p.tasks))
 word_remedy p at line NoEvent = meant_help at (form_help (first_word line)) (meant (first_word line) verbs)
 word_remedy p at line fault = in_words (word_help fault line)
@@ -201,7 +201,7 @@ slip_help p at line (Named r) = register_help at r
 slip_help p at line (Exchanged r) = exchanged_help at (first_word line) (wrong_part NoRegister line).bytes r
 slip_help p at line (Word fault) = word_remedy p at line fault
 
-abbrev pub code_of : LineFault → Code
+abbrev pub code_of : EventFault → Code
 code_of NoTask = ScriptTaskName
 code_of _ = ScriptLine
 

@@ -10,7 +10,7 @@ use diagnostics::listed::Listed;
 use diagnostics::words::Words;
 use std::alloc::{AllocError, Global};
 
-/// The most diagnostics that are shown of one text; of any more it is said how many they are (own choice).
+/// The most diagnostics that are shown of one text; of any more it is said how many they are.
 pub(crate) const MOST_SHOWN: usize = 1_000;
 
 /// An error.

@@ -3,7 +3,7 @@
 ghost use Rattle.std.specs.Prelude.{◌≡◌, ◌↔◌, ◌<◌, ◌^◌, ◌++◌, ◌∷◌, [], if◌then◌else◌, length, map as each, false, slice_get, IfOk, OnOk};
 ghost use Rattle.std.specs.Option.{option_map};
 ghost use Rattle.event_script.specs.EventScript.{first_word, names_in, script_of, wrong_part};
-ghost use Rattle.event_script.specs.declared.fault.LineFault.TheVariants.{NoRegister};
+ghost use Rattle.event_script.specs.declared.fault.EventFault.TheVariants.{NoRegister};
 ghost use Rattle.diagnostics.specs.Helps.{by_text};
 ghost use Rattle.diagnostics.specs.declared.code.Code.TheVariants.{ScriptLine};
 ghost use Rattle.diagnostics.specs.declared.diagnostic.Source.TheVariants.{Script};
@@ -22,7 +22,7 @@ use diagnostics::quotation::{as_shown, quoted};
 use diagnostics::words;
 use diagnostics::words::Words;
 use event_script::bad_line::{BadLine, bad_lines, first_word};
-use event_script::fault::LineFault;
+use event_script::fault::EventFault;
 use event_script::laws::refused_for_the_first;
 use std::alloc::{AllocError, Global};
 use task_descriptor::program::Program;
@@ -61,7 +61,7 @@ fn form_help(verb: &[u8]) -> &'static str
 }
 
 /// The part of a line that has a fault.
-fn part_span(number: usize, line: &[u8], fault: LineFault) -> Span
+fn part_span(number: usize, line: &[u8], fault: EventFault) -> Span
     ensures { result ≡ part_span number (wrong_part fault line.now) }
 {
     let (before, bytes) = fault.part_of(line);
@@ -79,25 +79,25 @@ fn slip_span(number: usize, line: &[u8], slip: Slip) -> Span
         Slip::Tab(before) => span(number, before, 1),
         Slip::Comma(before) => span(number, before, 1),
         Slip::Space(before) => span(number, before, 1),
-        Slip::Named(_) => part_span(number, line, LineFault::NoRegister),
+        Slip::Named(_) => part_span(number, line, EventFault::NoRegister),
         Slip::Exchanged(_) => span(number, 0, line.len()),
         Slip::Word(fault) => part_span(number, line, fault),
     }
 }
 
 /// What is wrong with a word.
-fn word_message(alloc: Global, fault: LineFault, word: &[u8]) -> Result<Words, AllocError>
+fn word_message(alloc: Global, fault: EventFault, word: &[u8]) -> Result<Words, AllocError>
     ensures { IfOk result (λ words. words ≡ word_message fault word.now) }
 {
     let word = quoted(alloc, word)?;
     match fault {
-        LineFault::NoEvent => words!(in alloc; "{word} begins no event"),
-        LineFault::TooFew => Words::of(alloc, "a word is missing here"),
-        LineFault::TooMany(_) => Words::of(alloc, "this is more than the event takes"),
-        LineFault::NoPosition => words!(in alloc; "{word} is not a position"),
-        LineFault::NoRegister => words!(in alloc; "{word} is not a register"),
-        LineFault::NoName => words!(in alloc; "{word} cannot be the name of a task"),
-        LineFault::NoTask => words!(in alloc; "the program has no task {word}"),
+        EventFault::NoEvent => words!(in alloc; "{word} begins no event"),
+        EventFault::TooFew => Words::of(alloc, "a word is missing here"),
+        EventFault::TooMany(_) => Words::of(alloc, "this is more than the event takes"),
+        EventFault::NoPosition => words!(in alloc; "{word} is not a position"),
+        EventFault::NoRegister => words!(in alloc; "{word} is not a register"),
+        EventFault::NoName => words!(in alloc; "{word} cannot be the name of a task"),
+        EventFault::NoTask => words!(in alloc; "the program has no task {word}"),
     }
 }
 
@@ -138,15 +138,15 @@ fn meant_help(alloc: Global, at: Span, words: &str, one: Option<&str>) -> Result
 }
 
 /// What to do about a word.
-fn word_help(fault: LineFault, line: &[u8]) -> &'static str
+fn word_help(fault: EventFault, line: &[u8]) -> &'static str
     ensures { result.now ≡ word_help fault line.now }
 {
     match fault {
-        LineFault::NoPosition => "write a number from 0 to 999 without leading zeros",
-        LineFault::NoRegister => {
+        EventFault::NoPosition => "write a number from 0 to 999 without leading zeros",
+        EventFault::NoRegister => {
             "write $ and the register's number, from $0 to $33, without leading zeros"
         }
-        LineFault::NoName => NAME_HELP,
+        EventFault::NoName => NAME_HELP,
         _ => form_help(first_word(line)),
     }
 }
@@ -157,17 +157,17 @@ fn word_remedy(
     program: &Program,
     at: Span,
     line: &[u8],
-    fault: LineFault,
+    fault: EventFault,
 ) -> Result<Help, AllocError>
     ensures { IfOk result (λ help. help ≡ word_remedy program.now at line.now fault) }
 {
     match fault {
-        LineFault::NoTask => {
+        EventFault::NoTask => {
             let (_, word) = fault.part_of(line);
             let names = names_of(alloc, program.tasks())?;
             meant_help(alloc, at, NAME_HELP, meant(word, &names))
         }
-        LineFault::NoEvent => {
+        EventFault::NoEvent => {
             let verb = first_word(line);
             meant_help(alloc, at, form_help(verb), meant(verb, &VERBS))
         }
@@ -238,7 +238,7 @@ fn event_text(
 fn exchanged_help(alloc: Global, at: Span, line: &[u8], register: u8) -> Result<Help, AllocError>
     ensures { IfOk result (λ help. help ≡ exchanged_help at (first_word line.now) (wrong_part NoRegister line.now).bytes register) }
 {
-    let (_, position) = LineFault::NoRegister.part_of(line);
+    let (_, position) = EventFault::NoRegister.part_of(line);
     let text = event_text(alloc, first_word(line), position, register)?;
     by_text(alloc, words!(in alloc; "write {text}")?, at, text)
 }
@@ -279,11 +279,11 @@ fn slip_help(
 }
 
 /// What a diagnostic is an instance of.
-fn code_of(fault: LineFault) -> Code
+fn code_of(fault: EventFault) -> Code
     ensures { result ≡ code_of fault }
 {
     match fault {
-        LineFault::NoTask => Code::ScriptTaskName,
+        EventFault::NoTask => Code::ScriptTaskName,
         _ => Code::ScriptLine,
     }
 }

@@ -8,7 +8,7 @@ ghost use Rattle.input_diagnostics.specs.ScriptErrors.{event_end, strict_part, s
 
 use crate::meant::register_meant;
 use event_script::bad_line::first_word;
-use event_script::fault::LineFault;
+use event_script::fault::EventFault;
 use mips_instructions::number::Reg;
 use std::alloc::{AllocError, Global};
 
@@ -32,7 +32,7 @@ pub enum Slip {
     /// Its second word is the register of this number, and its third a position.
     Exchanged(u8),
     /// A word in it is wrong, missing, or too much.
-    Word(LineFault),
+    Word(EventFault),
 }
 
 /// Whether a slip is what only `replay --strict` reads.
@@ -131,7 +131,7 @@ fn register_slip(register: Option<Reg>) -> Slip
 {
     match register {
         Some(register) => Slip::Named(register.get()),
-        None => Slip::Word(LineFault::NoRegister),
+        None => Slip::Word(EventFault::NoRegister),
     }
 }
 
@@ -141,22 +141,22 @@ fn position_slip(register: Option<Reg>, after: &[u8]) -> Slip
 {
     match register {
         Some(register) if is_number(after) => Slip::Exchanged(register.get()),
-        _ => Slip::Word(LineFault::NoPosition),
+        _ => Slip::Word(EventFault::NoPosition),
     }
 }
 
 /// What is wrong with a word of a line.
-fn word_slip(alloc: Global, line: &[u8], fault: LineFault) -> Result<Slip, AllocError>
+fn word_slip(alloc: Global, line: &[u8], fault: EventFault) -> Result<Slip, AllocError>
     ensures { IfOk result (λ slip. slip ≡ word_slip line.now fault) }
 {
     match fault {
-        LineFault::NoRegister => {
+        EventFault::NoRegister => {
             let (_, word) = fault.part_of(line);
             Ok(register_slip(register_meant(alloc, word)?))
         }
-        LineFault::NoPosition => {
+        EventFault::NoPosition => {
             let (_, word) = fault.part_of(line);
-            let (_, after) = LineFault::NoRegister.part_of(line);
+            let (_, after) = EventFault::NoRegister.part_of(line);
             Ok(position_slip(register_meant(alloc, word)?, after))
         }
         _ => Ok(Slip::Word(fault)),
@@ -164,7 +164,7 @@ fn word_slip(alloc: Global, line: &[u8], fault: LineFault) -> Result<Slip, Alloc
 }
 
 /// What is wrong with the spaces of a line, or else with a word.
-fn space_slip(alloc: Global, line: &[u8], fault: LineFault) -> Result<Slip, AllocError>
+fn space_slip(alloc: Global, line: &[u8], fault: EventFault) -> Result<Slip, AllocError>
     ensures { IfOk result (λ slip. slip ≡ space_slip (stray_space false 0 line.now) line.now fault) }
 {
     match stray_space(line) {
@@ -174,7 +174,7 @@ fn space_slip(alloc: Global, line: &[u8], fault: LineFault) -> Result<Slip, Allo
 }
 
 /// What is wrong with the commas of a line, or else with its spaces or a word.
-fn comma_slip(alloc: Global, line: &[u8], fault: LineFault) -> Result<Slip, AllocError>
+fn comma_slip(alloc: Global, line: &[u8], fault: EventFault) -> Result<Slip, AllocError>
     ensures { IfOk result (λ slip. slip ≡ comma_slip (position is_comma line.now) line.now fault) }
 {
     match comma_in(line) {
@@ -184,7 +184,7 @@ fn comma_slip(alloc: Global, line: &[u8], fault: LineFault) -> Result<Slip, Allo
 }
 
 /// What is wrong with the tabs of a line, or else with its commas, its spaces or a word.
-fn tab_slip(alloc: Global, line: &[u8], fault: LineFault) -> Result<Slip, AllocError>
+fn tab_slip(alloc: Global, line: &[u8], fault: EventFault) -> Result<Slip, AllocError>
     ensures { IfOk result (λ slip. slip ≡ tab_slip (position is_tab line.now) line.now fault) }
 {
     match tab_in(line) {
@@ -194,7 +194,7 @@ fn tab_slip(alloc: Global, line: &[u8], fault: LineFault) -> Result<Slip, AllocE
 }
 
 /// What is wrong with a line that has this fault.
-pub(crate) fn slip_of(alloc: Global, line: &[u8], fault: LineFault) -> Result<Slip, AllocError>
+pub(crate) fn slip_of(alloc: Global, line: &[u8], fault: EventFault) -> Result<Slip, AllocError>
     ensures { IfOk result (λ slip. slip ≡ slip_of line.now fault) }
 {
     if line.is_empty() {

@@ -1,4 +1,4 @@
--- Which files a job has: its program, then its certificate if it has one, then its script if it has one (own choice).
+-- Which files a job has: its program, then its certificate if it has one, then its script if it has one.
 use Rattle.std.specs.Prelude.{◌≡◌, Bool, true, false, [], is_some}
 use Rattle.std.specs.String.{string_bytes}
 use Rattle.jobs.specs.declared.job.CertificateSource.{CertificateSource}

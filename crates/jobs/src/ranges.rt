@@ -100,7 +100,7 @@ impl Units {
     }
 }
 
-/// How many threads share a check or serve a run, 1..=16 (own choice).
+/// How many threads share a check or serve a run, 1..=16.
 #[derive(Clone, Copy, Debug, PartialEq, Eq)]
 pub struct Workers {
     count: u32,

@@ -1,4 +1,4 @@
--- The number and the name of why an event is refused, and the register that is waited for (own choice).
+-- The number and the name of why an event is refused, and the register that is waited for.
 use Rattle.std.specs.Prelude.{ℕ, List, [], ◌++◌, codes}
 use Rattle.std.specs.Fmt.{decimal}
 use Rattle.machine_model.specs.declared.event.Refused.{Refused}

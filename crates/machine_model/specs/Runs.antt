@@ -1,4 +1,4 @@
--- Runs of equal events, as a history keeps them (own choice).
+-- Runs of equal events, as a history keeps them.
 use Rattle.std.specs.Prelude.{List, flat_map, replicate}
 use Rattle.machine_model.specs.declared.event.Event.{Event}
 use Rattle.machine_model.specs.declared.event.EventRun.{EventRun}

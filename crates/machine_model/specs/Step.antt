@@ -1,5 +1,5 @@
 -- The machine step: when each event is allowed and what it leaves (ISCA 1995, sections 2.1 and 2.2;
--- that a step is one instruction or one register, and what waits for the head, are own choices).
+-- that a step is one instruction or one register, and what waits for the head, are this project's choices).
 use Rattle.std.specs.Prelude.{◌≡◌, ℕ, suc, ◌<◌, ◌⊎◌, List, [], ◌∷◌, ◌++◌, Bool, true, false, ◌&&◌, nat_eq, if◌then◌else◌, length, take, slice_get, slice_set, IsSome, Option, Some, None}
 use Rattle.std.specs.List.{list_any, last_or}
 use Rattle.std.specs.Option.{option_or, unwrap_or}

@@ -26,7 +26,7 @@ pub enum Event {
     Drop(u32),
 }
 
-/// Equal events in a row, as a history keeps them (own choice).
+/// Equal events in a row, as a history keeps them.
 #[derive(Clone, Copy, Debug, PartialEq, Eq)]
 pub struct EventRun {
     /// The event.

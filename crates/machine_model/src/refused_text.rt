@@ -41,7 +41,7 @@ impl fmt::Display for Refused {
 
     ghost output = { λ refused. Some (refusal_text refused) };
 
-    /// The number and the name of the refusal, and the register that is waited for (own choice).
+    /// The number and the name of the refusal, and the register that is waited for.
     fn fmt<W: fmt::Write>(&self, f: &mut fmt::Formatter<W>) -> fmt::Result {
         let (number, name) = self.number_and_name();
         match *self {

@@ -4,7 +4,7 @@ use mips_instructions::number::Reg;
 use std::marker::Model;
 
 /// The twelve rules (the create mask, forward, release and stop marks are those of Sohi, Breach,
-/// Vijaykumar, "Multiscalar Processors", ISCA 1995, section 2.2; the rules on masks are own choice).
+/// Vijaykumar, "Multiscalar Processors", ISCA 1995, section 2.2; the rules on masks are this project's choice).
 #[derive(Clone, Copy, Debug, PartialEq, Eq)]
 pub enum Rule {
     /// 1: the task's entry has no mask.

@@ -37,7 +37,7 @@ use std::alloc::{AllocError, Global};
 use task_descriptor::program::Program;
 
 /// The most diagnostics that are shown of what is wrong with the marks of a program, or could be better; of any more it
-/// is said how many they are (own choice).
+/// is said how many they are.
 pub const MOST_SHOWN: usize = 1_000;
 
 /// The code of a rule.

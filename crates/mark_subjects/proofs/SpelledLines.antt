@@ -12,7 +12,7 @@ use Rattle.std.proofs.lemmas.Str.Ascii.{IsAscii-nil, IsAscii-cons, IsAscii-more}
 use Rattle.program_tokens.specs.declared.token.Token.{Token}
 use Rattle.program_tokens.specs.declared.token.LineFault.{LineFault}
 use Rattle.program_tokens.specs.declared.token.LineFault.TheVariants as fault
-use Rattle.program_tokens.specs.declared.span.Span.{Span}
+use Rattle.program_tokens.specs.declared.span.TokenSpan.{TokenSpan}
 use Rattle.program_tokens.specs.Grammar.{is_text_byte, tokens_after, line_tokens}
 use Rattle.mark_subjects.specs.Spellings.{word_at}
 
@@ -48,6 +48,6 @@ read_ascii line tokens h =
     stripped_ascii line (slice_index line (length line - 1) == 13) refl
     (text_ascii text (all_text (list_all is_text_byte text) (tokens_after 0 text) tokens h))
 
-pub word_utf8 : (line : List ℕ) (place : Span) → IsAscii line → IsUtf8 (word_at line place)
+pub word_utf8 : (line : List ℕ) (place : TokenSpan) → IsAscii line → IsUtf8 (word_at line place)
 word_utf8 line place h =
     IsUtf8-from_ascii (word_at line place) (IsAscii-take (drop (place.column - 1) line) place.len (IsAscii-drop line (place.column - 1) h))

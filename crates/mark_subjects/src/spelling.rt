@@ -12,26 +12,26 @@ use diagnostics::words;
 use diagnostics::words::Words;
 use mips_instructions::number::Reg;
 use program_tokens::line::line_tokens;
-use program_tokens::span::{Span, read_spans};
+use program_tokens::span::{TokenSpan, read_spans};
 use program_tokens::token::{Token, TokenFault};
 use std::alloc::{AllocError, Global};
 
 /// A register of the text, and how it is written there.
 #[derive(Drop)]
-pub struct Spelling {
+pub struct RegisterSpelling {
     pub register: Reg,
     pub word: Words,
 }
 
 /// The bytes of the token that stands there.
-fn bytes_at(line: &[u8], place: Span) -> &[u8]
+fn bytes_at(line: &[u8], place: TokenSpan) -> &[u8]
     ensures { result.now ≡ word_at line.now place }
 {
     first_of(rest_after(line, place.column.saturating_sub(1)), place.len)
 }
 
 /// The token that stands there: its bytes are ASCII.
-fn word_at(line: &[u8], place: Span) -> &str
+fn word_at(line: &[u8], place: TokenSpan) -> &str
     requires { IsAscii line.now }
     ensures { result.now ≡ word_at line.now place }
 {
@@ -54,10 +54,10 @@ fn register_of(token: &Token) -> Option<Reg>
 /// Adds a register of a line, if it is there.
 fn add_spelling(
     alloc: Global,
-    list: &mut Vec<Spelling>,
+    list: &mut Vec<RegisterSpelling>,
     line: &[u8],
     register: Option<Reg>,
-    place: Option<&Span>,
+    place: Option<&TokenSpan>,
 ) -> Made<()>
     requires { IsAscii line.now }
     ensures { OnOk result (list.new.items ≡ list.old.items ++ spelled_at line.now register (option_copied place.entry)) }
@@ -65,7 +65,7 @@ fn add_spelling(
     if let Some(register) = register {
         if let Some(place) = place {
             let word = Words::of(alloc, word_at(line, *place))?;
-            list.push(Spelling { register, word })?;
+            list.push(RegisterSpelling { register, word })?;
         }
     }
     Ok(())
@@ -74,10 +74,10 @@ fn add_spelling(
 /// Adds the registers among the tokens of a line.
 fn add_spellings(
     alloc: Global,
-    list: &mut Vec<Spelling>,
+    list: &mut Vec<RegisterSpelling>,
     line: &[u8],
     tokens: &[Token],
-    places: &[Span],
+    places: &[TokenSpan],
 ) -> Made<()>
     requires { IsAscii line.now }
     ensures { OnOk result (list.new.items ≡ list.old.items ++ spelled_by line.now tokens.now places.now) }
@@ -93,7 +93,7 @@ fn add_spellings(
 }
 
 /// Where the tokens of a line stand.
-fn places_of(alloc: Global, line: &[u8]) -> Made<Vec<Span>>
+fn places_of(alloc: Global, line: &[u8]) -> Made<Vec<TokenSpan>>
     ensures { IfOk result (λ places. places.items ≡ line_spans line.now) }
 {
     let mut places = Vec::new(alloc);
@@ -102,7 +102,7 @@ fn places_of(alloc: Global, line: &[u8]) -> Made<Vec<Span>>
 }
 
 /// Adds the registers of a line.
-fn add_line(alloc: Global, list: &mut Vec<Spelling>, line: &[u8]) -> Made<()>
+fn add_line(alloc: Global, list: &mut Vec<RegisterSpelling>, line: &[u8]) -> Made<()>
     ensures { OnOk result (list.new.items ≡ list.old.items ++ spelled_in line.now) }
 {
     match line_tokens(alloc, line) {
@@ -117,7 +117,7 @@ fn add_line(alloc: Global, list: &mut Vec<Spelling>, line: &[u8]) -> Made<()>
 }
 
 /// The registers that a text writes, in its order.
-fn spellings_of(alloc: Global, rows: &[&[u8]]) -> Made<Vec<Spelling>>
+fn spellings_of(alloc: Global, rows: &[&[u8]]) -> Made<Vec<RegisterSpelling>>
     ensures { IfOk result (λ list. list.items ≡ spelled (each (λ row. row.now) rows.now)) }
 {
     let mut list = Vec::new(alloc);
@@ -139,7 +139,7 @@ fn numbered(alloc: Global, number: u8) -> Made<Words>
 }
 
 /// A register as it is written first; by its number, or its name, where it is not written.
-fn first_spelling(alloc: Global, list: &[Spelling], number: u8) -> Made<Words>
+fn first_spelling(alloc: Global, list: &[RegisterSpelling], number: u8) -> Made<Words>
     ensures { IfOk result (λ words. words ≡ first_spelling list.now number) }
 {
     let mut rest = list;

@@ -17,8 +17,8 @@ use Rattle.std.proofs.Math.Nat.{pow-suc}
 use Rattle.task_descriptor.specs.Names.{is_name, continues_name, begins}
 use Rattle.mask_certificate.specs.declared.fault.CertFault.{CertFault}
 use Rattle.mask_certificate.specs.declared.fault.CertFault.TheVariants.{TaskName, Shape}
-use Rattle.mask_certificate.specs.declared.fault.Spelling.{Spelling}
-use Rattle.mask_certificate.specs.declared.fault.Spelling.TheVariants.{Narrow, Wide}
+use Rattle.mask_certificate.specs.declared.fault.MaskSpelling.{MaskSpelling}
+use Rattle.mask_certificate.specs.declared.fault.MaskSpelling.TheVariants.{Narrow, Wide}
 use Rattle.mask_certificate.specs.declared.certificate.ListFault.{ListFault}
 use Rattle.mask_certificate.specs.Lists.{first_fault, fault_in, Rises, IsCertificate}
 use Rattle.mask_certificate.specs.CertificateText.{hexadecimal, entry_text, task_text, tasks_text, cert_text, mask_digits, spelled}
@@ -130,7 +130,7 @@ hexadecimal_read (suc k) n =
           ∙ omega arith;
     }
 
-pub mask_read : (spelling : Spelling) (n : ℕ) → n < 2 ^ 34 → n < 16 ^ mask_digits spelling → mask_in spelling (hexadecimal (mask_digits spelling) n) ≡ Some n
+pub mask_read : (spelling : MaskSpelling) (n : ℕ) → n < 2 ^ 34 → n < 16 ^ mask_digits spelling → mask_in spelling (hexadecimal (mask_digits spelling) n) ≡ Some n
 mask_read spelling n small short =
     let ds = hexadecimal (mask_digits spelling) n in
     let hex = hexadecimal_read (mask_digits spelling) n in
@@ -141,15 +141,15 @@ mask_read spelling n small short =
 
 -- ---- lines
 
-line_read : (spelling : Spelling) (line more : List ℕ) → Clean is_newline line → lines_in spelling (line ++ 10 ∷ more) ≡ judged spelling line ∷ lines_in spelling more
+line_read : (spelling : MaskSpelling) (line more : List ℕ) → Clean is_newline line → lines_in spelling (line ++ 10 ∷ more) ≡ judged spelling line ∷ lines_in spelling more
 line_read spelling line more clean =
     lines_more spelling (line ++ 10 ∷ more) line more (slice_split_at is_newline line 10 more (All-from_recursion (λ x. is_newline x ≡ false) line clean) refl)
 
 -- an entry that has a text
-abbrev pub Fits : Spelling → ℕ × ℕ → Type 0
+abbrev pub Fits : MaskSpelling → ℕ × ℕ → Type 0
 Fits spelling entry = (entry.0 < 100000) × (entry.1 < 2 ^ 34) × (entry.1 < 16 ^ mask_digits spelling)
 
-entry_judged : (spelling : Spelling) (entry : ℕ × ℕ) → Fits spelling entry → judged spelling (decimal entry.0 ++ 32 ∷ hexadecimal (mask_digits spelling) entry.1) ≡ entry_line entry
+entry_judged : (spelling : MaskSpelling) (entry : ℕ × ℕ) → Fits spelling entry → judged spelling (decimal entry.0 ++ 32 ∷ hexadecimal (mask_digits spelling) entry.1) ≡ entry_line entry
 entry_judged spelling entry fits =
     let index = index_read entry.0 (omega (arith, fits.0)) in
     let mask = hexadecimal (mask_digits spelling) entry.1 in
@@ -161,7 +161,7 @@ entry_judged spelling entry fits =
     ∙ ap (both (Some entry.0)) (mask_read spelling entry.1 fits.1 fits.2) in
     ap (λ o. judged_by o (name_in line)) is
 
-pub entry_read : (spelling : Spelling) (entry : ℕ × ℕ) (more : List ℕ) → Fits spelling entry → lines_in spelling (entry_text spelling entry ++ more) ≡ entry_line entry ∷ lines_in spelling more
+pub entry_read : (spelling : MaskSpelling) (entry : ℕ × ℕ) (more : List ℕ) → Fits spelling entry → lines_in spelling (entry_text spelling entry ++ more) ≡ entry_line entry ∷ lines_in spelling more
 entry_read spelling entry more fits =
     let index = index_read entry.0 (omega (arith, fits.0)) in
     let mask = hexadecimal (mask_digits spelling) entry.1 in
@@ -174,7 +174,7 @@ entry_read spelling entry more fits =
     ∙ line_read spelling line more (clean_append is_newline (decimal entry.0) (32 ∷ mask) index.2 (refl, (hexadecimal_read (mask_digits spelling) entry.1).clean))
     ∙ ap (λ j. j ∷ lines_in spelling more) (entry_judged spelling entry fits)
 
-entries_read : (spelling : Spelling) (list : List (ℕ × ℕ)) (more : List ℕ) → AllByRecursion (Fits spelling) list
+entries_read : (spelling : MaskSpelling) (list : List (ℕ × ℕ)) (more : List ℕ) → AllByRecursion (Fits spelling) list
     → lines_in spelling (flat_map (entry_text spelling) list ++ more) ≡ map entry_line list ++ lines_in spelling more
 entries_read spelling [] more fits = refl
 entries_read spelling (entry ∷ entries) more fits =
@@ -203,10 +203,10 @@ name_clean (c ∷ cs) h =
     let parts = and_parts (continues_name c) (list_all continues_name cs) h in
     (not_newline (continues_name c) c (λ e. ap continues_name e) parts.0, name_clean cs parts.1)
 
-task_judged : (spelling : Spelling) (name : List ℕ) → IsName name → judged spelling (codes "task " ++ name) ≡ task_line name
+task_judged : (spelling : MaskSpelling) (name : List ℕ) → IsName name → judged spelling (codes "task " ++ name) ≡ task_line name
 task_judged spelling name is = judged_named spelling (codes "task " ++ name) name (sym (cond-true (is_name name) (Some name) None is))
 
-task_read : (spelling : Spelling) (name body : List ℕ) → IsName name → lines_in spelling (codes "task " ++ (name ++ 10 ∷ body)) ≡ task_line name ∷ lines_in spelling body
+task_read : (spelling : MaskSpelling) (name body : List ℕ) → IsName name → lines_in spelling (codes "task " ++ (name ++ 10 ∷ body)) ≡ task_line name ∷ lines_in spelling body
 task_read spelling name body is =
     let clean = name_clean name (and_parts (leb (length name) 32 && begins (slice_get name 0)) (list_all continues_name name) is).1 in
     line_read spelling (codes "task " ++ name) body (refl, (refl, (refl, (refl, (refl, clean)))))
@@ -218,7 +218,7 @@ record IsReadAgain (names : List (List ℕ)) (lists : List (List (ℕ × ℕ))) 
   no_entry : entries_in lines ≡ []
   again : (n : ℕ) → lists_at n names lines ≡ Ok lists
 
-tasks_read : (spelling : Spelling) (names : List (List ℕ)) (lists : List (List (ℕ × ℕ))) → AllByRecursion IsName names → length lists ≡ length names → AllByRecursion (AllByRecursion (Fits spelling)) lists
+tasks_read : (spelling : MaskSpelling) (names : List (List ℕ)) (lists : List (List (ℕ × ℕ))) → AllByRecursion IsName names → length lists ≡ length names → AllByRecursion (AllByRecursion (Fits spelling)) lists
     → IsReadAgain names lists (lines_in spelling (tasks_text spelling names lists))
 tasks_read spelling [] [] are long fit = record { no_entry = refl; again = λ n. refl }
 tasks_read spelling [] (list ∷ lists) are long fit = absurd (omega arith)
@@ -247,32 +247,32 @@ tasks_read spelling (name ∷ names) (list ∷ lists) are long fit =
           ∙ ap (λ (es : List (ℕ × ℕ)). Ok (es ∷ lists)) front;
     }
 
-body_again : (spelling : Spelling) (cert : List (List (ℕ × ℕ))) (names : List (List ℕ)) → AllByRecursion IsName names → length cert ≡ length names → AllByRecursion (AllByRecursion (Fits spelling)) cert → first_fault 0 cert ≡ None
+body_again : (spelling : MaskSpelling) (cert : List (List (ℕ × ℕ))) (names : List (List ℕ)) → AllByRecursion IsName names → length cert ≡ length names → AllByRecursion (AllByRecursion (Fits spelling)) cert → first_fault 0 cert ≡ None
     → lists_at 2 names (lines_in spelling (tasks_text spelling names cert)) >>= rising ≡ Ok cert
 body_again spelling cert names are long fit right =
     ap (λ (r : Result (List (List (ℕ × ℕ))) CertFault). r >>= rising) ((tasks_read spelling names cert are long fit).again 2)
     ∙ ap (λ (o : Option ListFault). cond (is_none o) (Ok cert) (Err Shape)) right
 
-text_again : (spelling : Spelling) (cert : List (List (ℕ × ℕ))) (names : List (List ℕ)) → AllByRecursion IsName names → length cert ≡ length names → AllByRecursion (AllByRecursion (Fits spelling)) cert → first_fault 0 cert ≡ None
+text_again : (spelling : MaskSpelling) (cert : List (List (ℕ × ℕ))) (names : List (List ℕ)) → AllByRecursion IsName names → length cert ≡ length names → AllByRecursion (AllByRecursion (Fits spelling)) cert → first_fault 0 cert ≡ None
     → cert_parse (spelled spelling cert names) names ≡ Ok cert
 text_again Narrow cert names are long fit right = body_again Narrow cert names are long fit right
 text_again Wide cert names are long fit right = body_again Wide cert names are long fit right
 
 -- the masks that a spelling has digits for
-abbrev pub Within : Spelling → ℕ × ℕ → Type 0
+abbrev pub Within : MaskSpelling → ℕ × ℕ → Type 0
 Within spelling entry = entry.1 < 16 ^ mask_digits spelling
 
-fits_from : (spelling : Spelling) (list : List (ℕ × ℕ)) → Rises list → All (λ entry. entry.1 < 2 ^ 34) list → All (Within spelling) list → AllByRecursion (Fits spelling) list
+fits_from : (spelling : MaskSpelling) (list : List (ℕ × ℕ)) → Rises list → All (λ entry. entry.1 < 2 ^ 34) list → All (Within spelling) list → AllByRecursion (Fits spelling) list
 fits_from spelling list rises masks within = recursion_from_All (Fits spelling) list (λ k d less. (let small : (get_or list k d).0 < 4096 = rises.inside k d less in omega arith, masks k d less, within k d less))
 
-lists_fit : (spelling : Spelling) (lists : List (List (ℕ × ℕ))) (task : ℕ) → first_fault task lists ≡ None → AllByRecursion (All (λ entry. entry.1 < 2 ^ 34)) lists → AllByRecursion (All (Within spelling)) lists
+lists_fit : (spelling : MaskSpelling) (lists : List (List (ℕ × ℕ))) (task : ℕ) → first_fault task lists ≡ None → AllByRecursion (All (λ entry. entry.1 < 2 ^ 34)) lists → AllByRecursion (All (Within spelling)) lists
     → AllByRecursion (AllByRecursion (Fits spelling)) lists
 lists_fit spelling [] task right masks within = tt
 lists_fit spelling (list ∷ lists) task right masks within =
     let parts = option_or_none (fault_in task 0 0 list) (first_fault (task + 1) lists) right in
     (fits_from spelling list (rises_alone list task parts.0) masks.0 within.0, lists_fit spelling lists (task + 1) parts.1 masks.1 within.1)
 
-pub spelled_again : (spelling : Spelling) (cert : List (List (ℕ × ℕ))) (names : List (List ℕ)) → IsCertificate cert → AreNames names → length cert ≡ length names → All (All (Within spelling)) cert
+pub spelled_again : (spelling : MaskSpelling) (cert : List (List (ℕ × ℕ))) (names : List (List ℕ)) → IsCertificate cert → AreNames names → length cert ≡ length names → All (All (Within spelling)) cert
     → cert_parse (spelled spelling cert names) names ≡ Ok cert
 spelled_again spelling cert names is are long within =
     text_again spelling cert names (recursion_from_All IsName names are) long

@@ -8,7 +8,7 @@ use Rattle.std.proofs.lemmas.List.{take_more, take-append-drop, length-drop}
 use Rattle.std.proofs.lemmas.List.Folds.{list_all_more, list_all-append}
 use Rattle.std.proofs.Math.Nat.{pow-le-pow_right, pow-suc, pow-succ', mul_assoc}
 use Rattle.std.specs.Prelude.{IsSome, IfSome, ◌↔◌}
-use Rattle.mask_certificate.specs.declared.fault.Spelling.{Spelling}
+use Rattle.mask_certificate.specs.declared.fault.MaskSpelling.{MaskSpelling}
 use Rattle.mask_certificate.specs.CertificateText.{mask_digits}
 use Rattle.mask_certificate.specs.declared.reading.TheConstants.{MASK_DIGITS}
 use Rattle.mask_certificate.specs.CertificateReading.{is_mask_digit, mask_digit, is_mask, mask_in}
@@ -74,7 +74,7 @@ number_fits number digit k room most few =
     let power : 16 ^ k ≤ 16 ^ 7 = pow-le-pow_right (lit< tt) fewer in
     omega (arith, room, most, power)
 
-mask_by : (spelling : Spelling) (ds : List ℕ) (n : ℕ) (all : Bool) → list_all is_mask_digit ds ≡ all → length ds ≡ mask_digits spelling
+mask_by : (spelling : MaskSpelling) (ds : List ℕ) (n : ℕ) (all : Bool) → list_all is_mask_digit ds ≡ all → length ds ≡ mask_digits spelling
     → (all ≡ true → n ≡ digits_value 16 ds) → (all ≡ false → 2 ^ 34 ≤ n) → mask_in spelling ds ≡ cond (ltb n (2 ^ 34)) (Some n) None
 mask_by spelling ds n true found long value other =
     let right : is_mask spelling ds ≡ ltb n (2 ^ 34) =
@@ -87,7 +87,7 @@ mask_by spelling ds n false found long value other =
     ∙ sym (cond-false (ltb n (2 ^ 34)) (Some n) None (le-ltb n (2 ^ 34) (other refl)))
 
 -- the mask of digits that make up a number, or more than any mask
-pub mask_done : (spelling : Spelling) (ds : List ℕ) (n : ℕ) → length ds ≡ mask_digits spelling
+pub mask_done : (spelling : MaskSpelling) (ds : List ℕ) (n : ℕ) → length ds ≡ mask_digits spelling
     → (list_all is_mask_digit ds ≡ true → n ≡ digits_value 16 ds) → (list_all is_mask_digit ds ≡ false → 2 ^ 34 ≤ n) → mask_in spelling ds ≡ cond (ltb n (2 ^ 34)) (Some n) None
 mask_done spelling ds n long value other = mask_by spelling ds n _ refl long value other
 
@@ -108,17 +108,17 @@ module _ (ds : List ℕ) (high : ℕ) (long : length ds ≡ 16)
   wide_value n behind all =
       behind (and_parts (list_all is_mask_digit (take 8 ds)) (list_all is_mask_digit (drop 8 ds)) (sym both ∙ all)).1 ∙ sym (high_value all)
 
-  none_by : (all : Bool) → list_all is_mask_digit ds ≡ all → (list_all is_mask_digit ds ≡ true → 2 ^ 34 ≤ digits_value 16 ds) → mask_in Spelling.Wide ds ≡ None
+  none_by : (all : Bool) → list_all is_mask_digit ds ≡ all → (list_all is_mask_digit ds ≡ true → 2 ^ 34 ≤ digits_value 16 ds) → mask_in MaskSpelling.Wide ds ≡ None
   none_by true found least =
-      let wrong : is_mask Spelling.Wide ds ≡ false =
+      let wrong : is_mask MaskSpelling.Wide ds ≡ false =
       rw (eq-eqb _ _ long, found, le-ltb (digits_value 16 ds) (2 ^ 34) (least found)) refl in
-      cond-false (is_mask Spelling.Wide ds) (Some (digits_value 16 ds)) None wrong
+      cond-false (is_mask MaskSpelling.Wide ds) (Some (digits_value 16 ds)) None wrong
   none_by false found least =
-      let wrong : is_mask Spelling.Wide ds ≡ false =
+      let wrong : is_mask MaskSpelling.Wide ds ≡ false =
       rw (eq-eqb _ _ long, found) refl in
-      cond-false (is_mask Spelling.Wide ds) (Some (digits_value 16 ds)) None wrong
+      cond-false (is_mask MaskSpelling.Wide ds) (Some (digits_value 16 ds)) None wrong
 
-  pub wide_none : 4 ≤ high → mask_in Spelling.Wide ds ≡ None
+  pub wide_none : 4 ≤ high → mask_in MaskSpelling.Wide ds ≡ None
   wide_none great =
       let least : list_all is_mask_digit ds ≡ true → 2 ^ 34 ≤ digits_value 16 ds = λ all.
       (let behind = after_least high 4 (drop 8 ds) great in

@@ -4,7 +4,7 @@ use Rattle.std.proofs.Common.{◌≡◌, ℕ, ◌-◌, Bool, true, false, cond, 
 use Rattle.std.specs.List.{slice_split, onto_first}
 use Rattle.std.proofs.lemmas.List.{append_assoc, append-nil}
 use Rattle.text_pieces.specs.Pieces.{IsLines}
-use Rattle.mask_certificate.specs.declared.fault.Spelling.{Spelling}
+use Rattle.mask_certificate.specs.declared.fault.MaskSpelling.{MaskSpelling}
 use Rattle.mask_certificate.specs.CertificateReading.{is_newline, Judged, judged, lines_of, lines_in}
 use Rattle.text_pieces.proofs.Splits.{split_cons}
 use Rattle.mask_certificate.proofs.LineLemmas.{lines_cons}
@@ -34,7 +34,7 @@ append_cons : (parts more : List (List ℕ)) (first : List ℕ) (rest : List (Li
 append_cons [] more first rest e = (first, rest, e)
 append_cons (part ∷ parts) more first rest e = (part, parts ++ more, refl)
 
-lines_append : (spelling : Spelling) (parts more : List (List ℕ)) (first : List ℕ) (rest : List (List ℕ)) → more ≡ first ∷ rest
+lines_append : (spelling : MaskSpelling) (parts more : List (List ℕ)) (first : List ℕ) (rest : List (List ℕ)) → more ≡ first ∷ rest
     → lines_of spelling (parts ++ more) ≡ map (judged spelling) parts ++ lines_of spelling more
 lines_append spelling [] more first rest e = refl
 lines_append spelling (part ∷ parts) more first rest e =
@@ -42,7 +42,7 @@ lines_append spelling (part ∷ parts) more first rest e =
     lines_cons spelling part (parts ++ more) cons.0 cons.1 cons.2
     ∙ ap (λ (lines : List Judged). judged spelling part ∷ lines) (lines_append spelling parts more first rest e)
 
-lines_behind : (spelling : Spelling) (front rest : List ℕ) → lines_in spelling (front ++ 10 ∷ rest) ≡ map (judged spelling) (slice_split is_newline front) ++ lines_in spelling rest
+lines_behind : (spelling : MaskSpelling) (front rest : List ℕ) → lines_in spelling (front ++ 10 ∷ rest) ≡ map (judged spelling) (slice_split is_newline front) ++ lines_in spelling rest
 lines_behind spelling front rest =
     let parts = split_cons is_newline rest in
     ap (lines_of spelling) (split_at_line front rest)
@@ -54,7 +54,7 @@ line_end : (x : ℕ) (xs : List ℕ) → slice_index (x ∷ xs) (length xs) ≡ 
 line_end x [] last = ([], ap (λ (y : ℕ). y ∷ []) last)
 line_end x (y ∷ ys) last = let more = line_end y ys last in (x ∷ more.0, ap (λ (zs : List ℕ). x ∷ zs) more.1)
 
-joined_at : (spelling : Spelling) (text front rest : List ℕ) → text ≡ front ++ 10 ∷ [] → lines_in spelling (text ++ rest) ≡ lines_in spelling text ++ lines_in spelling rest
+joined_at : (spelling : MaskSpelling) (text front rest : List ℕ) → text ≡ front ++ 10 ∷ [] → lines_in spelling (text ++ rest) ≡ lines_in spelling text ++ lines_in spelling rest
 joined_at spelling text front rest e =
     let before = map (judged spelling) (slice_split is_newline front) in
     let own : lines_in spelling text ≡ before = ap (lines_in spelling) e ∙ lines_behind spelling front [] ∙ append-nil before in
@@ -63,7 +63,7 @@ joined_at spelling text front rest e =
     ∙ lines_behind spelling front rest
     ∙ ap (λ (lines : List Judged). lines ++ lines_in spelling rest) (sym own)
 
-pub lines_joined : (spelling : Spelling) (text rest : List ℕ) → IsLines text → lines_in spelling (text ++ rest) ≡ lines_in spelling text ++ lines_in spelling rest
+pub lines_joined : (spelling : MaskSpelling) (text rest : List ℕ) → IsLines text → lines_in spelling (text ++ rest) ≡ lines_in spelling text ++ lines_in spelling rest
 lines_joined spelling [] rest whole = refl
 lines_joined spelling (x ∷ xs) rest whole =
     let place : length (x ∷ xs) - 1 ≡ length xs = omega arith in

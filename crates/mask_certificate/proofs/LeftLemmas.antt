@@ -7,8 +7,8 @@ use Rattle.std.proofs.lemmas.Bool.{and_parts, eqb-true}
 use Rattle.std.proofs.lemmas.List.{append-nil, get_or-drop}
 use Rattle.text_pieces.specs.Pieces.{joined, IsLines, AreCut}
 use Rattle.mask_certificate.specs.declared.fault.CertFault.{CertFault}
-use Rattle.mask_certificate.specs.declared.fault.Spelling.{Spelling}
-use Rattle.mask_certificate.specs.declared.fault.Spelling.TheVariants.{Narrow, Wide}
+use Rattle.mask_certificate.specs.declared.fault.MaskSpelling.{MaskSpelling}
+use Rattle.mask_certificate.specs.declared.fault.MaskSpelling.TheVariants.{Narrow, Wide}
 use Rattle.mask_certificate.specs.CertificateText.{first_line}
 use Rattle.mask_certificate.specs.CertificateReading.{is_newline, Judged, entry_line, task_line, no_line, lines_in, entries_in, opens, misplaced, behind_task_line, at_end, spelling_of}
 use Rattle.mask_certificate.specs.Blocks.{IsEnd}
@@ -34,14 +34,14 @@ cut_end text end behind is (inr last, cut) = (inr last, cut)
 
 -- ---- the lines of what is left
 
-lines_nothing : (spelling : Spelling) (rest : List ℕ) (behind : List (List ℕ)) → behind ≡ [] → lines_in spelling (rest ++ joined behind) ≡ lines_in spelling rest ++ lines_in spelling (joined behind)
+lines_nothing : (spelling : MaskSpelling) (rest : List ℕ) (behind : List (List ℕ)) → behind ≡ [] → lines_in spelling (rest ++ joined behind) ≡ lines_in spelling rest ++ lines_in spelling (joined behind)
 lines_nothing spelling rest behind e =
     ap (λ (ps : List (List ℕ)). lines_in spelling (rest ++ joined ps)) e
     ∙ ap (lines_in spelling) (append-nil rest)
     ∙ sym (append-nil (lines_in spelling rest))
     ∙ sym (ap (λ (ps : List (List ℕ)). lines_in spelling rest ++ lines_in spelling (joined ps)) e)
 
-pub lines_left : (spelling : Spelling) (rest : List ℕ) (behind : List (List ℕ)) → AreCut (rest ∷ behind) → lines_in spelling (rest ++ joined behind) ≡ lines_in spelling rest ++ lines_in spelling (joined behind)
+pub lines_left : (spelling : MaskSpelling) (rest : List ℕ) (behind : List (List ℕ)) → AreCut (rest ∷ behind) → lines_in spelling (rest ++ joined behind) ≡ lines_in spelling rest ++ lines_in spelling (joined behind)
 lines_left spelling rest behind (inl whole, cut) = lines_joined spelling rest (joined behind) whole
 lines_left spelling rest behind (inr last, cut) = lines_nothing spelling rest behind last
 
@@ -49,7 +49,7 @@ none_last : (b : Bool) → cond {A = List Judged} b [] (no_line ∷ []) ≡ [] �
 none_last true e = refl
 none_last false e = absurd cc
 
-no_lines_by : (spelling : Spelling) (text : List ℕ) (o : Option ℕ) → position is_newline text ≡ o → lines_in spelling text ≡ [] → length text ≡ 0
+no_lines_by : (spelling : MaskSpelling) (text : List ℕ) (o : Option ℕ) → position is_newline text ≡ o → lines_in spelling text ≡ [] → length text ≡ 0
 no_lines_by spelling text None at e =
     eqb-true (length text) 0 (none_last (eqb (length text) 0) (sym (lines_last spelling text (split_nowhere is_newline text at)) ∙ e))
 no_lines_by spelling text (Some k) at e =
@@ -58,7 +58,7 @@ no_lines_by spelling text (Some k) at e =
     absurd (cc never)
 
 -- a text without a line is nothing
-pub no_lines : (spelling : Spelling) (text : List ℕ) → lines_in spelling text ≡ [] → length text ≡ 0
+pub no_lines : (spelling : MaskSpelling) (text : List ℕ) → lines_in spelling text ≡ [] → length text ≡ 0
 no_lines spelling text e = no_lines_by spelling text (position is_newline text) refl e
 
 -- ---- the entries at the front
@@ -88,7 +88,7 @@ none_joined (task_line name ∷ xs) ys e end = refl
 none_joined (no_line ∷ xs) ys e end = refl
 
 -- This is the list at the front of what is left of a part, and its rest.
-module _ (spelling : Spelling) (rest after : List ℕ) (behind : List (List ℕ)) (list : List (ℕ × ℕ)) (cut : AreCut (rest ∷ behind)) (cut_after : AreCut (after ∷ behind))
+module _ (spelling : MaskSpelling) (rest after : List ℕ) (behind : List (List ℕ)) (list : List (ℕ × ℕ)) (cut : AreCut (rest ∷ behind)) (cut_after : AreCut (after ∷ behind))
     (found : list ≡ entries_in (lines_in spelling rest)) (left : lines_in spelling after ≡ drop (length list) (lines_in spelling rest)) where
   lines_after : lines_in spelling (after ++ joined behind) ≡ drop (length (entries_in (lines_in spelling rest))) (lines_in spelling rest) ++ lines_in spelling (joined behind)
   lines_after =
@@ -140,7 +140,7 @@ end_joined n [] ys end = ap (at_end n) (end refl)
 end_joined n (line ∷ xs) ys end = refl
 
 -- at the end of a part nothing is left
-module _ (spelling : Spelling) (rest : List ℕ) (behind : List (List ℕ)) (cut : AreCut (rest ∷ behind)) (at_end_of : length rest ≡ 0 → rest ++ joined behind ≡ []) where
+module _ (spelling : MaskSpelling) (rest : List ℕ) (behind : List (List ℕ)) (cut : AreCut (rest ∷ behind)) (at_end_of : length rest ≡ 0 → rest ++ joined behind ≡ []) where
   nothing_behind : lines_in spelling rest ≡ [] → lines_in spelling (joined behind) ≡ []
   nothing_behind e =
       let all = at_end_of (no_lines spelling rest e) in
@@ -177,7 +177,7 @@ starts_by x xs ys [] last other = refl
 starts_by x [] ys (f ∷ front) last other = other_first f x _ _ (and_parts (not (eqb f 10)) _ other).0 last
 starts_by x (y ∷ xs) ys (f ∷ front) last other = ap (λ (b : Bool). eqb f x && b) (starts_by y xs ys front last (and_parts (not (eqb f 10)) _ other).1)
 
-abbrev spelling_by : (wide narrow : Bool) → Option Spelling
+abbrev spelling_by : (wide narrow : Bool) → Option MaskSpelling
 spelling_by wide narrow = cond wide (Some Wide) (cond narrow (Some Narrow) None)
 
 spelling_lines : (rest more : List ℕ) → 0 < length rest → IsLines rest → spelling_of (rest ++ more) ≡ spelling_of rest

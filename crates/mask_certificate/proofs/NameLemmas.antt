@@ -10,7 +10,7 @@ use Rattle.std.proofs.lemmas.List.{get_or-take, length-take}
 use Rattle.std.proofs.lemmas.Option.{cond_some}
 use Rattle.task_descriptor.specs.Names.{is_name}
 use Rattle.mask_certificate.specs.declared.fault.CertFault.TheVariants.{Line, TaskName}
-use Rattle.mask_certificate.specs.declared.fault.Spelling.{Spelling}
+use Rattle.mask_certificate.specs.declared.fault.MaskSpelling.{MaskSpelling}
 use Rattle.mask_certificate.specs.CertificateReading.{is_newline, is_space, is_index, mask_in, both, entry_in, name_in, task_line, judged, judged_by, lines_in, opens, misplaced, behind_task_line, at_end}
 use Rattle.mask_certificate.proofs.LineLemmas.{lines_more}
 
@@ -30,7 +30,7 @@ begins_with_t : (line : List ℕ) → starts_with nat_eq line (codes "task ") �
 begins_with_t [] e = absurd cc
 begins_with_t (b ∷ bs) e = sym (eqb-true 116 b (and_parts (eqb 116 b) _ e).0)
 
-task_no_entry : (spelling : Spelling) (line : List ℕ) → starts_with nat_eq line (codes "task ") ≡ true → entry_in spelling line ≡ None
+task_no_entry : (spelling : MaskSpelling) (line : List ℕ) → starts_with nat_eq line (codes "task ") ≡ true → entry_in spelling line ≡ None
 task_no_entry spelling line e =
     let n = position_or_len is_space line in
     let first : 0 < length (take n line) → is_ascii_digit (get_or (take n line) 0 0) ≡ false = λ some.
@@ -38,7 +38,7 @@ task_no_entry spelling line e =
     ap is_ascii_digit (get_or-take n line 0 0 within ∙ begins_with_t line e) in
     ap (λ b. both (cond b (Some (digits_value 10 (before_first is_space line))) None) (mask_in spelling (after_first is_space line))) (no_index (before_first is_space line) first)
 
-pub judged_named : (spelling : Spelling) (line name : List ℕ) → Some name ≡ name_in line → judged spelling line ≡ task_line name
+pub judged_named : (spelling : MaskSpelling) (line name : List ℕ) → Some name ≡ name_in line → judged spelling line ≡ task_line name
 judged_named spelling line name e =
     let parts = cond_some _ (drop 5 line) name (sym e) in
     let starts = and_parts (starts_with nat_eq line (codes "task ")) (is_name (drop 5 line)) parts.0 in
@@ -48,10 +48,10 @@ unnamed : (entry : Option (ℕ × ℕ)) (n : ℕ) (name : List ℕ) → (opens n
 unnamed None n name = (refl, refl)
 unnamed (Some entry) n name = (refl, refl)
 
-pub judged_unnamed : (spelling : Spelling) (line : List ℕ) (n : ℕ) (name : List ℕ) → None ≡ name_in line → (opens name (judged spelling line) ≡ false) × (misplaced n (judged spelling line) ≡ Line n)
+pub judged_unnamed : (spelling : MaskSpelling) (line : List ℕ) (n : ℕ) (name : List ℕ) → None ≡ name_in line → (opens name (judged spelling line) ≡ false) × (misplaced n (judged spelling line) ≡ Line n)
 judged_unnamed spelling line n name e = subst (λ o. (opens name (judged_by (entry_in spelling line) o) ≡ false) × (misplaced n (judged_by (entry_in spelling line) o) ≡ Line n)) e (unnamed (entry_in spelling line) n name)
 
-module _ (spelling : Spelling) (text line rest : List ℕ) (n : ℕ) (cut : slice_split is_newline text ≡ line ∷ slice_split is_newline rest) where
+module _ (spelling : MaskSpelling) (text line rest : List ℕ) (n : ℕ) (cut : slice_split is_newline text ≡ line ∷ slice_split is_newline rest) where
   -- the right `task` line
   pub behind_right : (name found : List ℕ) → Some found ≡ name_in line → bytes_eq found name ≡ true → behind_task_line n name (lines_in spelling text) ≡ Ok (lines_in spelling rest)
   behind_right name found e same =

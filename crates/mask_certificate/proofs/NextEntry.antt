@@ -7,7 +7,7 @@ use Rattle.std.proofs.lemmas.Bool.{eqb-true, ltb-true, lt-ltb, cond-true}
 use Rattle.std.proofs.lemmas.List.{take_at, drop_at, drop-drop, take-append-drop, length-append, get_or-drop, take_rest}
 use Rattle.std.proofs.lemmas.List.Sums.{split_at_first, passes_at_first}
 use Rattle.std.proofs.lemmas.Option.{cond_some}
-use Rattle.mask_certificate.specs.declared.fault.Spelling.{Spelling}
+use Rattle.mask_certificate.specs.declared.fault.MaskSpelling.{MaskSpelling}
 use Rattle.mask_certificate.specs.CertificateText.{hexadecimal, entry_text, mask_digits}
 use Rattle.mask_certificate.specs.CertificateReading.{is_newline, is_space, index_in, mask_in, entry_in, entry_line, lines_in, entries_in}
 use Rattle.text_pieces.proofs.Splits.{split_at, split_nowhere}
@@ -26,7 +26,7 @@ cut_first p byte text k only e =
 
 -- ---- an entry is found
 
-module _ (spelling : Spelling) (text : List ℕ) (space index mask : ℕ) (at : position is_space text ≡ Some space)
+module _ (spelling : MaskSpelling) (text : List ℕ) (space index mask : ℕ) (at : position is_space text ≡ Some space)
     (within : space + 1 + mask_digits spelling < length text) (newline : get_or text (space + 1 + mask_digits spelling) 0 ≡ 10)
     (index_is : index_in (take space text) ≡ Some index) (mask_is : mask_in spelling (take (mask_digits spelling) (drop (space + 1) text)) ≡ Some mask) where
   pub entry_found : lines_in spelling text ≡ entry_line (index, mask) ∷ lines_in spelling (drop (space + 1 + mask_digits spelling + 1) text)
@@ -53,17 +53,17 @@ module _ (spelling : Spelling) (text : List ℕ) (space index mask : ℕ) (at : 
 
 -- ---- the parts of an entry are found
 
-pub record IsEntryAt (spelling : Spelling) (text : List ℕ) (space : ℕ) (entry : ℕ × ℕ) : Type 0 where
+pub record IsEntryAt (spelling : MaskSpelling) (text : List ℕ) (space : ℕ) (entry : ℕ × ℕ) : Type 0 where
   pub within : space + 1 + mask_digits spelling < length text
   pub newline : get_or text (space + 1 + mask_digits spelling) 0 ≡ 10
   pub index : index_in (take space text) ≡ Some entry.0
   pub mask : mask_in spelling (take (mask_digits spelling) (drop (space + 1) text)) ≡ Some entry.1
 
 -- a text that begins with an entry
-abbrev pub Begins : Spelling → List ℕ → ℕ × ℕ → List ℕ → Type 0
+abbrev pub Begins : MaskSpelling → List ℕ → ℕ × ℕ → List ℕ → Type 0
 Begins spelling text entry more = (text ≡ entry_text spelling entry ++ more) × Fits spelling entry
 
-module _ (spelling : Spelling) (text : List ℕ) (entry : ℕ × ℕ) (more : List ℕ) (begins : Begins spelling text entry more) where
+module _ (spelling : MaskSpelling) (text : List ℕ) (entry : ℕ × ℕ) (more : List ℕ) (begins : Begins spelling text entry more) where
   tail : List ℕ
   tail = hexadecimal (mask_digits spelling) entry.1 ++ (10 ∷ more)
 
@@ -119,7 +119,7 @@ module _ (spelling : Spelling) (text : List ℕ) (entry : ℕ × ℕ) (more : Li
 
 -- ---- no entry is found
 
-no_entry_line : (spelling : Spelling) (text : List ℕ) (k : ℕ) (entry : Option (ℕ × ℕ)) → position is_newline text ≡ Some k → entry_in spelling (take k text) ≡ entry
+no_entry_line : (spelling : MaskSpelling) (text : List ℕ) (k : ℕ) (entry : Option (ℕ × ℕ)) → position is_newline text ≡ Some k → entry_in spelling (take k text) ≡ entry
     → ((entry : ℕ × ℕ) (more : List ℕ) → Begins spelling text entry more → ⊥) → entries_in (lines_in spelling text) ≡ []
 no_entry_line spelling text k None at is none =
     no_entries_other spelling text (take k text) (take (length text - (k + 1)) (drop (k + 1) text)) (split_at is_newline text k at) is
@@ -132,24 +132,24 @@ no_entry_line spelling text k (Some entry) at is none =
     ∙ ap (λ (t : List ℕ). t ++ more) fits.0 in
     absurd (none entry more (whole, fits.1))
 
-no_entry_split : (spelling : Spelling) (text : List ℕ) (place : Option ℕ) → position is_newline text ≡ place
+no_entry_split : (spelling : MaskSpelling) (text : List ℕ) (place : Option ℕ) → position is_newline text ≡ place
     → ((entry : ℕ × ℕ) (more : List ℕ) → Begins spelling text entry more → ⊥) → entries_in (lines_in spelling text) ≡ []
 no_entry_split spelling text None at none = no_entries_last spelling text (split_nowhere is_newline text at)
 no_entry_split spelling text (Some k) at none = no_entry_line spelling text k (entry_in spelling (take k text)) at refl none
 
-no_entry : (spelling : Spelling) (text : List ℕ) → ((entry : ℕ × ℕ) (more : List ℕ) → Begins spelling text entry more → ⊥) → entries_in (lines_in spelling text) ≡ []
+no_entry : (spelling : MaskSpelling) (text : List ℕ) → ((entry : ℕ × ℕ) (more : List ℕ) → Begins spelling text entry more → ⊥) → entries_in (lines_in spelling text) ≡ []
 no_entry spelling text none = no_entry_split spelling text (position is_newline text) refl none
 
 clash : (n : ℕ) → ◌≡◌ {A = Option ℕ} None (Some n) → ⊥
 clash n e = absurd cc
 
-pub no_index_in_front : (spelling : Spelling) (text : List ℕ) → ((space : ℕ) → position is_space text ≡ Some space → index_in (take space text) ≡ None) → entries_in (lines_in spelling text) ≡ []
+pub no_index_in_front : (spelling : MaskSpelling) (text : List ℕ) → ((space : ℕ) → position is_space text ≡ Some space → index_in (take space text) ≡ None) → entries_in (lines_in spelling text) ≡ []
 no_index_in_front spelling text none = no_entry spelling text (λ entry more begins.
     let space = length (decimal entry.0) in
     let at = begins_space spelling text entry more begins in
     clash entry.0 (sym (none space at) ∙ (entry_at spelling text entry more begins space at).index))
 
-module _ (spelling : Spelling) (text : List ℕ) (space : ℕ) (at : position is_space text ≡ Some space) where
+module _ (spelling : MaskSpelling) (text : List ℕ) (space : ℕ) (at : position is_space text ≡ Some space) where
   pub no_newline : (end : ℕ) → end ≡ space + 1 + mask_digits spelling → ((end < length text) × (get_or text end 0 ≡ 10) → ⊥) → entries_in (lines_in spelling text) ≡ []
   no_newline end is missing = no_entry spelling text (λ entry more begins.
       let parts = entry_at spelling text entry more begins space at in

@@ -22,8 +22,8 @@ use Rattle.task_descriptor.specs.Names.{is_name}
 use Rattle.mask_certificate.specs.declared.certificate.ListFault.{ListFault}
 use Rattle.mask_certificate.specs.declared.fault.CertFault.{CertFault}
 use Rattle.mask_certificate.specs.declared.fault.CertFault.TheVariants.{Shape}
-use Rattle.mask_certificate.specs.declared.fault.Spelling.{Spelling}
-use Rattle.mask_certificate.specs.declared.fault.Spelling.TheVariants.{Narrow, Wide}
+use Rattle.mask_certificate.specs.declared.fault.MaskSpelling.{MaskSpelling}
+use Rattle.mask_certificate.specs.declared.fault.MaskSpelling.TheVariants.{Narrow, Wide}
 use Rattle.mask_certificate.specs.Lists.{first_fault}
 use Rattle.mask_certificate.proofs.AgainLemmas.{Fits}
 use Rattle.mask_certificate.specs.CertificateText.{hexadecimal, entry_text, tasks_text, mask_digits, first_line, Spells}
@@ -126,12 +126,12 @@ hexadecimal_spelled (suc k) ds long pass =
       small = omega arith;
     }
 
-pub record IsMaskText (spelling : Spelling) (n : ℕ) (ds : List ℕ) : Type 0 where
+pub record IsMaskText (spelling : MaskSpelling) (n : ℕ) (ds : List ℕ) : Type 0 where
   pub same : ds ≡ hexadecimal (mask_digits spelling) n
   pub registers : n < 2 ^ 34
   pub within : n < 16 ^ mask_digits spelling
 
-pub mask_spelled : (spelling : Spelling) (ds : List ℕ) (n : ℕ) → mask_in spelling ds ≡ Some n → IsMaskText spelling n ds
+pub mask_spelled : (spelling : MaskSpelling) (ds : List ℕ) (n : ℕ) → mask_in spelling ds ≡ Some n → IsMaskText spelling n ds
 mask_spelled spelling ds n e =
     let found = cond_some (is_mask spelling ds) (digits_value 16 ds) n e in
     let parts = three_parts (eqb (length ds) (mask_digits spelling)) (list_all is_mask_digit ds) (ltb (digits_value 16 ds) (2 ^ 34)) found.0 in
@@ -151,11 +151,11 @@ both_some (Some i) (Some m) entry e =
     let same : ◌≡◌ {A = ℕ × ℕ} (i, m) entry = cc in
     (ap (λ (p : ℕ × ℕ). Some p.0) same, ap (λ (p : ℕ × ℕ). Some p.1) same)
 
-no_mask : (spelling : Spelling) (n : ℕ) → mask_in spelling [] ≡ Some n → ⊥
+no_mask : (spelling : MaskSpelling) (n : ℕ) → mask_in spelling [] ≡ Some n → ⊥
 no_mask Narrow n e = absurd cc
 no_mask Wide n e = absurd cc
 
-space_there : (spelling : Spelling) (line : List ℕ) (n : ℕ) → mask_in spelling (after_first is_space line) ≡ Some n → position_or_len is_space line < length line
+space_there : (spelling : MaskSpelling) (line : List ℕ) (n : ℕ) → mask_in spelling (after_first is_space line) ≡ Some n → position_or_len is_space line < length line
 space_there spelling line n e = elim (cases_lt (position_or_len is_space line) (length line)) [
   | inl less ↦ less
   | inr past ↦
@@ -164,16 +164,16 @@ space_there spelling line n e = elim (cases_lt (position_or_len is_space line) (
 ]
 
 -- what a line is bounded by
-abbrev Bounded : Spelling → ℕ × ℕ → Type 0
+abbrev Bounded : MaskSpelling → ℕ × ℕ → Type 0
 Bounded spelling entry = (entry.1 < 2 ^ 34) × (entry.1 < 16 ^ mask_digits spelling)
 
-abbrev Bounds : Spelling → Judged → Type 0
+abbrev Bounds : MaskSpelling → Judged → Type 0
 Bounds spelling (entry_line entry) = Bounded spelling entry
 Bounds spelling (task_line name) = Unit {0}
 Bounds spelling no_line = Unit {0}
 
 -- the text of a line
-abbrev line_text : Spelling → Judged → List ℕ
+abbrev line_text : MaskSpelling → Judged → List ℕ
 line_text spelling (entry_line entry) = entry_text spelling entry
 line_text spelling (task_line name) = codes "task " ++ (name ++ 10 ∷ [])
 line_text spelling no_line = []
@@ -183,11 +183,11 @@ IsLine (entry_line entry) = Unit {0}
 IsLine (task_line name) = Unit {0}
 IsLine no_line = ⊥
 
-record IsTextOf (spelling : Spelling) (line : List ℕ) (is : Judged) : Type 0 where
+record IsTextOf (spelling : MaskSpelling) (line : List ℕ) (is : Judged) : Type 0 where
   text : line ++ 10 ∷ [] ≡ line_text spelling is
   bounds : Bounds spelling is
 
-entry_spelled : (spelling : Spelling) (line : List ℕ) (entry : ℕ × ℕ) → entry_in spelling line ≡ Some entry → IsTextOf spelling line (entry_line entry)
+entry_spelled : (spelling : MaskSpelling) (line : List ℕ) (entry : ℕ × ℕ) → entry_in spelling line ≡ Some entry → IsTextOf spelling line (entry_line entry)
 entry_spelled spelling line entry e =
     let before = before_first is_space line in
     let after = after_first is_space line in
@@ -205,7 +205,7 @@ entry_spelled spelling line entry e =
     }
 
 -- the same, with bounds on both parts
-pub entry_fits : (spelling : Spelling) (line : List ℕ) (entry : ℕ × ℕ) → entry_in spelling line ≡ Some entry → (line ++ 10 ∷ [] ≡ entry_text spelling entry) × Fits spelling entry
+pub entry_fits : (spelling : MaskSpelling) (line : List ℕ) (entry : ℕ × ℕ) → entry_in spelling line ≡ Some entry → (line ++ 10 ∷ [] ≡ entry_text spelling entry) × Fits spelling entry
 entry_fits spelling line entry e =
     let spelled_so = entry_spelled spelling line entry e in
     let parts = both_some (index_in (before_first is_space line)) (mask_in spelling (after_first is_space line)) entry e in
@@ -218,7 +218,7 @@ name_spelled line name e =
     let front : codes "task " ≡ take 5 line = (bytes_eq-Decides (codes "task ") (take 5 line)).0 starts in
     sym (take-append-drop 5 line) ∙ ap (λ (t : List ℕ). t ++ drop 5 line) (sym front) ∙ ap (λ (t : List ℕ). codes "task " ++ t) found.1
 
-judged_spelled : (spelling : Spelling) (line : List ℕ) (entry : Option (ℕ × ℕ)) (name : Option (List ℕ)) → entry_in spelling line ≡ entry → name_in line ≡ name → IsLine (judged_by entry name)
+judged_spelled : (spelling : MaskSpelling) (line : List ℕ) (entry : Option (ℕ × ℕ)) (name : Option (List ℕ)) → entry_in spelling line ≡ entry → name_in line ≡ name → IsLine (judged_by entry name)
     → IsTextOf spelling line (judged_by entry name)
 judged_spelled spelling line (Some entry) name is other line_is = entry_spelled spelling line entry is
 judged_spelled spelling line None (Some name) other is line_is = record {
@@ -229,15 +229,15 @@ judged_spelled spelling line None None is other line_is = absurd line_is
 
 -- ---- the lines of a text
 
-record AreTextsOf (spelling : Spelling) (text : List ℕ) (lines : List Judged) : Type 0 where
+record AreTextsOf (spelling : MaskSpelling) (text : List ℕ) (lines : List Judged) : Type 0 where
   text_is : text ≡ flat_map (line_text spelling) lines
   bounds : AllByRecursion (Bounds spelling) lines
 
-last_spelled : (spelling : Spelling) (last : List ℕ) (b : Bool) → eqb (length last) 0 ≡ b → AllByRecursion IsLine (cond b [] (no_line ∷ [])) → AreTextsOf spelling last (cond b [] (no_line ∷ []))
+last_spelled : (spelling : MaskSpelling) (last : List ℕ) (b : Bool) → eqb (length last) 0 ≡ b → AllByRecursion IsLine (cond b [] (no_line ∷ [])) → AreTextsOf spelling last (cond b [] (no_line ∷ []))
 last_spelled spelling last true none are = record { text_is = nil_from_length last (eqb-true (length last) 0 none); bounds = tt }
 last_spelled spelling last false some are = absurd are.0
 
-parts_spelled : (spelling : Spelling) (parts : List (List ℕ)) → AllByRecursion IsLine (lines_of spelling parts) → AreTextsOf spelling (join_with_byte 10 parts) (lines_of spelling parts)
+parts_spelled : (spelling : MaskSpelling) (parts : List (List ℕ)) → AllByRecursion IsLine (lines_of spelling parts) → AreTextsOf spelling (join_with_byte 10 parts) (lines_of spelling parts)
 parts_spelled spelling [] are = record { text_is = refl; bounds = tt }
 parts_spelled spelling (last ∷ []) are = last_spelled spelling last (eqb (length last) 0) refl are
 parts_spelled spelling (part ∷ next ∷ parts) are =
@@ -252,7 +252,7 @@ parts_spelled spelling (part ∷ next ∷ parts) are =
       bounds = (one.bounds, rest.bounds);
     }
 
-text_spelled : (spelling : Spelling) (text : List ℕ) → AllByRecursion IsLine (lines_in spelling text) → AreTextsOf spelling text (lines_in spelling text)
+text_spelled : (spelling : MaskSpelling) (text : List ℕ) → AllByRecursion IsLine (lines_in spelling text) → AreTextsOf spelling text (lines_in spelling text)
 text_spelled spelling text are =
     let parts = parts_spelled spelling (slice_split is_newline text) are in
     record { text_is = sym (join_with_byte-slice_split 10 text) ∙ parts.text_is; bounds = parts.bounds }
@@ -318,7 +318,7 @@ are_lines [] lists = tt
 are_lines (name ∷ names) [] = tt
 are_lines (name ∷ names) (list ∷ lists) = (tt, entries_are_lines list (lines_from names lists) (are_lines names lists))
 
-entries_text : (spelling : Spelling) (list : List (ℕ × ℕ)) (lines : List Judged)
+entries_text : (spelling : MaskSpelling) (list : List (ℕ × ℕ)) (lines : List Judged)
     → flat_map (line_text spelling) (map entry_line list ++ lines) ≡ flat_map (entry_text spelling) list ++ flat_map (line_text spelling) lines
 entries_text spelling [] lines = refl
 entries_text spelling (entry ∷ entries) lines =
@@ -328,7 +328,7 @@ entries_text spelling (entry ∷ entries) lines =
 task_joined : (name entries rest : List ℕ) → (codes "task " ++ (name ++ 10 ∷ [])) ++ (entries ++ rest) ≡ (codes "task " ++ (name ++ (10 ∷ entries))) ++ rest
 task_joined name entries rest = simp append_assoc
 
-lines_text : (spelling : Spelling) (names : List (List ℕ)) (lists : List (List (ℕ × ℕ))) → length lists ≡ length names
+lines_text : (spelling : MaskSpelling) (names : List (List ℕ)) (lists : List (List (ℕ × ℕ))) → length lists ≡ length names
     → flat_map (line_text spelling) (lines_from names lists) ≡ tasks_text spelling names lists
 lines_text spelling [] [] complete = refl
 lines_text spelling [] (list ∷ lists) complete = absurd (omega arith)
@@ -340,14 +340,14 @@ lines_text spelling (name ∷ names) (list ∷ lists) complete =
     ∙ ap (λ (t : List ℕ). head ++ (entries ++ t)) (lines_text spelling names lists (omega arith))
     ∙ task_joined name entries (tasks_text spelling names lists)
 
-entries_bounded : (spelling : Spelling) (list : List (ℕ × ℕ)) (lines : List Judged) → AllByRecursion (Bounds spelling) (map entry_line list ++ lines)
+entries_bounded : (spelling : MaskSpelling) (list : List (ℕ × ℕ)) (lines : List Judged) → AllByRecursion (Bounds spelling) (map entry_line list ++ lines)
     → AllByRecursion (Bounded spelling) list × AllByRecursion (Bounds spelling) lines
 entries_bounded spelling [] lines bounds = (tt, bounds)
 entries_bounded spelling (entry ∷ entries) lines bounds =
     let rest = entries_bounded spelling entries lines bounds.1 in
     ((bounds.0, rest.0), rest.1)
 
-lists_bounded : (spelling : Spelling) (names : List (List ℕ)) (lists : List (List (ℕ × ℕ))) → length lists ≡ length names → AllByRecursion (Bounds spelling) (lines_from names lists)
+lists_bounded : (spelling : MaskSpelling) (names : List (List ℕ)) (lists : List (List (ℕ × ℕ))) → length lists ≡ length names → AllByRecursion (Bounds spelling) (lines_from names lists)
     → AllByRecursion (All (Bounded spelling)) lists
 lists_bounded spelling names [] complete bounds = tt
 lists_bounded spelling [] (list ∷ lists) complete bounds = absurd (omega arith)
@@ -357,7 +357,7 @@ lists_bounded spelling (name ∷ names) (list ∷ lists) complete bounds =
 
 -- ---- the whole
 
-header_spelled : (spelling : Spelling) (text : List ℕ) → starts_with nat_eq text (first_line spelling) ≡ true → text ≡ first_line spelling ++ drop 7 text
+header_spelled : (spelling : MaskSpelling) (text : List ℕ) → starts_with nat_eq text (first_line spelling) ≡ true → text ≡ first_line spelling ++ drop 7 text
 header_spelled Narrow text h =
     let front : first_line Narrow ≡ take 7 text = (bytes_eq-Decides (first_line Narrow) (take 7 text)).0 h in
     sym (take-append-drop 7 text) ∙ ap (λ (t : List ℕ). t ++ drop 7 text) (sym front)
@@ -365,8 +365,8 @@ header_spelled Wide text h =
     let front : first_line Wide ≡ take 7 text = (bytes_eq-Decides (first_line Wide) (take 7 text)).0 h in
     sym (take-append-drop 7 text) ∙ ap (λ (t : List ℕ). t ++ drop 7 text) (sym front)
 
-spelling_named : (wide narrow : Bool) (text : List ℕ) (spelling : Spelling) → starts_with nat_eq text (first_line Wide) ≡ wide → starts_with nat_eq text (first_line Narrow) ≡ narrow
-    → cond {A = Option Spelling} wide (Some Wide) (cond narrow (Some Narrow) None) ≡ Some spelling → starts_with nat_eq text (first_line spelling) ≡ true
+spelling_named : (wide narrow : Bool) (text : List ℕ) (spelling : MaskSpelling) → starts_with nat_eq text (first_line Wide) ≡ wide → starts_with nat_eq text (first_line Narrow) ≡ narrow
+    → cond {A = Option MaskSpelling} wide (Some Wide) (cond narrow (Some Narrow) None) ≡ Some spelling → starts_with nat_eq text (first_line spelling) ≡ true
 spelling_named true narrow text spelling w n e = let same : Wide ≡ spelling = cc in subst (λ s. starts_with nat_eq text (first_line s) ≡ true) same w
 spelling_named false true text spelling w n e = let same : Narrow ≡ spelling = cc in subst (λ s. starts_with nat_eq text (first_line s) ≡ true) same n
 spelling_named false false text spelling w n e = absurd cc
@@ -381,7 +381,7 @@ rising_lists (Ok lists) cert e =
     (ap (λ (ls : List (List (ℕ × ℕ))). Ok ls) right.0, ap (first_fault 0) (sym right.0) ∙ right.1)
 rising_lists (Err fault) cert e = absurd cc
 
-body_spelled : (spelling : Spelling) (text : List ℕ) (names : List (List ℕ)) (cert : List (List (ℕ × ℕ))) → starts_with nat_eq text (first_line spelling) ≡ true
+body_spelled : (spelling : MaskSpelling) (text : List ℕ) (names : List (List ℕ)) (cert : List (List (ℕ × ℕ))) → starts_with nat_eq text (first_line spelling) ≡ true
     → lists_at 2 names (lines_in spelling (drop 7 text)) >>= rising ≡ Ok cert → Spells text names cert
 body_spelled spelling text names cert starts e =
     let body = drop 7 text in
@@ -402,7 +402,7 @@ body_spelled spelling text names cert starts e =
           (texts.text_is ∙ ap (flat_map (line_text spelling)) from.lines_are ∙ lines_text spelling names cert from.complete);
     }
 
-parsed_spelled : (named : Option Spelling) (text : List ℕ) (names : List (List ℕ)) (cert : List (List (ℕ × ℕ))) → spelling_of text ≡ named → parse_by named text names ≡ Ok cert → Spells text names cert
+parsed_spelled : (named : Option MaskSpelling) (text : List ℕ) (names : List (List ℕ)) (cert : List (List (ℕ × ℕ))) → spelling_of text ≡ named → parse_by named text names ≡ Ok cert → Spells text names cert
 parsed_spelled None text names cert is e = absurd cc
 parsed_spelled (Some spelling) text names cert is e =
     body_spelled spelling text names cert

@@ -5,7 +5,7 @@ use Rattle.std.specs.Fmt.{decimal}
 use Rattle.std.specs.List.{flat_map}
 use Rattle.std.proofs.lemmas.Fmt.{decimal_digit, decimal_step}
 use Rattle.std.proofs.lemmas.List.{take_more, flat_map_more, drop_all}
-use Rattle.mask_certificate.specs.declared.fault.Spelling.TheVariants.{Wide}
+use Rattle.mask_certificate.specs.declared.fault.MaskSpelling.TheVariants.{Wide}
 use Rattle.mask_certificate.specs.Lists.{list_of}
 use Rattle.mask_certificate.specs.CertificateText.{hexadecimal, entry_text, task_text, tasks_text}
 

@@ -1,13 +1,13 @@
 -- A block of a certificate's text: the entries from an offset on, read before it is known whose list they are.
 use Rattle.std.specs.Prelude.{◌≡◌, ℕ, ◌+◌, ◌-◌, ◌^◌, ◌<◌, ◌≤◌, Bool, true, List, length, drop, is_none}
 use Rattle.std.specs.List.{All}
-use Rattle.mask_certificate.specs.declared.fault.Spelling.{Spelling}
+use Rattle.mask_certificate.specs.declared.fault.MaskSpelling.{MaskSpelling}
 use Rattle.mask_certificate.specs.Lists.{fault_in}
 use Rattle.mask_certificate.specs.CertificateReading.{lines_in, entries_in}
 
 -- where a block begins, in which text, and how the text is spelled
 pub record BlockView : Type 0 where
-  pub spelling : Spelling
+  pub spelling : MaskSpelling
   pub text : List ℕ
   pub start : ℕ
 
@@ -27,7 +27,7 @@ pub record TellsOf (list : List (ℕ × ℕ)) (right : Bool) : Type 0 where
 
 -- These are the entries of the lines from the offset start on, in front of the first that is none, and
 -- behind the last of them stands the offset end; it is told whether they are right.
-pub record IsBlock (spelling : Spelling) (text : List ℕ) (start : ℕ) (entries : List (ℕ × ℕ)) (end : ℕ) (right : Bool) : Type 0 where
+pub record IsBlock (spelling : MaskSpelling) (text : List ℕ) (start : ℕ) (entries : List (ℕ × ℕ)) (end : ℕ) (right : Bool) : Type 0 where
   pub begins : start ≤ length text
   pub ends : end ≤ length text
   pub entries_are : entries ≡ entries_in (lines_in spelling (drop start text))

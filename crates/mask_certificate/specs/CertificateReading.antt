@@ -12,8 +12,8 @@ use Rattle.task_descriptor.specs.Listing.{Listing}
 use Rattle.task_descriptor.specs.declared.descriptor.Descriptor.{Descriptor}
 use Rattle.mask_certificate.specs.declared.fault.CertFault.{CertFault}
 use Rattle.mask_certificate.specs.declared.fault.CertFault.TheVariants.{Header, Line, TaskName, MissingTask, Shape, OutOfMemory}
-use Rattle.mask_certificate.specs.declared.fault.Spelling.{Spelling}
-use Rattle.mask_certificate.specs.declared.fault.Spelling.TheVariants.{Narrow, Wide}
+use Rattle.mask_certificate.specs.declared.fault.MaskSpelling.{MaskSpelling}
+use Rattle.mask_certificate.specs.declared.fault.MaskSpelling.TheVariants.{Narrow, Wide}
 use Rattle.mask_certificate.specs.Lists.{first_fault}
 use Rattle.mask_certificate.specs.CertificateText.{first_line, mask_digits}
 
@@ -33,10 +33,10 @@ abbrev pub mask_digit : ℕ → ℕ
 mask_digit byte = if is_mask_digit byte then digit_value byte else 2 ^ 34
 
 -- a mask: as many digits as the spelling says, and no bit above 33
-abbrev pub is_mask : Spelling → List ℕ → Bool
+abbrev pub is_mask : MaskSpelling → List ℕ → Bool
 is_mask spelling digits = length digits == mask_digits spelling && (list_all is_mask_digit digits && nat_lt (digits_value 16 digits) (2 ^ 34))
 
-abbrev pub mask_in : Spelling → List ℕ → Option ℕ
+abbrev pub mask_in : MaskSpelling → List ℕ → Option ℕ
 mask_in spelling digits = if is_mask spelling digits then Some (digits_value 16 digits) else None
 
 abbrev pub both : Option ℕ → Option ℕ → Option (ℕ × ℕ)
@@ -48,7 +48,7 @@ abbrev pub is_space : ℕ → Bool
 is_space byte = byte == 32
 
 -- the entry of a line, which is given without its LF
-abbrev pub entry_in : Spelling → List ℕ → Option (ℕ × ℕ)
+abbrev pub entry_in : MaskSpelling → List ℕ → Option (ℕ × ℕ)
 entry_in spelling line = both (index_in (before_first is_space line)) (mask_in spelling (after_first is_space line))
 
 -- the name of a `task` line
@@ -66,12 +66,12 @@ judged_by (Some entry) name = entry_line entry
 judged_by None (Some name) = task_line name
 judged_by None None = no_line
 
-abbrev pub judged : Spelling → List ℕ → Judged
+abbrev pub judged : MaskSpelling → List ℕ → Judged
 judged spelling line = judged_by (entry_in spelling line) (name_in line)
 
 -- The lines, of the parts between LFs: the last part is what stands behind the last LF, so it is no
 -- line, and it is nothing at all where every line ends with LF.
-abbrev pub lines_of : Spelling → List (List ℕ) → List Judged
+abbrev pub lines_of : MaskSpelling → List (List ℕ) → List Judged
 lines_of spelling [] = []
 lines_of spelling (last ∷ []) = if length last == 0 then [] else no_line ∷ []
 lines_of spelling (part ∷ next ∷ parts) = judged spelling part ∷ lines_of spelling (next ∷ parts)
@@ -79,7 +79,7 @@ lines_of spelling (part ∷ next ∷ parts) = judged spelling part ∷ lines_of 
 abbrev pub is_newline : ℕ → Bool
 is_newline byte = byte == 10
 
-abbrev pub lines_in : Spelling → List ℕ → List Judged
+abbrev pub lines_in : MaskSpelling → List ℕ → List Judged
 lines_in spelling text = lines_of spelling (slice_split is_newline text)
 
 -- the entries in front of the first line that is none
@@ -129,14 +129,14 @@ abbrev pub rising : List (List (ℕ × ℕ)) → Result (List (List (ℕ × ℕ)
 rising lists = if is_none (first_fault 0 lists) then Ok lists else Err Shape
 
 -- the lists that the text behind the first line spells
-abbrev pub body_of : Spelling → List ℕ → List (List ℕ) → Result (List (List (ℕ × ℕ))) CertFault
+abbrev pub body_of : MaskSpelling → List ℕ → List (List ℕ) → Result (List (List (ℕ × ℕ))) CertFault
 body_of spelling text names = lists_at 2 names (lines_in spelling text) >>= rising
 
 -- the spelling that the first line of a text names
-abbrev pub spelling_of : List ℕ → Option Spelling
+abbrev pub spelling_of : List ℕ → Option MaskSpelling
 spelling_of text = if starts_with nat_eq text (first_line Wide) then Some Wide else (if starts_with nat_eq text (first_line Narrow) then Some Narrow else None)
 
-abbrev pub parse_by : Option Spelling → List ℕ → List (List ℕ) → Result (List (List (ℕ × ℕ))) CertFault
+abbrev pub parse_by : Option MaskSpelling → List ℕ → List (List ℕ) → Result (List (List (ℕ × ℕ))) CertFault
 parse_by None text names = Err Header
 parse_by (Some spelling) text names = body_of spelling (drop 7 text) names
 

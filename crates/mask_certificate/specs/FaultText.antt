@@ -1,4 +1,4 @@
--- The number and the name of what is wrong with a certificate text, and the line (own choice).
+-- The number and the name of what is wrong with a certificate text, and the line.
 use Rattle.std.specs.Prelude.{ℕ, List, ◌++◌, codes}
 use Rattle.std.specs.Fmt.{decimal}
 use Rattle.mask_certificate.specs.declared.fault.CertFault.{CertFault}

@@ -1,5 +1,5 @@
 -- What a certificate is: for each task a list of entries. An entry is the index of an instruction and
--- a mask, a set of registers as a number, register r being bit r (own choice).
+-- a mask, a set of registers as a number, register r being bit r.
 use Rattle.std.specs.Prelude.{◌≡◌, ℕ, ◌+◌, ◌^◌, ◌<◌, List, [], ◌∷◌, map, length, Option, None, Some, nat_lt, nat_le, ◌==◌, if◌then◌else◌, slice_index, slice_index_or}
 use Rattle.std.specs.declared.alloc.Global.{Global}
 use Rattle.std.specs.declared.vec.Vec.{Vec}

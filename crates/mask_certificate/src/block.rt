@@ -1,7 +1,7 @@
 //! Lists of a certificate's text that are read before their turn comes.
 
 use crate::certificate::is_right;
-use crate::fault::Spelling;
+use crate::fault::MaskSpelling;
 use crate::reading::list_of;
 use mips_instructions::number::RegSet;
 use std::alloc::{AllocError, Global};
@@ -13,7 +13,7 @@ use std::marker::Model;
 /// sees a block as its spelling, text and offset; they determine the rest.
 #[derive(Drop)]
 pub struct Block<'a> {
-    spelling: Spelling,
+    spelling: MaskSpelling,
     text: &'a [u8],
     start: usize,
     list: Vec<(u32, RegSet)>,
@@ -43,7 +43,7 @@ impl<'a> Block<'a> {
     /// `AllocError` where memory was refused.
     pub fn read(
         alloc: Global,
-        spelling: Spelling,
+        spelling: MaskSpelling,
         text: &'a [u8],
         start: usize,
     ) -> Result<Block<'a>, AllocError>
@@ -63,7 +63,7 @@ impl<'a> Block<'a> {
     }
 
     /// The spelling in which it was read.
-    pub fn spelling(&self) -> Spelling
+    pub fn spelling(&self) -> MaskSpelling
         ensures { result ≡ self.now.spelling }
     {
         self.spelling

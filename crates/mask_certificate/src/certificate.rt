@@ -21,7 +21,7 @@ pub enum ListFault {
 
 /// For each task a list of entries (index of an instruction, mask), the indices rising and below
 /// 4,096. The mask is the set of the registers that may still be written from that instruction on,
-/// before the task ends (own choice). A list may be missing, and there may be more lists than tasks.
+/// before the task ends. A list may be missing, and there may be more lists than tasks.
 #[derive(Debug, Drop)]
 pub struct Cert {
     lists: Vec<Vec<(u32, RegSet)>>,

@@ -21,14 +21,14 @@ pub enum CertFault {
 
 /// How a certificate text spells its masks. The first line says which.
 #[derive(Clone, Copy, Debug, PartialEq, Eq)]
-pub enum Spelling {
+pub enum MaskSpelling {
     /// `cert 1`: 8 digits, for registers 0 to 31.
     Narrow,
     /// `cert 2`: 16 digits.
     Wide,
 }
 
-impl Spelling {
+impl MaskSpelling {
     ghost use Rattle.std.specs.Prelude.{◌≡◌, ◌≤◌};
     ghost use Rattle.mask_certificate.specs.CertificateText.{mask_digits};
 
@@ -38,8 +38,8 @@ impl Spelling {
         ensures few { result ≤ 16 }
     {
         match self {
-            Spelling::Narrow => 8,
-            Spelling::Wide => 16,
+            MaskSpelling::Narrow => 8,
+            MaskSpelling::Wide => 16,
         }
     }
 }

@@ -4,7 +4,7 @@ ghost use Rattle.std.specs.Prelude.{◌≡◌, ◌↔◌, ◌++◌, ℕ, List, l
 ghost use Rattle.mask_certificate.specs.Lists.{IsCertificate};
 ghost use Rattle.mask_certificate.specs.CertificateText.{Spells, cert_text};
 ghost use Rattle.mask_certificate.specs.CertificateReading.{cert_parse, lines_in, AreNames};
-ghost use Rattle.mask_certificate.specs.declared.fault.Spelling.{Spelling};
+ghost use Rattle.mask_certificate.specs.declared.fault.MaskSpelling.{MaskSpelling};
 ghost use Rattle.text_pieces.specs.Pieces.{IsLines};
 
 /// What is read is the certificate, with one list for each task, whose text it is in one of the two
@@ -24,6 +24,6 @@ pub fn written_is_read()
 /// The lines of a text that is cut behind an LF are those of the front and then those of the rest. So a
 /// text that lies in pieces is read one piece after another.
 pub fn lines_are_joined()
-    ensures { (spelling : Spelling) (front rest : List ℕ) → IsLines front
+    ensures { (spelling : MaskSpelling) (front rest : List ℕ) → IsLines front
         → lines_in spelling (front ++ rest) ≡ lines_in spelling front ++ lines_in spelling rest }
 {}

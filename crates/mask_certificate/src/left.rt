@@ -1,8 +1,8 @@
 //! How far a text that lies in parts is read.
 
 use crate::block::Block;
-use crate::fault::Spelling;
-use crate::part::Part;
+use crate::fault::MaskSpelling;
+use crate::part::CertificatePart;
 use crate::reading::list_at;
 use mips_instructions::number::RegSet;
 use std::alloc::{AllocError, Global};
@@ -16,7 +16,7 @@ pub(crate) struct Left<'a> {
     text: &'a [u8],
     rest: &'a [u8],
     blocks: Vec<Block<'a>>,
-    behind: IntoIter<Part<'a>>,
+    behind: IntoIter<CertificatePart<'a>>,
 }
 
 impl<'a> Model for Left<'a> {
@@ -38,7 +38,7 @@ impl<'a> Left<'a> {
     ghost use Rattle.mask_certificate.specs.Left.{left_of};
 
     /// All of a text.
-    pub(crate) fn all(alloc: Global, parts: Vec<Part<'a>>) -> Left<'a>
+    pub(crate) fn all(alloc: Global, parts: Vec<CertificatePart<'a>>) -> Left<'a>
         requires { AreCut parts.items }
         ensures { left_of result ≡ joined parts.entry.items }
     {
@@ -78,7 +78,7 @@ impl<'a> Left<'a> {
     pub(crate) fn list(
         self,
         alloc: Global,
-        spelling: Spelling,
+        spelling: MaskSpelling,
     ) -> Result<(Vec<(u32, RegSet)>, bool, bool, Left<'a>), AllocError>
         ensures entries { IfOk result (λ found. found.0.items ++ entries_in (lines_in spelling (left_of found.3)) ≡ entries_in (lines_in spelling (left_of self.entry))) }
         ensures rest { IfOk result (λ found. lines_in spelling (left_of found.3) ≡ drop (length found.0.items) (lines_in spelling (left_of self.entry))) }
@@ -109,7 +109,7 @@ fn from<'a>(
     mut text: &'a [u8],
     mut rest: &'a [u8],
     mut blocks: Vec<Block<'a>>,
-    mut behind: IntoIter<Part<'a>>,
+    mut behind: IntoIter<CertificatePart<'a>>,
 ) -> Left<'a>
     requires end { IsEnd text.now rest.now }
     requires blocks { AreOf text.now blocks.items }

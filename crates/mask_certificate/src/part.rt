@@ -7,12 +7,12 @@ use std::marker::Model;
 /// A part of a certificate's text, and blocks of it that were read before, the block that stands first
 /// last. A contract sees it as its bytes: nothing rests on the blocks but speed.
 #[derive(Drop)]
-pub struct Part<'a> {
+pub struct CertificatePart<'a> {
     text: &'a [u8],
     blocks: Vec<Block<'a>>,
 }
 
-impl<'a> Model for Part<'a> {
+impl<'a> Model for CertificatePart<'a> {
     ghost use Rattle.std.specs.Prelude.{ℕ, List};
     ghost use Rattle.mask_certificate.specs.Blocks.{AreOf};
 
@@ -23,26 +23,26 @@ impl<'a> Model for Part<'a> {
     ghost invariant = { λ p. AreOf p.text.now p.blocks.items };
 }
 
-impl<'a> Part<'a> {
+impl<'a> CertificatePart<'a> {
     ghost use Rattle.std.specs.Prelude.{◌≡◌};
     ghost use Rattle.mask_certificate.specs.Blocks.{AreOf};
 
     /// A part of which nothing was read.
-    pub fn new(alloc: Global, text: &'a [u8]) -> Part<'a>
+    pub fn new(alloc: Global, text: &'a [u8]) -> CertificatePart<'a>
         ensures { result ≡ text.now }
     {
-        Part {
+        CertificatePart {
             text,
             blocks: Vec::new(alloc),
         }
     }
 
     /// A part of which these blocks were read.
-    pub fn with_blocks(text: &'a [u8], blocks: Vec<Block<'a>>) -> Part<'a>
+    pub fn with_blocks(text: &'a [u8], blocks: Vec<Block<'a>>) -> CertificatePart<'a>
         requires { AreOf text.now blocks.items }
         ensures { result ≡ text.now }
     {
-        Part { text, blocks }
+        CertificatePart { text, blocks }
     }
 
     /// The bytes and the blocks.
@@ -50,7 +50,7 @@ impl<'a> Part<'a> {
         ensures text { result.0.now ≡ self.entry }
         ensures blocks { AreOf self.entry result.1.items }
     {
-        let Part { text, blocks } = self;
+        let CertificatePart { text, blocks } = self;
         (text, blocks)
     }
 }

@@ -4,7 +4,7 @@ ghost use Rattle.std.specs.Prelude.{◌≡◌, ◌≢◌, ℕ, ◌+◌, ◌*◌,
 ghost use Rattle.std.specs.List.{slice_split, position, list_all};
 ghost use Rattle.std.specs.Str.Parse.{digits_value_after};
 ghost use Rattle.std.specs.Option.{option_copied};
-ghost use Rattle.mask_certificate.specs.declared.fault.Spelling.{Spelling};
+ghost use Rattle.mask_certificate.specs.declared.fault.MaskSpelling.{MaskSpelling};
 ghost use Rattle.mask_certificate.specs.Lists.{entries_of, IsCertificate};
 ghost use Rattle.mask_certificate.specs.CertificateText.{Spells};
 ghost use Rattle.mask_certificate.specs.CertificateReading.{is_space, index_in, mask_in, name_in, lines_in, entries_in, behind_task_line, at_end, body_of, spelling_of, mask_digit, is_mask_digit, Gives, cert_parse, names_of, names_in, is_newline, entry_line};
@@ -14,9 +14,9 @@ ghost use Rattle.text_pieces.specs.Pieces.{joined, AreCut};
 
 use crate::block::Block;
 use crate::certificate::{Cert, is_right};
-use crate::fault::{CertFault, Spelling};
+use crate::fault::{CertFault, MaskSpelling};
 use crate::left::Left;
-use crate::part::Part;
+use crate::part::CertificatePart;
 use mips_instructions::number::RegSet;
 use std::alloc::{AllocError, Global};
 use task_descriptor::descriptor::Descriptor;
@@ -116,7 +116,7 @@ fn eight_more(number: u64, digits: &[u8]) -> u64
 /// The mask of 16 digits.
 fn wide_mask_of(digits: &[u8]) -> Option<RegSet>
     requires { length digits.now ≡ 16 }
-    ensures { result ≡ mask_in Spelling.Wide digits.now }
+    ensures { result ≡ mask_in MaskSpelling.Wide digits.now }
 {
     let high = eight_more(0, digits);
     // With the eight digits below it is a mask only where it is below 4.
@@ -126,15 +126,15 @@ fn wide_mask_of(digits: &[u8]) -> Option<RegSet>
     RegSet::from_bits(eight_more(high, &digits[HALF..]))
 }
 
-fn mask_of(spelling: Spelling, digits: &[u8]) -> Option<RegSet>
+fn mask_of(spelling: MaskSpelling, digits: &[u8]) -> Option<RegSet>
     ensures { result ≡ mask_in spelling digits.now }
 {
     if digits.len() != spelling.mask_digits() {
         return None;
     }
     match spelling {
-        Spelling::Narrow => RegSet::from_bits(eight_more(0, digits)),
-        Spelling::Wide => wide_mask_of(digits),
+        MaskSpelling::Narrow => RegSet::from_bits(eight_more(0, digits)),
+        MaskSpelling::Wide => wide_mask_of(digits),
     }
 }
 
@@ -160,7 +160,7 @@ fn name_of(line: &[u8]) -> Option<&[u8]>
 }
 
 /// The entry of the first line, and what follows that line; `None` where that line is no entry.
-fn next_entry(spelling: Spelling, text: &[u8]) -> Option<((u32, RegSet), &[u8])>
+fn next_entry(spelling: MaskSpelling, text: &[u8]) -> Option<((u32, RegSet), &[u8])>
     ensures found { MatchOption result
         (entries_in (lines_in spelling text.now) ≡ [])
         (λ found. lines_in spelling text.now ≡ entry_line found.0 ∷ lines_in spelling found.1.now) }
@@ -180,7 +180,7 @@ fn next_entry(spelling: Spelling, text: &[u8]) -> Option<((u32, RegSet), &[u8])>
 /// The entries of the lines in front of the first that is none, and the text from that line on.
 pub(crate) fn list_of(
     alloc: Global,
-    spelling: Spelling,
+    spelling: MaskSpelling,
     text: &[u8],
 ) -> Result<(Vec<(u32, RegSet)>, &[u8]), AllocError>
     ensures entries { IfOk result (λ found. found.0.items ≡ entries_in (lines_in spelling text.now)) }
@@ -199,7 +199,7 @@ pub(crate) fn list_of(
 
 /// The text behind the `task` line of this name, which has to be the first line, line `line`.
 fn behind<'a>(text: &'a [u8], line: usize, name: &Name) -> Result<&'a [u8], CertFault>
-    ensures lines { (spelling : Spelling) → MatchResult result
+    ensures lines { (spelling : MaskSpelling) → MatchResult result
         (λ rest. behind_task_line line name.now (lines_in spelling text.now) ≡ Ok (lines_in spelling rest.now))
         (λ fault. behind_task_line line name.now (lines_in spelling text.now) ≡ Err fault) }
     ensures end { IfOk result (λ rest. IsEnd text.now rest.now) }
@@ -221,7 +221,7 @@ fn behind<'a>(text: &'a [u8], line: usize, name: &Name) -> Result<&'a [u8], Cert
 
 /// Whether nothing is left from this line on.
 fn check_end(text: &[u8], line: usize) -> Result<(), CertFault>
-    ensures { (spelling : Spelling) → MatchResult result
+    ensures { (spelling : MaskSpelling) → MatchResult result
         (λ _. at_end line (lines_in spelling text.now) ≡ Ok [])
         (λ fault. at_end line (lines_in spelling text.now) ≡ Err fault) }
 {
@@ -253,7 +253,7 @@ fn next_block<'a>(blocks: &mut Vec<Block<'a>>, offset: usize) -> Option<Block<'a
 /// last of these blocks, if it begins there, and else read.
 pub(crate) fn list_at<'a>(
     alloc: Global,
-    spelling: Spelling,
+    spelling: MaskSpelling,
     text: &'a [u8],
     left: &'a [u8],
     blocks: &mut Vec<Block<'a>>,
@@ -281,7 +281,7 @@ pub(crate) fn list_at<'a>(
 
 /// What is left of a text behind the `task` line of this name, which has to be its first line, line `line`.
 fn behind_task<'a>(left: Left<'a>, line: usize, name: &Name) -> Result<Left<'a>, CertFault>
-    ensures { (spelling : Spelling) → MatchResult result
+    ensures { (spelling : MaskSpelling) → MatchResult result
         (λ rest. behind_task_line line name.now (lines_in spelling (left_of left.entry)) ≡ Ok (lines_in spelling (left_of rest)))
         (λ fault. behind_task_line line name.now (lines_in spelling (left_of left.entry)) ≡ Err fault) }
 {
@@ -293,7 +293,7 @@ fn behind_task<'a>(left: Left<'a>, line: usize, name: &Name) -> Result<Left<'a>,
 
 /// Whether nothing is left of a text from this line on.
 fn check_left(left: &Left<'_>, line: usize) -> Result<(), CertFault>
-    ensures { (spelling : Spelling) → MatchResult result
+    ensures { (spelling : MaskSpelling) → MatchResult result
         (λ _. at_end line (lines_in spelling (left_of left.now)) ≡ Ok [])
         (λ fault. at_end line (lines_in spelling (left_of left.now)) ≡ Err fault) }
 {
@@ -304,7 +304,7 @@ fn check_left(left: &Left<'_>, line: usize) -> Result<(), CertFault>
 /// list that reaches to the end of its part goes on in the next.
 fn whole_list<'a>(
     alloc: Global,
-    spelling: Spelling,
+    spelling: MaskSpelling,
     left: Left<'a>,
 ) -> Result<(Vec<(u32, RegSet)>, bool, Left<'a>), AllocError>
     ensures entries { IfOk result (λ found. found.0.items ≡ entries_in (lines_in spelling (left_of left.entry))) }
@@ -350,7 +350,7 @@ fn line_behind(
 /// the first fault.
 fn lists_of(
     alloc: Global,
-    spelling: Spelling,
+    spelling: MaskSpelling,
     body: Left<'_>,
     tasks: &[Descriptor],
 ) -> Result<Vec<Vec<(u32, RegSet)>>, CertFault>
@@ -381,14 +381,14 @@ fn lists_of(
 }
 
 /// The spelling that the first line of a text names; `None` where it names none.
-pub fn spelling_in(text: &[u8]) -> Option<Spelling>
+pub fn spelling_in(text: &[u8]) -> Option<MaskSpelling>
     ensures value { result ≡ spelling_of text.now }
     ensures long { OnSome result (7 ≤ length text.now) }
 {
     if text.starts_with(b"cert 2\n") {
-        Some(Spelling::Wide)
+        Some(MaskSpelling::Wide)
     } else if text.starts_with(b"cert 1\n") {
-        Some(Spelling::Narrow)
+        Some(MaskSpelling::Narrow)
     } else {
         None
     }
@@ -396,7 +396,7 @@ pub fn spelling_in(text: &[u8]) -> Option<Spelling>
 
 /// The spelling that the first line of what is left names; `None` where it names none. It lies in one
 /// part, as each line does.
-fn spelling_of_left(left: &Left<'_>) -> Option<Spelling>
+fn spelling_of_left(left: &Left<'_>) -> Option<MaskSpelling>
     ensures value { result ≡ spelling_of (left_of left.now) }
     ensures long { OnSome result (7 ≤ length left.now.rest) }
 {
@@ -415,7 +415,7 @@ fn behind_first_line(left: Left<'_>) -> Left<'_>
 /// The certificate that a text in parts spells for these tasks, or its first fault.
 fn certificate_of(
     alloc: Global,
-    parts: Vec<Part<'_>>,
+    parts: Vec<CertificatePart<'_>>,
     tasks: &[Descriptor],
 ) -> Result<Cert, CertFault>
     requires few { length tasks.now ≤ 1024 }
@@ -440,7 +440,7 @@ pub fn read(alloc: Global, text: &[u8], program: &Program) -> Result<Cert, CertF
         → (cert : List (List (ℕ × ℕ))) → (result ≡ Ok cert) ↔ Spells text.now (names_of program.now) cert }
 {
     let mut parts = Vec::new(alloc);
-    parts.push(Part::new(alloc, text))?;
+    parts.push(CertificatePart::new(alloc, text))?;
     read_parts(alloc, parts, program)
 }
 
@@ -448,7 +448,11 @@ pub fn read(alloc: Global, text: &[u8], program: &Program) -> Result<Cert, CertF
 /// that were read before: one that stands where its task's turn comes is taken over and not read again.
 /// Nothing rests on the blocks but speed: where one is missing or stands elsewhere, that list is read
 /// here.
-pub fn read_parts(alloc: Global, parts: Vec<Part<'_>>, program: &Program) -> Result<Cert, CertFault>
+pub fn read_parts(
+    alloc: Global,
+    parts: Vec<CertificatePart<'_>>,
+    program: &Program,
+) -> Result<Cert, CertFault>
     requires { AreCut parts.items }
     ensures parsed { (result ≡ Err CertFault.OutOfMemory) ⊎ (result ≡ cert_parse (joined parts.entry.items) (names_of program.now)) }
     ensures spelled { result ≢ Err CertFault.OutOfMemory

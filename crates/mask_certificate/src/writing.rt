@@ -3,12 +3,12 @@
 ghost use Rattle.std.specs.Prelude.{◌≡◌, ◌<◌, ◌≤◌, ◌^◌, ◌++◌, length, IfOk, OnOk};
 ghost use Rattle.std.specs.Char.{digit_char};
 ghost use Rattle.std.specs.Fmt.{decimal};
-ghost use Rattle.mask_certificate.specs.declared.fault.Spelling.TheVariants.{Wide};
+ghost use Rattle.mask_certificate.specs.declared.fault.MaskSpelling.TheVariants.{Wide};
 ghost use Rattle.mask_certificate.specs.CertificateText.{hexadecimal, entry_text, task_text, cert_text};
 ghost use Rattle.mask_certificate.specs.CertificateReading.{names_of};
 
 use crate::certificate::Cert;
-use crate::fault::Spelling;
+use crate::fault::MaskSpelling;
 use mips_instructions::number::RegSet;
 use std::alloc::{AllocError, Global};
 use task_descriptor::program::Program;
@@ -49,7 +49,7 @@ fn push_entry(text: &mut Vec<u8>, index: u32, mask: RegSet) -> Result<(), AllocE
 {
     push_decimal(text, index)?;
     text.push(b' ')?;
-    push_hexadecimal(text, Spelling::Wide.mask_digits(), mask.bits())?;
+    push_hexadecimal(text, MaskSpelling::Wide.mask_digits(), mask.bits())?;
     text.push(b'\n')?;
     Ok(())
 }

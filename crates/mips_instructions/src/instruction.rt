@@ -743,7 +743,7 @@ impl Op {
     }
 
     /// The registers that must have a value before the instruction is executed: its operands; for a
-    /// `release` the registers that it names (own choice).
+    /// `release` the registers that it names.
     pub fn waits(&self) -> RegSet
         ensures { (r : ℕ) → has result r ≡ waits self.now r }
     {

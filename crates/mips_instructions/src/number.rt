@@ -116,7 +116,7 @@ impl From<Gpr> for Reg {
 }
 
 /// A place in the code, 0..=4096: the index of an instruction, or one past the last that there can
-/// be (own choice).
+/// be.
 #[derive(Clone, Copy, Debug, PartialEq, Eq, PartialOrd, Ord, Hash)]
 pub struct Place {
     index: u32,

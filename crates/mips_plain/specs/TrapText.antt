@@ -1,4 +1,4 @@
--- The number and the name of a trap (own choice).
+-- The number and the name of a trap.
 use Rattle.std.specs.Prelude.{ℕ, List, codes}
 use Rattle.mips_plain.specs.declared.outcome.Trap.{Trap}
 use Rattle.mips_plain.specs.declared.outcome.Trap.TheVariants.{Unaligned, OutOfRange, BadPc, ReadOnly}

@@ -1,4 +1,4 @@
-//! The two regions of memory (own choice of addresses): 65,536 bytes of read-only data from
+//! The two regions of memory (the addresses are this project's choice): 65,536 bytes of read-only data from
 //! 0x10000000, and right behind it 65,536 bytes of data memory; little-endian.
 
 ghost use Rattle.std.specs.Prelude.{ℕ, ◌≡◌, ◌+◌, ◌-◌, ◌<◌, ◌≤◌, ◌⊎◌, ◌↔◌, ◌++◌, length, take, drop, replicate, vec_len, Ok, Err, Some, IfOk, IfErr, IfSome, OnErr, IsTrue};
@@ -37,7 +37,7 @@ pub enum MemoryFault {
 
 /// Where an access falls: in read-only data or in data memory, at an offset from its begin.
 #[derive(Clone, Copy, Debug, PartialEq, Eq)]
-pub enum Spot {
+pub enum MemoryPlace {
     /// In read-only data.
     InFixed(usize),
     /// In data memory.
@@ -76,7 +76,7 @@ fn padded(alloc: Global, start: &[u8], size: usize) -> Result<Vec<u8>, AllocErro
 
 /// Where an access of 1, 2 or 4 bytes falls: first the alignment, then whether each byte is there.
 #[inline(always)]
-fn locate(size: u32, at: u32) -> Result<Spot, Trap>
+fn locate(size: u32, at: u32) -> Result<MemoryPlace, Trap>
     requires { (size ≡ 1) ⊎ ((size ≡ 2) ⊎ (size ≡ 4)) }
     ensures spot { result ≡ spot_of (region size at) }
     ensures within { IfOk result (λ spot. offset_of spot + size ≤ 65536) }
@@ -88,9 +88,9 @@ fn locate(size: u32, at: u32) -> Result<Spot, Trap>
         return Err(Trap::OutOfRange);
     }
     if at < DATA_START {
-        Ok(Spot::InFixed((at - FIXED_START) as usize))
+        Ok(MemoryPlace::InFixed((at - FIXED_START) as usize))
     } else {
-        Ok(Spot::InData((at - DATA_START) as usize))
+        Ok(MemoryPlace::InData((at - DATA_START) as usize))
     }
 }
 
@@ -203,8 +203,8 @@ impl Memory {
         ensures { result ≡ number_in 4 (region 4 at) (byte_of self.now.fixed) (byte_of self.now.bytes) }
     {
         match locate(4, at)? {
-            Spot::InFixed(offset) => Ok(word_at(&self.fixed, offset)),
-            Spot::InData(offset) => Ok(word_at(&self.bytes, offset)),
+            MemoryPlace::InFixed(offset) => Ok(word_at(&self.fixed, offset)),
+            MemoryPlace::InData(offset) => Ok(word_at(&self.bytes, offset)),
         }
     }
 
@@ -213,8 +213,8 @@ impl Memory {
         ensures { result ≡ number_in 2 (region 2 at) (byte_of self.now.fixed) (byte_of self.now.bytes) }
     {
         match locate(2, at)? {
-            Spot::InFixed(offset) => Ok(half_at(&self.fixed, offset)),
-            Spot::InData(offset) => Ok(half_at(&self.bytes, offset)),
+            MemoryPlace::InFixed(offset) => Ok(half_at(&self.fixed, offset)),
+            MemoryPlace::InData(offset) => Ok(half_at(&self.bytes, offset)),
         }
     }
 
@@ -223,8 +223,8 @@ impl Memory {
         ensures { result ≡ number_in 1 (region 1 at) (byte_of self.now.fixed) (byte_of self.now.bytes) }
     {
         match locate(1, at)? {
-            Spot::InFixed(offset) => Ok(self.fixed[offset]),
-            Spot::InData(offset) => Ok(self.bytes[offset]),
+            MemoryPlace::InFixed(offset) => Ok(self.fixed[offset]),
+            MemoryPlace::InData(offset) => Ok(self.bytes[offset]),
         }
     }
 
@@ -247,8 +247,8 @@ impl Memory {
         ensures outcome { outcome_of_store (region size at) ≡ outcome_of_result result }
     {
         match locate(size, at)? {
-            Spot::InFixed(_) => Err(Trap::ReadOnly),
-            Spot::InData(offset) => {
+            MemoryPlace::InFixed(_) => Err(Trap::ReadOnly),
+            MemoryPlace::InData(offset) => {
                 put_low(&mut self.bytes, size as usize, offset, word);
                 Ok(())
             }
@@ -340,7 +340,7 @@ fn fixed_offset(size: u32, at: u32) -> Option<usize>
     ensures within { IfSome result (λ offset. offset < 65536) }
 {
     match locate(size, at) {
-        Ok(Spot::InFixed(offset)) => Some(offset),
+        Ok(MemoryPlace::InFixed(offset)) => Some(offset),
         _ => None,
     }
 }

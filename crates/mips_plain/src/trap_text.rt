@@ -10,7 +10,7 @@ impl fmt::Display for Trap {
 
     ghost output = { λ trap. Some (trap_text trap) };
 
-    /// The number and the name of the trap (own choice).
+    /// The number and the name of the trap.
     fn fmt<W: fmt::Write>(&self, f: &mut fmt::Formatter<W>) -> fmt::Result {
         match *self {
             Trap::Unaligned => write!(f, "1 Unaligned"),

@@ -1,4 +1,4 @@
--- What a call leaves in the caller's memory, and the number that it answers (own choice).
+-- What a call leaves in the caller's memory, and the number that it answers.
 use Rattle.std.specs.Prelude.{◌≡◌, ◌<◌, ◌⊎◌, ⊤, ℕ, List, ◌++◌, length, drop, Result, Ok, Err}
 use Rattle.report_texts.specs.OutputTexts.{Report}
 use Rattle.multiscalar_c.specs.declared.answer.Fault.{Fault}

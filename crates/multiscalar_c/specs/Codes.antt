@@ -1,4 +1,4 @@
--- What the numbers stand for that a caller passes (own choice).
+-- What the numbers stand for that a caller passes.
 use Rattle.std.specs.Prelude.{◌≤◌, ◌==◌, ◌&&◌, nat_le, nat_lt, not, ℕ, Bool, true, false, List, [], ◌∷◌, length, Option, Some, None, if◌then◌else◌}
 use Rattle.std.specs.List.{list_any}
 use Rattle.jobs.specs.declared.job.CertificateSource.{CertificateSource}

@@ -1,4 +1,4 @@
--- What each call takes, and what it hands out (own choice).
+-- What each call takes, and what it hands out.
 use Rattle.std.specs.Prelude.{◌≡◌, ℕ, Bool, List, [], Option, Some, None, IsSome, IfSome, slice_get, if◌then◌else◌}
 use Rattle.std.specs.Str.{IsUtf8}
 use Rattle.jobs.specs.declared.job.Colors.TheVariants.{Never}

@@ -2,7 +2,7 @@
 ghost use Rattle.std.specs.Prelude.{Ok};
 ghost use Rattle.multiscalar_c.specs.Answers.{Left};
 
-use report_texts::report::Report;
+use report_texts::report::JobReport;
 use std::alloc::AllocError;
 
 /// What is answered where `out` is too short.
@@ -35,7 +35,7 @@ impl From<AllocError> for Fault {
 }
 
 /// Hands out a report: its bytes at the start of `out`, their number in `len`, and its status.
-pub(crate) fn hand_out(made: Result<Report, Fault>, out: &mut [u8], len: &mut usize) -> u32
+pub(crate) fn hand_out(made: Result<JobReport, Fault>, out: &mut [u8], len: &mut usize) -> u32
     ensures { Left made result out.old out.new len.new }
 {
     match made {
@@ -51,7 +51,7 @@ pub(crate) fn hand_out(made: Result<Report, Fault>, out: &mut [u8], len: &mut us
 }
 
 // Hands out a report, or says which length it needs.
-fn hand_out_report(report: &Report, out: &mut [u8], len: &mut usize) -> u32
+fn hand_out_report(report: &JobReport, out: &mut [u8], len: &mut usize) -> u32
     ensures { Left (Ok report.now) result out.old out.new len.new }
 {
     let bytes = report.bytes();

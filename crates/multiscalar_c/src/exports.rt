@@ -16,7 +16,7 @@ use jobs::job::{Colors, DemonstrateEmit};
 use jobs::ranges::{Budget, Units};
 use report_texts::annotating::annotate;
 use report_texts::printing::print;
-use report_texts::report::Report;
+use report_texts::report::JobReport;
 use report_texts::sequential::seq;
 use std::alloc::Global;
 use strict_replay::replaying::replay_strictly;
@@ -39,7 +39,7 @@ pub extern "C" fn multiscalar_c_seq(
     hand_out(seq_of(alloc, budget, program), out, len)
 }
 
-fn seq_of(alloc: Global, budget: u32, program: &[u8]) -> Result<Report, Fault>
+fn seq_of(alloc: Global, budget: u32, program: &[u8]) -> Result<JobReport, Fault>
     ensures { Made (IsBudget budget) (λ report. report ≡ seq_text budget program.now) result }
 {
     let budget = Budget::new(budget).ok_or(Fault::Range)?;
@@ -59,7 +59,7 @@ pub extern "C" fn multiscalar_c_print(
     hand_out(print_of(alloc, program), out, len)
 }
 
-fn print_of(alloc: Global, program: &[u8]) -> Result<Report, Fault>
+fn print_of(alloc: Global, program: &[u8]) -> Result<JobReport, Fault>
     ensures { Made ⊤ (λ report. report ≡ print_text program.now) result }
 {
     Ok(print(alloc, program)?)
@@ -80,7 +80,7 @@ pub extern "C" fn multiscalar_c_annotate(
     hand_out(annotate_of(alloc, emit, program), out, len)
 }
 
-fn annotate_of(alloc: Global, emit: u32, program: &[u8]) -> Result<Report, Fault>
+fn annotate_of(alloc: Global, emit: u32, program: &[u8]) -> Result<JobReport, Fault>
     ensures { Made (IsSome (slice_get emits emit)) (IsAnnotated emit program.now) result }
 {
     let emit = codes::emit(emit).ok_or(Fault::Range)?;
@@ -107,7 +107,7 @@ fn check_of(
     is_least: bool,
     program: &[u8],
     certificate: &[u8],
-) -> Result<Report, Fault>
+) -> Result<JobReport, Fault>
     ensures { Made ⊤ (IsChecked is_least program.now certificate.now) result }
 {
     let texts = texts(alloc, program, certificate, b"")?;
@@ -156,7 +156,7 @@ fn explain_of(
     program: &[u8],
     certificate_name: &[u8],
     certificate: &[u8],
-) -> Result<Report, Fault>
+) -> Result<JobReport, Fault>
     ensures { Made (ExplainTakes format title.now (file_of has_certificate certificate_name.now))
         (IsExplained format warnings title.now (file_of has_certificate certificate_name.now) program.now certificate.now) result }
 {
@@ -202,7 +202,7 @@ fn replay_of(
     program: &[u8],
     certificate: &[u8],
     script: &[u8],
-) -> Result<Report, Fault>
+) -> Result<JobReport, Fault>
     ensures { Made (ReplayTakes units emit) (IsReplayed is_least units emit program.now certificate.now script.now) result }
 {
     let units = Units::new(units).ok_or(Fault::Range)?;
@@ -236,7 +236,7 @@ fn replay_strictly_of(
     program: &[u8],
     certificate: &[u8],
     script: &[u8],
-) -> Result<Report, Fault>
+) -> Result<JobReport, Fault>
     ensures { Made (IsUnits units) (IsReplayedStrictly is_least units program.now certificate.now script.now) result }
 {
     let units = Units::new(units).ok_or(Fault::Range)?;
@@ -290,7 +290,7 @@ fn run_of(
     emit: u32,
     program: &[u8],
     certificate: &[u8],
-) -> Result<Report, Fault>
+) -> Result<JobReport, Fault>
     ensures { Made (RunTakes run_emits units budget predict list.now emit)
         (IsRun is_least units budget predict list.now emit program.now certificate.now) result }
 {
@@ -351,7 +351,7 @@ fn curve_of(
     emit: u32,
     program: &[u8],
     certificate: &[u8],
-) -> Result<Report, Fault>
+) -> Result<JobReport, Fault>
     ensures { Made (RunTakes curve_emits units budget predict list.now emit)
         (IsCurve is_least units budget predict list.now emit program.now certificate.now) result }
 {
@@ -380,7 +380,7 @@ pub extern "C" fn multiscalar_c_demonstrate(
     hand_out(demonstrate_of(alloc, units, steps, program), out, len)
 }
 
-fn demonstrate_of(alloc: Global, units: u32, steps: u32, program: &[u8]) -> Result<Report, Fault>
+fn demonstrate_of(alloc: Global, units: u32, steps: u32, program: &[u8]) -> Result<JobReport, Fault>
     ensures { Made (IsUnits units × IsBudget steps) (IsDemonstrateReport units steps Events program.now) result }
 {
     let units = Units::new(units).ok_or(Fault::Range)?;

@@ -12,10 +12,10 @@ use Rattle.program_statements.specs.Statements.{numbers_of, words_of, bytes_of, 
 use Rattle.program_statements.specs.declared.fault.StatementFault.{StatementFault}
 use Rattle.program_statements.specs.declared.fault.StatementFault.TheVariants as fault
 use Rattle.program_statements.specs.declared.statement.Statement.TheVariants as statement
-use Rattle.operand_forms.specs.declared.form.Part.TheVariants.{Numbers}
+use Rattle.operand_forms.specs.declared.form.OperandPart.TheVariants.{Numbers}
 use Rattle.operand_forms.specs.declared.form.Inside.TheVariants.{Before, AfterComma}
 use Rattle.operand_forms.specs.declared.shape.Range.{Range}
-use Rattle.operand_forms.specs.declared.shape.Shape.TheVariants as shape
+use Rattle.operand_forms.specs.declared.shape.OperandShape.TheVariants as shape
 use Rattle.operand_forms.specs.Shapes.{range_of}
 use Rattle.operand_forms.specs.Meant.{is_within, is_beyond}
 use Rattle.operand_forms.specs.OperandForms.{is_whole, has_beyond, judged, shape_fault, fault_of}

@@ -14,8 +14,8 @@ use Rattle.program_statements.specs.Statements.{start_of, no_operands, space_of,
 use Rattle.program_statements.specs.declared.statement.Section.TheVariants as section
 use Rattle.program_statements.specs.declared.statement.Statement.{Statement}
 use Rattle.program_statements.specs.declared.statement.Statement.TheVariants as statement
-use Rattle.operand_forms.specs.declared.shape.Shape.{Shape}
-use Rattle.operand_forms.specs.declared.shape.Shape.TheVariants as shape
+use Rattle.operand_forms.specs.declared.shape.OperandShape.{OperandShape}
+use Rattle.operand_forms.specs.declared.shape.OperandShape.TheVariants as shape
 use Rattle.operand_forms.specs.Shapes.{shape_of, range}
 use Rattle.operand_forms.specs.Meant.{is_within}
 use Rattle.operand_forms.specs.OperandForms.{directive_shape, shape_fault, fault_of}
@@ -36,7 +36,7 @@ space_agrees (token.Number n ∷ []) =
     carried (natural 65536 n) (λ size. statement.Space size) ∙ (natural_fault 65536 n ∙ one_number (is_within (range (pos 0) (pos 65536)) n))
 space_agrees ts = refl
 
-abbrev own_shape : Directive → Option Shape
+abbrev own_shape : Directive → Option OperandShape
 own_shape directive.Start = Some shape.Start
 own_shape directive.Task = Some shape.Task
 own_shape directive.Text = Some shape.Nothing
@@ -64,7 +64,7 @@ swapped : (a b : List ℕ) → bytes_eq a b ≡ bytes_eq b a
 swapped a b = same_from_decides (bytes_eq a b) (bytes_eq b a) (bytes_eq-Decides a b) (Decides-like (bytes_eq b a) (λ e. sym e) (λ e. sym e) (bytes_eq-Decides b a))
 
 -- a row, and the rows after it
-row_so : (word letters : List ℕ) (d : Directive) (others : Directive) (later : Option Shape) → later ≡ own_shape others
+row_so : (word letters : List ℕ) (d : Directive) (others : Directive) (later : Option OperandShape) → later ≡ own_shape others
     → cond (bytes_eq word letters) (own_shape d) later ≡ own_shape (cond (bytes_eq letters word) d others)
 row_so word letters d others later e =
     elim (bytes_eq letters word) as (λ b. bytes_eq word letters ≡ b → cond (bytes_eq word letters) (own_shape d) later ≡ own_shape (cond b d others))

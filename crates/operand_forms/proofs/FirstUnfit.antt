@@ -10,11 +10,11 @@ use Rattle.program_statements.specs.Statements.{instruction_of, directive_of}
 use Rattle.program_statements.specs.declared.fault.StatementFault.{StatementFault}
 use Rattle.program_statements.specs.declared.fault.StatementFault.TheVariants as fault
 use Rattle.program_statements.specs.declared.statement.Section.TheVariants as section
-use Rattle.operand_forms.specs.declared.form.Part.{Part}
-use Rattle.operand_forms.specs.declared.form.Part.TheVariants.{Register, Comma}
+use Rattle.operand_forms.specs.declared.form.OperandPart.{OperandPart}
+use Rattle.operand_forms.specs.declared.form.OperandPart.TheVariants.{Register, Comma}
 use Rattle.operand_forms.specs.declared.form.Inside.{Inside}
 use Rattle.operand_forms.specs.declared.form.Inside.TheVariants.{Before}
-use Rattle.operand_forms.specs.declared.shape.Shape.{Shape}
+use Rattle.operand_forms.specs.declared.shape.OperandShape.{OperandShape}
 use Rattle.operand_forms.specs.Forms.{form_of as parts_of, is_general, leads, next_part, fitting}
 use Rattle.operand_forms.specs.OperandForms.{is_whole, fits, fits_shape, has_beyond, judged, instruction_shape, directive_shape, shape_fault, fault_of, so_far, NamesFirst}
 use Rattle.operand_forms.proofs.OperandKinds.{walked}
@@ -22,7 +22,7 @@ use Rattle.operand_forms.proofs.Mended.{counted, mended, shape_clear}
 use Rattle.operand_forms.proofs.AllMnemonics.{agrees}
 use Rattle.operand_forms.proofs.Directives.{agrees as directive_agrees}
 
-unfit : (inside : Inside) (ps : List Part) (ts more : List Token) → fitting inside ps ts < length ts
+unfit : (inside : Inside) (ps : List OperandPart) (ts more : List Token) → fitting inside ps ts < length ts
     → is_whole inside ps (take (suc (fitting inside ps ts)) ts ++ more) ≡ false
 unfit inside ps [] more few = absurd (omega arith)
 unfit inside ps (t ∷ ts) more few =
@@ -33,7 +33,7 @@ unfit inside ps (t ∷ ts) more few =
     ]) few
 
 -- nor is it one register alone, where `jalr` has two
-abbrev second : List Part
+abbrev second : List OperandPart
 second = Comma ∷ Register ∷ []
 
 unfit_alone : (ts more : List Token) → fitting Before (Register ∷ second) ts < length ts
@@ -53,7 +53,7 @@ never_refused : (beyond : Bool) → ¬ (judged true beyond ≡ Some fault.Operan
 never_refused true e = absurd cc
 never_refused false e = absurd cc
 
-by_reading : (reading : List Token → Option StatementFault) (s : Shape) (whole : List Token → Bool)
+by_reading : (reading : List Token → Option StatementFault) (s : OperandShape) (whole : List Token → Bool)
     → ((ts : List Token) → reading ts ≡ judged (whole ts) (has_beyond s ts)) → (ts : List Token)
     → ((more : List Token) × (whole (take (so_far s ts) ts ++ more) ≡ true))
     → (so_far s ts < length ts → (more : List Token) → whole (take (suc (so_far s ts)) ts ++ more) ≡ false)
@@ -68,7 +68,7 @@ by_reading reading s whole reads ts some none =
           ∙ ap (λ whole. judged whole (has_beyond s with_it)) (subst (λ k. whole (take k ts ++ more) ≡ false) (sym (add-one (so_far s ts))) (none few more));
     }
 
-shape_mended : (s : Shape) (ts : List Token) → (more : List Token) × (fits_shape s (take (so_far s ts) ts ++ more) ≡ true)
+shape_mended : (s : OperandShape) (ts : List Token) → (more : List Token) × (fits_shape s (take (so_far s ts) ts ++ more) ≡ true)
 shape_mended s ts = mended Before (parts_of s) ts (shape_clear s)
 
 fits_mended : (m : Mnemonic) (ts : List Token) → (more : List Token) × (fits m (take (so_far (instruction_shape m) ts) ts ++ more) ≡ true)
@@ -86,7 +86,7 @@ fits_never m ts few more = unfit Before (parts_of (instruction_shape m)) ts more
 pub instruction_named : (m : Mnemonic) (ts : List Token) → NamesFirst (λ ts. fault_of (instruction_of m ts)) (instruction_shape m) ts
 instruction_named m ts = by_reading (λ ts. fault_of (instruction_of m ts)) (instruction_shape m) (fits m) (agrees m) ts (fits_mended m ts) (fits_never m ts)
 
-pub directive_told : (letters : List ℕ) (s : Shape) (ts : List Token) → directive_shape letters ≡ Some s
+pub directive_told : (letters : List ℕ) (s : OperandShape) (ts : List Token) → directive_shape letters ≡ Some s
     → NamesFirst (λ ts. fault_of (directive_of section.Data (directive_named letters) ts)) s ts
 directive_told letters s ts e =
     by_reading (λ ts. fault_of (directive_of section.Data (directive_named letters) ts)) s (fits_shape s)

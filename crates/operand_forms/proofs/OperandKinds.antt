@@ -11,8 +11,8 @@ use Rattle.program_statements.specs.declared.fault.StatementFault.{StatementFaul
 use Rattle.program_statements.specs.declared.fault.StatementFault.TheVariants as fault
 use Rattle.program_statements.specs.declared.operand.Operand.{Operand}
 use Rattle.program_statements.specs.declared.operand.Operand.TheVariants as operand
-use Rattle.operand_forms.specs.declared.form.Part.{Part}
-use Rattle.operand_forms.specs.declared.form.Part.TheVariants.{Register, Number as NumberPart, Place, Label, Comma, Open, Close}
+use Rattle.operand_forms.specs.declared.form.OperandPart.{OperandPart}
+use Rattle.operand_forms.specs.declared.form.OperandPart.TheVariants.{Register, Number as NumberPart, Place, Label, Comma, Open, Close}
 use Rattle.operand_forms.specs.declared.form.Inside.{Inside}
 use Rattle.operand_forms.specs.declared.form.Inside.TheVariants.{Before}
 use Rattle.operand_forms.specs.Forms.{leads}
@@ -28,18 +28,18 @@ pub data Kind : Type 0 where
   Name : Kind
 
 -- the parts of an operand, before those of the others
-abbrev pub before : Kind → List Part → List Part
+abbrev pub before : Kind → List OperandPart → List OperandPart
 before General rest = Register ∷ rest
 before Numeral rest = NumberPart ∷ rest
 before Offset rest = NumberPart ∷ Open ∷ Register ∷ Close ∷ rest
 before Destination rest = Place ∷ rest
 before Name rest = Label ∷ rest
 
-abbrev pub later_parts : List Kind → List Part
+abbrev pub later_parts : List Kind → List OperandPart
 later_parts [] = []
 later_parts (k ∷ ks) = Comma ∷ before k (later_parts ks)
 
-abbrev pub all_parts : List Kind → List Part
+abbrev pub all_parts : List Kind → List OperandPart
 all_parts [] = []
 all_parts (k ∷ ks) = before k (later_parts ks)
 
@@ -65,7 +65,7 @@ abbrev pub beyond_tokens : Range → List Token → Bool
 beyond_tokens numbers ts = list_any (is_beyond numbers) ts
 
 -- the walk after one token
-abbrev pub walked : Option (Inside × List Part) → List Token → Bool
+abbrev pub walked : Option (Inside × List OperandPart) → List Token → Bool
 walked next ts = elim next [ None ↦ false | Some next ↦ is_whole next.0 next.1 ts ]
 
 -- what an operand that was read says of its tokens, which fit the parts or do not

@@ -10,7 +10,7 @@ use Rattle.program_statements.specs.declared.fault.StatementFault.{StatementFaul
 use Rattle.program_statements.specs.declared.fault.StatementFault.TheVariants as fault
 use Rattle.program_statements.specs.declared.statement.Instruction.{Instruction}
 use Rattle.program_statements.specs.declared.statement.Instruction.TheVariants as instruction
-use Rattle.operand_forms.specs.declared.form.Part.TheVariants.{RegisterList}
+use Rattle.operand_forms.specs.declared.form.OperandPart.TheVariants.{RegisterList}
 use Rattle.operand_forms.specs.declared.form.Inside.TheVariants.{Before, AfterComma}
 use Rattle.operand_forms.specs.OperandForms.{is_whole, has_beyond, judged, instruction_shape, instruction_fault, fault_of}
 

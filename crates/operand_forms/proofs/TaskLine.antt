@@ -17,10 +17,10 @@ use Rattle.program_statements.specs.declared.statement.Target.{Target}
 use Rattle.program_statements.specs.declared.statement.Target.TheVariants as target
 use Rattle.program_statements.specs.declared.statement.Statement.{Statement}
 use Rattle.program_statements.specs.declared.statement.Statement.TheVariants as statement
-use Rattle.operand_forms.specs.declared.form.Part.{Part}
-use Rattle.operand_forms.specs.declared.form.Part.TheVariants.{Label, Create, Equals, RegisterSet, Targets, Places}
+use Rattle.operand_forms.specs.declared.form.OperandPart.{OperandPart}
+use Rattle.operand_forms.specs.declared.form.OperandPart.TheVariants.{Label, Create, Equals, RegisterSet, Targets, Places}
 use Rattle.operand_forms.specs.declared.form.Inside.TheVariants.{Before, AfterComma}
-use Rattle.operand_forms.specs.declared.shape.Shape.TheVariants as shape
+use Rattle.operand_forms.specs.declared.shape.OperandShape.TheVariants as shape
 use Rattle.operand_forms.specs.Shapes.{range}
 use Rattle.operand_forms.specs.Forms.{leads}
 use Rattle.operand_forms.specs.Meant.{is_within}
@@ -29,27 +29,27 @@ use Rattle.operand_forms.proofs.OperandKinds.{walked}
 use Rattle.operand_forms.proofs.RangeTests.{carried, natural_fault, both_fault}
 use Rattle.operand_forms.proofs.ReleaseList.{as_set}
 
-abbrev places : List Part
+abbrev places : List OperandPart
 places = Places ∷ []
 
-abbrev from_targets : List Part
+abbrev from_targets : List OperandPart
 from_targets = Targets ∷ Equals ∷ places
 
-abbrev registers : List Part
+abbrev registers : List OperandPart
 registers = RegisterSet ∷ from_targets
 
-abbrev from_create : List Part
+abbrev from_create : List OperandPart
 from_create = Create ∷ Equals ∷ registers
 
 abbrev beyond : List Token → Bool
 beyond ts = has_beyond shape.Task ts
 
 -- what a stage that was read says of its tokens, which fit the parts or do not, and of those after it
-abbrev Stage : {X : Type 0} → (X → List Token) → (whole : Bool) → (later : List Part) → List Token → Result X StatementFault → Type 0
+abbrev Stage : {X : Type 0} → (X → List Token) → (whole : Bool) → (later : List OperandPart) → List Token → Result X StatementFault → Type 0
 Stage after whole later ts (Ok x) = (whole ≡ is_whole Before later (after x)) × (beyond ts ≡ beyond (after x))
 Stage after whole later ts (Err f) = (whole ≡ false) × (f ≡ fault.Operand)
 
-then_so : {X : Type 0} (after : X → List Token) (whole : Bool) (later : List Part) (ts : List Token) (read : Result X StatementFault) (next : X → Result Statement StatementFault)
+then_so : {X : Type 0} (after : X → List Token) (whole : Bool) (later : List OperandPart) (ts : List Token) (read : Result X StatementFault) (next : X → Result Statement StatementFault)
     → Stage after whole later ts read → ((x : X) → fault_of (next x) ≡ judged (is_whole Before later (after x)) (beyond (after x)))
     → fault_of (read >>= next) ≡ judged whole (beyond ts)
 then_so after whole later ts (Ok x) next a says = says x ∙ sym (ap₂ judged a.0 a.1)

@@ -7,8 +7,8 @@ use Rattle.program_tokens.specs.Numbers.{number_in, number_of, magnitude_of}
 use Rattle.program_tokens.specs.Registers.{register_of}
 use Rattle.mips_instructions.specs.declared.instruction.Form.{Form}
 use Rattle.mips_instructions.specs.declared.instruction.Form.TheVariants as form
-use Rattle.operand_forms.specs.declared.shape.Shape.{Shape}
-use Rattle.operand_forms.specs.declared.shape.Shape.TheVariants as shape
+use Rattle.operand_forms.specs.declared.shape.OperandShape.{OperandShape}
+use Rattle.operand_forms.specs.declared.shape.OperandShape.TheVariants as shape
 use Rattle.operand_forms.specs.Shapes.{form_text, range_of, range_text}
 use Rattle.operand_forms.specs.Forms.{form_of as parts_of}
 use Rattle.operand_forms.specs.ShapeTexts.{is_example, from_to, ends_in, takes_number}
@@ -18,13 +18,13 @@ unfolding line_tokens tokens_after token_of kind_of register_of number_in number
 form_taken form.Three = refl
 form_taken _ = refl
 
-pub example_taken : (s : Shape) → is_example s (form_text s) ≡ true
+pub example_taken : (s : OperandShape) → is_example s (form_text s) ≡ true
 unfolding line_tokens tokens_after token_of kind_of register_of number_in number_of magnitude_of
 example_taken (shape.Instruction f) = form_taken f
 example_taken _ = refl
 
 -- one with a number has a range
-abbrev is_ranged : Shape → Bool
+abbrev is_ranged : OperandShape → Bool
 is_ranged s = not (takes_number (parts_of s)) || ends_in (from_to (range_of s)) (range_text s)
 
 form_ranged : (f : Form) → is_ranged (shape.Instruction f) ≡ true
@@ -32,7 +32,7 @@ unfolding digits
 form_ranged form.Three = refl
 form_ranged _ = refl
 
-each_ranged : (s : Shape) → is_ranged s ≡ true
+each_ranged : (s : OperandShape) → is_ranged s ≡ true
 unfolding digits
 each_ranged (shape.Instruction f) = form_ranged f
 each_ranged _ = refl
@@ -41,5 +41,5 @@ then_so : (a b : Bool) → a ≡ true → (not a || b) ≡ true → b ≡ true
 then_so true b e h = h
 then_so false b e h = absurd cc
 
-pub shape_ranged : (s : Shape) → takes_number (parts_of s) ≡ true → ends_in (from_to (range_of s)) (range_text s) ≡ true
+pub shape_ranged : (s : OperandShape) → takes_number (parts_of s) ≡ true → ends_in (from_to (range_of s)) (range_text s) ≡ true
 shape_ranged s e = then_so (takes_number (parts_of s)) (ends_in (from_to (range_of s)) (range_text s)) e (each_ranged s)

@@ -1,4 +1,4 @@
--- Texts that may be meant in place of what is wrong in a line (own choice).
+-- Texts that may be meant in place of what is wrong in a line.
 use Rattle.std.specs.Prelude.{ℕ, List, [], ◌∷◌, ◌++◌, filter, map, drop, length, nat_lt, codes, Bool, false, is_some, if◌then◌else◌, ◌==◌, ◌&&◌, ◌||◌}
 use Rattle.std.specs.Str.{byte, bytes_eq, str_to_ascii_lowercase}
 use Rattle.program_tokens.specs.Numbers.{begins_with_digit}

@@ -11,7 +11,7 @@ use Rattle.mips_instructions.specs.declared.instruction.Mnemonic.TheVariants.{Lo
 use Rattle.program_statements.specs.declared.fault.StatementFault.TheVariants as fault
 use Rattle.diagnostics.specs.Excerpt.{is_readable}
 use Rattle.diagnostics.specs.Quotations.{as_shown}
-use Rattle.operand_forms.specs.declared.shape.Shape.TheVariants as shape
+use Rattle.operand_forms.specs.declared.shape.OperandShape.TheVariants as shape
 use Rattle.operand_forms.specs.Shapes.{shape_of}
 use Rattle.operand_forms.specs.Candidates.{label_candidates}
 use Rattle.operand_forms.specs.ForeignWords.{operand_row}

@@ -1,4 +1,4 @@
--- What is written here instead of words and operands of other assemblers (own choice). rd, rs, rt and base are registers, n
+-- What is written here instead of words and operands of other assemblers. rd, rs, rt and base are registers, n
 -- is a number, T a place in the code and NAME a label.
 use Rattle.std.specs.Prelude.{ℕ, List, [], ◌∷◌, codes, Bool, Option, Some, None, if◌then◌else◌, ◌==◌, ◌&&◌, ◌||◌}
 use Rattle.std.specs.Option.{option_or}

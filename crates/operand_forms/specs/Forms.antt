@@ -1,4 +1,4 @@
--- Which tokens follow one another in the operands of a statement (own choice: read from left to right, so
+-- Which tokens follow one another in the operands of a statement (read from left to right, so
 -- that the first token can be named that does not fit).
 use Rattle.std.specs.Prelude.{ℕ, ◌+◌, List, [], ◌∷◌, Bool, true, false, drop, nat_lt, codes, Option, Some, None, if◌then◌else◌}
 use Rattle.std.specs.Str.{bytes_eq}
@@ -6,15 +6,15 @@ use Rattle.program_tokens.specs.declared.token.Token.{Token}
 use Rattle.program_tokens.specs.declared.token.Token.TheVariants as token
 use Rattle.mips_instructions.specs.declared.instruction.Form.{Form}
 use Rattle.mips_instructions.specs.declared.instruction.Form.TheVariants as form
-use Rattle.operand_forms.specs.declared.shape.Shape.{Shape}
-use Rattle.operand_forms.specs.declared.shape.Shape.TheVariants as shape
-use Rattle.operand_forms.specs.declared.form.Part.{Part}
-use Rattle.operand_forms.specs.declared.form.Part.TheVariants.{Register, Number, Place, Label, Comma, Open, Close, Equals, Create, Targets, Numbers, RegisterList, RegisterSet, Places}
+use Rattle.operand_forms.specs.declared.shape.OperandShape.{OperandShape}
+use Rattle.operand_forms.specs.declared.shape.OperandShape.TheVariants as shape
+use Rattle.operand_forms.specs.declared.form.OperandPart.{OperandPart}
+use Rattle.operand_forms.specs.declared.form.OperandPart.TheVariants.{Register, Number, Place, Label, Comma, Open, Close, Equals, Create, Targets, Numbers, RegisterList, RegisterSet, Places}
 use Rattle.operand_forms.specs.declared.form.Inside.{Inside}
 use Rattle.operand_forms.specs.declared.form.Inside.TheVariants.{Before, Member, AfterComma}
 
 -- the operands of each form of an instruction, part by part
-abbrev pub instruction_form : Form → List Part
+abbrev pub instruction_form : Form → List OperandPart
 instruction_form form.Three = Register ∷ Comma ∷ Register ∷ Comma ∷ Register ∷ []
 instruction_form form.ShiftBy = Register ∷ Comma ∷ Register ∷ Comma ∷ Number ∷ []
 instruction_form form.ShiftVar = Register ∷ Comma ∷ Register ∷ Comma ∷ Register ∷ []
@@ -35,7 +35,7 @@ instruction_form form.LoadImmediate = Register ∷ Comma ∷ Number ∷ []
 instruction_form form.LoadAddress = Register ∷ Comma ∷ Label ∷ []
 
 -- the operands of each shape, part by part
-abbrev pub form_of : Shape → List Part
+abbrev pub form_of : OperandShape → List OperandPart
 form_of (shape.Instruction f) = instruction_form f
 form_of shape.Nothing = []
 form_of shape.Start = Label ∷ []
@@ -93,7 +93,7 @@ is_minus token.Minus = true
 is_minus _ = false
 
 -- a token is a part, or a member of it
-abbrev pub is_part : Part → Token → Bool
+abbrev pub is_part : OperandPart → Token → Bool
 is_part Register t = is_general t
 is_part Number t = is_number t
 is_part Place t = is_place t
@@ -109,25 +109,25 @@ is_part RegisterList t = is_register t
 is_part RegisterSet t = is_register t
 is_part Places t = is_place t
 
-abbrev pub is_list : Part → Bool
+abbrev pub is_list : OperandPart → Bool
 is_list Numbers = true
 is_list RegisterList = true
 is_list RegisterSet = true
 is_list Places = true
 is_list _ = false
 
-abbrev pub may_be_none : Part → Token → Bool
+abbrev pub may_be_none : OperandPart → Token → Bool
 may_be_none RegisterSet t = is_minus t
 may_be_none Places t = is_minus t
 may_be_none _ t = false
 
 -- Where a token leads, if it fits: how far the first part has come, and the parts.
 
-abbrev pub leads : Bool → Inside → List Part → Option (Inside × List Part)
+abbrev pub leads : Bool → Inside → List OperandPart → Option (Inside × List OperandPart)
 leads fits inside parts = if fits then Some (inside, parts) else None
 
 -- at the beginning of a part
-abbrev pub at_part : List Part → Token → Option (Inside × List Part)
+abbrev pub at_part : List OperandPart → Token → Option (Inside × List OperandPart)
 at_part [] t = None
 at_part (part ∷ parts) t =
     if may_be_none part t then Some (Before, parts)
@@ -135,16 +135,16 @@ at_part (part ∷ parts) t =
     else leads (is_part part t) Before parts
 
 -- after a comma of a list
-abbrev pub at_member : List Part → Token → Option (Inside × List Part)
+abbrev pub at_member : List OperandPart → Token → Option (Inside × List OperandPart)
 at_member [] t = None
 at_member (part ∷ parts) t = leads (is_part part t) Member (part ∷ parts)
 
-abbrev pub next_part : Inside → List Part → Token → Option (Inside × List Part)
+abbrev pub next_part : Inside → List OperandPart → Token → Option (Inside × List OperandPart)
 next_part Before parts t = at_part parts t
 next_part Member parts t = if is_comma t then Some (AfterComma, parts) else at_part (drop 1 parts) t
 next_part AfterComma parts t = at_member parts t
 
 -- how many of these tokens fit, from the first on
-abbrev pub fitting : Inside → List Part → List Token → ℕ
+abbrev pub fitting : Inside → List OperandPart → List Token → ℕ
 fitting inside parts [] = 0
 fitting inside parts (t ∷ ts) = elim (next_part inside parts t) [ None ↦ 0 | Some next ↦ 1 + fitting next.0 next.1 ts ]

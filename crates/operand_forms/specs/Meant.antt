@@ -1,14 +1,14 @@
--- Which token of a line is meant by a fault of its statement (own choice).
+-- Which token of a line is meant by a fault of its statement.
 use Rattle.std.specs.Prelude.{ℕ, ◌+◌, ◌-◌, ◌^◌, min, pos, List, [], ◌∷◌, Bool, true, false, not, length, take, drop, slice_get, unwrap_or, int_le, if◌then◌else◌, ◌==◌, ◌&&◌, ◌||◌}
 use Rattle.std.specs.List.{position}
-use Rattle.program_tokens.specs.declared.span.Span.{Span}
+use Rattle.program_tokens.specs.declared.span.TokenSpan.{TokenSpan}
 use Rattle.program_tokens.specs.declared.token.Number.{Number}
 use Rattle.program_tokens.specs.declared.token.Number.TheVariants.{Small, Large}
 use Rattle.program_tokens.specs.declared.token.Token.{Token}
 use Rattle.program_tokens.specs.declared.token.Token.TheVariants as token
 use Rattle.program_tokens.specs.declared.token.Mark.TheVariants as mark
 use Rattle.program_statements.specs.Statements.{mark_count}
-use Rattle.operand_forms.specs.declared.shape.Shape.{Shape}
+use Rattle.operand_forms.specs.declared.shape.OperandShape.{OperandShape}
 use Rattle.operand_forms.specs.declared.shape.Range.{Range}
 use Rattle.operand_forms.specs.declared.form.Inside.TheVariants.{Before}
 use Rattle.operand_forms.specs.Shapes.{range, range_of}
@@ -21,11 +21,11 @@ label_tokens (token.Name name ∷ token.Colon ∷ rest) = label_tokens rest + 2
 label_tokens _ = 0
 
 -- the place of the token with this index
-abbrev pub span_at : List Span → (index : ℕ) → Span
+abbrev pub span_at : List TokenSpan → (index : ℕ) → TokenSpan
 span_at spans index = unwrap_or (slice_get spans index) (span 1 1)
 
 -- the place after another one, which has no bytes
-abbrev pub place_after : Span → Span
+abbrev pub place_after : TokenSpan → TokenSpan
 place_after at = span (min (at.column + at.len) (2 ^ 64 - 1)) 0
 
 -- Operands.
@@ -39,19 +39,19 @@ abbrev pub operands : List Token → List Token
 operands tokens = without_marks (drop 1 (drop (label_tokens tokens) tokens))
 
 -- how many of the operands fit the shape
-abbrev pub fitting_operands : Shape → List Token → ℕ
+abbrev pub fitting_operands : OperandShape → List Token → ℕ
 fitting_operands shape tokens = fitting Before (form_of shape) (operands tokens)
 
 -- all of them fit, so that more is wanted
-abbrev pub is_early : Shape → List Token → Bool
+abbrev pub is_early : OperandShape → List Token → Bool
 is_early shape tokens = fitting_operands shape tokens == length (operands tokens)
 
 -- the last token that fits, the statement's first among them
-abbrev pub last_fitting : Shape → List Token → ℕ
+abbrev pub last_fitting : OperandShape → List Token → ℕ
 last_fitting shape tokens = min (label_tokens tokens + fitting_operands shape tokens) (2 ^ 64 - 1)
 
 -- the first token that does not fit, or after the last that does
-unfoldable pub operand_span : Shape → List Token → List Span → Span
+unfoldable pub operand_span : OperandShape → List Token → List TokenSpan → TokenSpan
 operand_span shape tokens spans =
     if is_early shape tokens then place_after (span_at spans (last_fitting shape tokens))
     else span_at spans (min (last_fitting shape tokens + 1) (2 ^ 64 - 1))
@@ -69,7 +69,7 @@ is_beyond numbers (token.Index n) = not (is_within (range (pos 0) (pos 4096)) n)
 is_beyond numbers _ = false
 
 -- the first such token
-unfoldable pub number_index : Shape → List Token → ℕ
+unfoldable pub number_index : OperandShape → List Token → ℕ
 number_index shape tokens = unwrap_or (position (is_beyond (range_of shape)) tokens) 0
 
 -- Marks.

@@ -1,4 +1,4 @@
--- What is written instead of a line, in its own words (own choice). The line is known by its signs: those of
+-- What is written instead of a line, in its own words. The line is known by its signs: those of
 -- `lw $t0,a($t1) !f` are $,a($) after `lw`. In a text A stands for the line's first word, B for what comes next, and so on.
 use Rattle.std.specs.Prelude.{ℕ, ◌-◌, List, [], ◌∷◌, ◌++◌, codes, drop, Bool, Option, Some, None, if◌then◌else◌, ◌==◌, ◌||◌}
 use Rattle.std.specs.List.{flat_map, list_any}
@@ -7,7 +7,7 @@ use Rattle.std.specs.Str.{byte, bytes_eq}
 use Rattle.std.specs.Char.{is_ascii_digit}
 use Rattle.std.specs.Int.{is_in_range}
 use Rattle.program_tokens.specs.Grammar.{is_name_start}
-use Rattle.program_tokens.specs.declared.span.Span.{Span}
+use Rattle.program_tokens.specs.declared.span.TokenSpan.{TokenSpan}
 use Rattle.diagnostics.specs.Quotations.{as_shown}
 use Rattle.operand_forms.specs.declared.rows.Reading.{Reading}
 use Rattle.operand_forms.specs.Bytes.{bytes_at, byte_at}
@@ -179,21 +179,21 @@ abbrev pub sign_of : (first : ℕ) → ℕ
 sign_of b = if is_ascii_digit b then byte "0" else if is_name_start b then byte "a" else b
 
 -- the signs of some words, up to a mark, or to the first colon
-abbrev pub signs : (line : List ℕ) → List Span → List ℕ
+abbrev pub signs : (line : List ℕ) → List TokenSpan → List ℕ
 signs line [] = []
 signs line (at ∷ places) =
     let first = byte_at line at in
     if first == byte "!" then [] else if first == byte ":" then first ∷ [] else sign_of first ∷ signs line places
 
 -- of a text: A is 65
-abbrev pub word_for : (line : List ℕ) → List Span → (letter : ℕ) → List ℕ
+abbrev pub word_for : (line : List ℕ) → List TokenSpan → (letter : ℕ) → List ℕ
 word_for line places b = if is_in_range 65 90 b then bytes_at line (span_at places (b - 65)) else b ∷ []
 
-abbrev pub in_its_words : (line : List ℕ) → List Span → (text : List ℕ) → List ℕ
+abbrev pub in_its_words : (line : List ℕ) → List TokenSpan → (text : List ℕ) → List ℕ
 in_its_words line places text = as_shown (flat_map (word_for line places) text)
 
 -- Texts write $1 for a register that is free.
-abbrev pub is_register_one : (line : List ℕ) → Span → Bool
+abbrev pub is_register_one : (line : List ℕ) → TokenSpan → Bool
 is_register_one line at = bytes_eq (bytes_at line at) (codes "$1") || bytes_eq (bytes_at line at) (codes "$at")
 
 unfoldable pub address_row : (word form signs : List ℕ) → Option (List ℕ)
@@ -214,7 +214,7 @@ line_instead word form s =
     (option_or (kind_row word form s) (foreign_row word form s))
 
 -- of a line whose statement stands at these places: none where it has $1 itself
-unfoldable pub line_words : (line : List ℕ) → List Span → Option (List ℕ)
+unfoldable pub line_words : (line : List ℕ) → List TokenSpan → Option (List ℕ)
 line_words line places =
     let word = bytes_at line (span_at places 0) in
     if list_any (is_register_one line) places then None

@@ -4,18 +4,18 @@ use Rattle.std.specs.Fmt.{signed_decimal}
 use Rattle.std.specs.Str.{bytes_eq}
 use Rattle.program_tokens.specs.Grammar.{line_tokens}
 use Rattle.program_tokens.specs.declared.token.Token.{Token}
-use Rattle.operand_forms.specs.declared.form.Part.{Part}
-use Rattle.operand_forms.specs.declared.form.Part.TheVariants.{Number, Numbers}
-use Rattle.operand_forms.specs.declared.shape.Shape.{Shape}
+use Rattle.operand_forms.specs.declared.form.OperandPart.{OperandPart}
+use Rattle.operand_forms.specs.declared.form.OperandPart.TheVariants.{Number, Numbers}
+use Rattle.operand_forms.specs.declared.shape.OperandShape.{OperandShape}
 use Rattle.operand_forms.specs.declared.shape.Range.{Range}
 use Rattle.operand_forms.specs.OperandForms.{fits_shape, has_beyond}
 
 -- operands of a shape, with numbers in its range
-abbrev pub is_taken : Shape → List Token → Bool
+abbrev pub is_taken : OperandShape → List Token → Bool
 is_taken s tokens = fits_shape s tokens && not (has_beyond s tokens)
 
 -- a text that spells such operands
-abbrev pub is_example : Shape → (text : List ℕ) → Bool
+abbrev pub is_example : OperandShape → (text : List ℕ) → Bool
 is_example s text = elim (line_tokens text) [ Ok tokens ↦ is_taken s tokens | Err f ↦ false ]
 
 -- Ranges.
@@ -29,7 +29,7 @@ ends_in end [] = bytes_eq end []
 ends_in end (b ∷ bs) = bytes_eq end (b ∷ bs) || ends_in end bs
 
 -- a shape with a number
-abbrev pub takes_number : List Part → Bool
+abbrev pub takes_number : List OperandPart → Bool
 takes_number [] = false
 takes_number (Number ∷ ps) = true
 takes_number (Numbers ∷ ps) = true

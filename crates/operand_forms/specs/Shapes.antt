@@ -6,24 +6,24 @@ use Rattle.std.specs.Str.{bytes_eq}
 use Rattle.mips_instructions.specs.InstructionTable.{form_of, mnemonics, mnemonic_named}
 use Rattle.mips_instructions.specs.declared.instruction.Form.{Form}
 use Rattle.mips_instructions.specs.declared.instruction.Form.TheVariants as form
-use Rattle.operand_forms.specs.declared.shape.Shape.{Shape}
-use Rattle.operand_forms.specs.declared.shape.Shape.TheVariants as shape
+use Rattle.operand_forms.specs.declared.shape.OperandShape.{OperandShape}
+use Rattle.operand_forms.specs.declared.shape.OperandShape.TheVariants as shape
 use Rattle.operand_forms.specs.declared.shape.Range.{Range}
 
 -- every directive, with the shape of its operands
-abbrev pub directives : List (List ℕ × Shape)
+abbrev pub directives : List (List ℕ × OperandShape)
 directives =
     (codes ".start", shape.Start) ∷ (codes ".task", shape.Task) ∷ (codes ".text", shape.Nothing)
     ∷ (codes ".data", shape.Nothing) ∷ (codes ".rodata", shape.Nothing) ∷ (codes ".word", shape.Words)
     ∷ (codes ".byte", shape.Bytes) ∷ (codes ".space", shape.Space) ∷ []
 
 -- the shape of this word in a table
-abbrev pub shape_in : (word : List ℕ) → List (List ℕ × Shape) → Option Shape
+abbrev pub shape_in : (word : List ℕ) → List (List ℕ × OperandShape) → Option OperandShape
 shape_in word [] = None
 shape_in word (row ∷ rows) = if bytes_eq row.0 word then Some row.1 else shape_in word rows
 
 -- the shape of the operands after a word that begins a statement
-unfoldable pub shape_of : (word : List ℕ) → Option Shape
+unfoldable pub shape_of : (word : List ℕ) → Option OperandShape
 shape_of word =
     option_or (option_map (λ m. shape.Instruction (form_of m)) (mnemonic_named word mnemonics)) (shape_in word directives)
 
@@ -48,7 +48,7 @@ instruction_text form.Nothing = []
 instruction_text form.LoadImmediate = codes " $8,4"
 instruction_text form.LoadAddress = codes " $8,LABEL"
 
-abbrev pub form_text : Shape → List ℕ
+abbrev pub form_text : OperandShape → List ℕ
 form_text (shape.Instruction f) = instruction_text f
 form_text shape.Nothing = []
 form_text shape.Start = codes " A"
@@ -61,7 +61,7 @@ form_text shape.Space = codes " 4"
 abbrev pub range : (low high : ℤ) → Range
 range low high = record { low = low; high = high }
 
-abbrev pub range_of : Shape → Range
+abbrev pub range_of : OperandShape → Range
 range_of (shape.Instruction form.ShiftBy) = range (pos 0) (pos 31)
 range_of (shape.Instruction form.Signed) = range (negsuc 32767) (pos 32767)
 range_of (shape.Instruction form.Unsigned) = range (pos 0) (pos 65535)
@@ -74,7 +74,7 @@ range_of shape.Space = range (pos 0) (pos 65536)
 range_of _ = range (pos 0) (pos 0)
 
 -- the same in words
-abbrev pub range_text : Shape → List ℕ
+abbrev pub range_text : OperandShape → List ℕ
 range_text (shape.Instruction form.ShiftBy) = codes "a shift amount is 0 to 31"
 range_text (shape.Instruction form.Signed) = codes "this number is -32768 to 32767"
 range_text (shape.Instruction form.Unsigned) = codes "this number is 0 to 65535"

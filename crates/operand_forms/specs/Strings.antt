@@ -1,12 +1,12 @@
--- The bytes of a string (own choice), by which a string directive of other assemblers is written as a `.byte`.
+-- The bytes of a string, by which a string directive of other assemblers is written as a `.byte`.
 use Rattle.std.specs.Prelude.{ℕ, ◌≤◌, List, [], ◌∷◌, ◌++◌, length, nat_le, codes, Bool, true, false, ◌&&◌, ◌||◌, Option, Some, None, is_some, if◌then◌else◌, ◌==◌}
 use Rattle.std.specs.List.{flat_map}
 use Rattle.std.specs.Option.{option_to_list}
 use Rattle.std.specs.Fmt.{decimal}
 use Rattle.std.specs.Str.{byte, bytes_eq}
 use Rattle.program_tokens.specs.Grammar.{is_blank}
-use Rattle.operand_forms.specs.declared.strings.Part.{Part}
-use Rattle.operand_forms.specs.declared.strings.Part.TheVariants.{Before, Inside, Escaped, After, Comment, Wrong}
+use Rattle.operand_forms.specs.declared.strings.StringPart.{StringPart}
+use Rattle.operand_forms.specs.declared.strings.StringPart.TheVariants.{Before, Inside, Escaped, After, Comment, Wrong}
 
 -- the letter that one after \ stands for: 34 is a quotation mark, 92 is \
 abbrev pub escaped : (letter : ℕ) → Option ℕ
@@ -18,13 +18,13 @@ escaped b =
     else None
 
 -- the letter of the string that a byte of its line is
-abbrev pub letter_of : Part → ℕ → Option ℕ
+abbrev pub letter_of : StringPart → ℕ → Option ℕ
 letter_of Inside b = if b == 34 || b == 92 then None else Some b
 letter_of Escaped b = escaped b
 letter_of _ b = None
 
 -- the part of the line after a byte
-abbrev pub next_part : Part → ℕ → Part
+abbrev pub next_part : StringPart → ℕ → StringPart
 next_part Before b = if b == 34 then Inside else Before
 next_part Inside b = if b == 34 then After else if b == 92 then Escaped else Inside
 next_part Escaped b = if is_some (escaped b) then Inside else Wrong
@@ -32,18 +32,18 @@ next_part After b = if is_blank b then After else if b == byte "#" then Comment 
 next_part Comment b = Comment
 next_part Wrong b = Wrong
 
-abbrev pub part_after : Part → (line : List ℕ) → Part
+abbrev pub part_after : StringPart → (line : List ℕ) → StringPart
 part_after part [] = part
 part_after part (b ∷ bs) = part_after (next_part part b) bs
 
 -- the line ends after one whole string
-abbrev pub is_end : Part → Bool
+abbrev pub is_end : StringPart → Bool
 is_end After = true
 is_end Comment = true
 is_end _ = false
 
 -- the letters of the string
-abbrev pub letters : Part → (line : List ℕ) → List ℕ
+abbrev pub letters : StringPart → (line : List ℕ) → List ℕ
 letters part [] = []
 letters part (b ∷ bs) = option_to_list (letter_of part b) ++ letters (next_part part b) bs
 

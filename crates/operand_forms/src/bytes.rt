@@ -8,15 +8,15 @@ ghost use Rattle.operand_forms.specs.Bytes.{is_bad_byte, bytes_at, byte_place, b
 
 use crate::slices::{after, first};
 use program_tokens::line::read_tokens;
-use program_tokens::span::{Span, read_spans};
+use program_tokens::span::{TokenSpan, read_spans};
 use program_tokens::token::{Token, TokenFault};
 use std::alloc::{AllocError, Global};
 
 /// The place of what has none: the first byte of the line.
-pub const LINE_START: Span = Span { column: 1, len: 1 };
+pub const LINE_START: TokenSpan = TokenSpan { column: 1, len: 1 };
 
 /// The bytes of a place of a line.
-pub fn bytes_at(line: &[u8], span: Span) -> &[u8]
+pub fn bytes_at(line: &[u8], span: TokenSpan) -> &[u8]
     ensures { result.now ≡ bytes_at line.now span }
 {
     first(after(line, span.column.saturating_sub(1)), span.len)
@@ -47,11 +47,11 @@ fn first_bad(text: &[u8]) -> Option<usize>
 }
 
 /// The place of the byte with this index; the line's first byte where there is none.
-fn byte_place(index: Option<usize>) -> Span
+fn byte_place(index: Option<usize>) -> TokenSpan
     ensures { result ≡ byte_place index }
 {
     match index {
-        Some(index) => Span {
+        Some(index) => TokenSpan {
             column: index.saturating_add(1),
             len: 1,
         },
@@ -61,14 +61,14 @@ fn byte_place(index: Option<usize>) -> Span
 
 /// The first byte of a line that no text has; the line's first byte where there is none.
 #[tactic(auto, unfolding(crate::specs::Bytes::byte_span))]
-pub fn byte_span(line: &[u8]) -> Span
+pub fn byte_span(line: &[u8]) -> TokenSpan
     ensures { result ≡ byte_span line.now }
 {
     byte_place(first_bad(without_carriage_return(line)))
 }
 
 /// The byte where a place begins; 0 where the line has none there.
-pub fn byte_at(line: &[u8], span: Span) -> u8
+pub fn byte_at(line: &[u8], span: TokenSpan) -> u8
     ensures { result ≡ byte_at line.now span }
 {
     line.get(span.column.saturating_sub(1))
@@ -88,7 +88,7 @@ fn is_read(tokens: &mut Vec<Token>, bytes: &[u8]) -> Result<bool, AllocError>
 }
 
 /// The first of these places whose bytes form no token.
-fn token_from(alloc: Global, line: &[u8], spans: &[Span]) -> Result<Span, AllocError>
+fn token_from(alloc: Global, line: &[u8], spans: &[TokenSpan]) -> Result<TokenSpan, AllocError>
     ensures { IfOk result (λ span. span ≡ token_from line.now spans.now) }
 {
     let mut tokens = Vec::new(alloc);
@@ -102,7 +102,7 @@ fn token_from(alloc: Global, line: &[u8], spans: &[Span]) -> Result<Span, AllocE
 
 /// The first bytes of a line that form no token; the line's first byte where there are none.
 #[tactic(auto, unfolding(crate::specs::Bytes::token_span))]
-pub fn token_span(alloc: Global, line: &[u8]) -> Result<Span, AllocError>
+pub fn token_span(alloc: Global, line: &[u8]) -> Result<TokenSpan, AllocError>
     ensures { IfOk result (λ span. span ≡ token_span line.now) }
 {
     let mut spans = Vec::new(alloc);

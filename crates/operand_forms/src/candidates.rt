@@ -7,7 +7,7 @@ ghost use Rattle.diagnostics.specs.Near.{is_near};
 ghost use Rattle.operand_forms.specs.Candidates.{is_known_word, near_statements, word_candidates, digits_of_register, register_candidates, operand_candidates, is_dollar_name, label_candidates, digit_candidates, token_candidates, mark_candidates, candidates};
 
 use crate::foreign_words::instead;
-use crate::shape::{DIRECTIVES, Shape, shape_of};
+use crate::shape::{DIRECTIVES, OperandShape, shape_of};
 use crate::slices::after;
 use diagnostics::near::is_near;
 use mips_instructions::instruction::{MNEMONICS, Mnemonic};
@@ -69,7 +69,7 @@ fn is_known_word(word: &[u8]) -> bool
 fn add_near_directives(
     alloc: Global,
     list: &mut Vec<Vec<u8>>,
-    rows: &[(&'static str, Shape)],
+    rows: &[(&'static str, OperandShape)],
     word: &[u8],
 ) -> Result<(), AllocError>
     ensures { OnOk result (each (λ text. text.items) list.new.items

@@ -4,7 +4,7 @@ ghost use Rattle.std.specs.Prelude.{◌≡◌, map as each};
 ghost use Rattle.std.specs.Option.{option_map};
 ghost use Rattle.operand_forms.specs.ForeignWords.{row_of, word_instead, sign_instead, instead, class_of, is_of, is_meant, operand_row, operand_instead};
 
-/// Words of other assemblers, with what is written instead (own choice). rd, rs, rt and base are
+/// Words of other assemblers, with what is written instead. rd, rs, rt and base are
 /// registers, n is a number, T a place in the code and NAME a label.
 const WORDS: [(&str, &str); 85] = [
     ("add", "write addu rd,rs,rt"),

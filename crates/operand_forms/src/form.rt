@@ -4,17 +4,17 @@ ghost use Rattle.std.specs.Prelude.{◌≡◌, ◌≤◌, length, drop};
 ghost use Rattle.std.specs.Option.{option_map};
 ghost use Rattle.operand_forms.specs.Forms.{instruction_form, form_of, is_general, is_word, is_part, is_list, may_be_none, at_part, at_member, next_part, fitting};
 
-use crate::form::Part::{
+use crate::form::OperandPart::{
     Close, Comma, Create, Equals, Label, Number, Numbers, Open, Place, Places, Register,
     RegisterList, RegisterSet, Targets,
 };
-use crate::shape::Shape;
+use crate::shape::OperandShape;
 use mips_instructions::instruction::Form;
 use program_tokens::token::Token;
 
 /// A part of the operands of a statement.
 #[derive(Clone, Copy, Debug, PartialEq, Eq)]
-pub enum Part {
+pub enum OperandPart {
     /// A general register, `$0` to `$31`.
     Register,
     /// A number.
@@ -57,7 +57,7 @@ pub enum Inside {
 }
 
 /// The operands of a form of an instruction, part by part.
-fn instruction_form(form: Form) -> &'static [Part]
+fn instruction_form(form: Form) -> &'static [OperandPart]
     ensures { result.now ≡ instruction_form form }
 {
     match form {
@@ -79,16 +79,16 @@ fn instruction_form(form: Form) -> &'static [Part]
 }
 
 /// The operands of a shape, part by part.
-fn form_of(shape: Shape) -> &'static [Part]
+fn form_of(shape: OperandShape) -> &'static [OperandPart]
     ensures { result.now ≡ form_of shape }
 {
     match shape {
-        Shape::Instruction(form) => instruction_form(form),
-        Shape::Nothing => &[],
-        Shape::Start => &[Label],
-        Shape::Task => &[Label, Create, Equals, RegisterSet, Targets, Equals, Places],
-        Shape::Words | Shape::Bytes => &[Numbers],
-        Shape::Space => &[Number],
+        OperandShape::Instruction(form) => instruction_form(form),
+        OperandShape::Nothing => &[],
+        OperandShape::Start => &[Label],
+        OperandShape::Task => &[Label, Create, Equals, RegisterSet, Targets, Equals, Places],
+        OperandShape::Words | OperandShape::Bytes => &[Numbers],
+        OperandShape::Space => &[Number],
     }
 }
 
@@ -113,7 +113,7 @@ fn is_word(token: &Token, word: &[u8]) -> bool
 }
 
 /// Whether a token is this part, or a member of it.
-fn is_part(part: Part, token: &Token) -> bool
+fn is_part(part: OperandPart, token: &Token) -> bool
     ensures { result ≡ is_part part token.now }
 {
     match part {
@@ -132,14 +132,14 @@ fn is_part(part: Part, token: &Token) -> bool
 }
 
 /// Whether a part is a list.
-fn is_list(part: Part) -> bool
+fn is_list(part: OperandPart) -> bool
     ensures { result ≡ is_list part }
 {
     matches!(part, Numbers | RegisterList | RegisterSet | Places)
 }
 
 /// Whether a token is the `-` that a part may be.
-fn may_be_none(part: Part, token: &Token) -> bool
+fn may_be_none(part: OperandPart, token: &Token) -> bool
     ensures { result ≡ may_be_none part token.now }
 {
     match part {
@@ -149,7 +149,7 @@ fn may_be_none(part: Part, token: &Token) -> bool
 }
 
 /// Where a token leads that stands at the beginning of these parts.
-fn at_part(parts: &'static [Part], token: &Token) -> Option<(Inside, &'static [Part])>
+fn at_part(parts: &'static [OperandPart], token: &Token) -> Option<(Inside, &'static [OperandPart])>
     ensures { option_map (λ next. (next.0, next.1.now)) result ≡ at_part parts.now token.now }
 {
     match parts {
@@ -167,7 +167,7 @@ fn at_part(parts: &'static [Part], token: &Token) -> Option<(Inside, &'static [P
 }
 
 /// The parts without the first.
-fn after_first(parts: &'static [Part]) -> &'static [Part]
+fn after_first(parts: &'static [OperandPart]) -> &'static [OperandPart]
     ensures { result.now ≡ drop 1 parts.now }
 {
     match parts {
@@ -177,7 +177,10 @@ fn after_first(parts: &'static [Part]) -> &'static [Part]
 }
 
 /// Where a token leads that stands after a comma of the first part.
-fn at_member(parts: &'static [Part], token: &Token) -> Option<(Inside, &'static [Part])>
+fn at_member(
+    parts: &'static [OperandPart],
+    token: &Token,
+) -> Option<(Inside, &'static [OperandPart])>
     ensures { option_map (λ next. (next.0, next.1.now)) result ≡ at_member parts.now token.now }
 {
     match parts {
@@ -189,9 +192,9 @@ fn at_member(parts: &'static [Part], token: &Token) -> Option<(Inside, &'static 
 /// Where a token leads.
 fn next_part(
     inside: Inside,
-    parts: &'static [Part],
+    parts: &'static [OperandPart],
     token: &Token,
-) -> Option<(Inside, &'static [Part])>
+) -> Option<(Inside, &'static [OperandPart])>
     ensures { option_map (λ next. (next.0, next.1.now)) result ≡ next_part inside parts.now token.now }
 {
     match inside {
@@ -207,7 +210,7 @@ fn next_part(
 }
 
 /// How many of these tokens fit the operands of a shape, from the first on.
-pub fn fitting(shape: Shape, tokens: &[Token]) -> usize
+pub fn fitting(shape: OperandShape, tokens: &[Token]) -> usize
     ensures value { result ≡ fitting Inside.Before (form_of shape) tokens.now }
     ensures within { result ≤ length tokens.now }
 {

@@ -10,7 +10,7 @@ ghost use Rattle.program_statements.specs.Statements.{instruction_of, directive_
 ghost use Rattle.program_statements.specs.declared.fault.StatementFault.{StatementFault};
 ghost use Rattle.program_statements.specs.declared.fault.StatementFault.TheVariants.{Mark};
 ghost use Rattle.program_statements.specs.declared.statement.Section.TheVariants.{Text, Data};
-ghost use Rattle.operand_forms.specs.declared.shape.Shape.{Shape};
+ghost use Rattle.operand_forms.specs.declared.shape.OperandShape.{OperandShape};
 ghost use Rattle.operand_forms.specs.Shapes.{form_text, range_of, range_text};
 ghost use Rattle.operand_forms.specs.Forms.{form_of as parts_of};
 ghost use Rattle.operand_forms.specs.Meant.{without_marks};
@@ -42,15 +42,15 @@ pub fn first_unfit_token_is_named()
 
 /// It does so of those of a directive, too.
 pub fn first_unfit_token_of_a_directive_is_named()
-    ensures { (letters : List ℕ) (s : Shape) (operands : List Token) → directive_shape letters ≡ Some s → NamesFirst (λ tokens. fault_of (directive_of Data (directive_named letters) tokens)) s operands }
+    ensures { (letters : List ℕ) (s : OperandShape) (operands : List Token) → directive_shape letters ≡ Some s → NamesFirst (λ tokens. fault_of (directive_of Data (directive_named letters) tokens)) s operands }
 {}
 
 /// The operands that `explain` gives as an example are taken: they fit the shape, and their numbers are in its range.
 pub fn examples_are_taken()
-    ensures { (s : Shape) → is_example s (form_text s) ≡ true }
+    ensures { (s : OperandShape) → is_example s (form_text s) ≡ true }
 {}
 
 /// The text in which it names a range ends in the numbers of that range.
 pub fn texts_name_the_range()
-    ensures { (s : Shape) → takes_number (parts_of s) ≡ true → ends_in (from_to (range_of s)) (range_text s) ≡ true }
+    ensures { (s : OperandShape) → takes_number (parts_of s) ≡ true → ends_in (from_to (range_of s)) (range_text s) ≡ true }
 {}

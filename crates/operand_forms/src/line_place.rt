@@ -6,8 +6,8 @@ ghost use Rattle.operand_forms.specs.LinePlaces.{is_label, after_labels, word_pl
 use crate::bytes::{byte_at, byte_span, bytes_at, token_span};
 use crate::meant::{mark_index, number_index, operand_span, span_at};
 use crate::rows::Reading;
-use crate::shape::{Shape, shape_of};
-use program_tokens::span::Span;
+use crate::shape::{OperandShape, shape_of};
+use program_tokens::span::TokenSpan;
 use std::alloc::{AllocError, Global};
 use syntax_tree::item::LineFaultKind;
 
@@ -15,7 +15,7 @@ use syntax_tree::item::LineFaultKind;
 const COLON: &[u8] = b":";
 
 /// Whether two places of a line are those of a label: a name and a colon.
-fn is_label(line: &[u8], name: Span, colon: Span) -> bool
+fn is_label(line: &[u8], name: TokenSpan, colon: TokenSpan) -> bool
     ensures { result ≡ is_label line.now name colon }
 {
     let first = byte_at(line, name);
@@ -23,7 +23,7 @@ fn is_label(line: &[u8], name: Span, colon: Span) -> bool
 }
 
 /// The places after a line's labels.
-pub fn after_labels<'a>(line: &[u8], places: &'a [Span]) -> &'a [Span]
+pub fn after_labels<'a>(line: &[u8], places: &'a [TokenSpan]) -> &'a [TokenSpan]
     ensures { result.now ≡ after_labels line.now places.now }
 {
     let mut rest = places;
@@ -37,7 +37,7 @@ pub fn after_labels<'a>(line: &[u8], places: &'a [Span]) -> &'a [Span]
 }
 
 /// Where the first word of a line's statement stands.
-pub fn word_place(line: &[u8], places: &[Span]) -> Span
+pub fn word_place(line: &[u8], places: &[TokenSpan]) -> TokenSpan
     ensures { result ≡ word_place line.now places.now }
 {
     span_at(after_labels(line, places), 0)
@@ -51,10 +51,10 @@ pub fn word_in<'a>(line: &'a [u8], reading: &Reading) -> &'a [u8]
 }
 
 /// The operands that follow a word; none where it begins no statement.
-pub fn shape_named(word: &[u8]) -> Shape
+pub fn shape_named(word: &[u8]) -> OperandShape
     ensures { result ≡ shape_named word.now }
 {
-    shape_of(word).unwrap_or(Shape::Nothing)
+    shape_of(word).unwrap_or(OperandShape::Nothing)
 }
 
 /// The bytes of a line that are meant by its fault.
@@ -64,7 +64,7 @@ pub fn line_place(
     kind: LineFaultKind,
     line: &[u8],
     reading: &Reading,
-) -> Result<Span, AllocError>
+) -> Result<TokenSpan, AllocError>
     ensures { IfOk result (λ place. place ≡ line_place kind line.now reading.now) }
 {
     let tokens = reading.tokens.as_slice();

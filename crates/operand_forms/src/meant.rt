@@ -7,9 +7,9 @@ ghost use Rattle.operand_forms.specs.Meant.{label_tokens, span_at, place_after, 
 
 use crate::bytes::LINE_START;
 use crate::form::fitting;
-use crate::shape::{Range, Shape, range_of};
+use crate::shape::{OperandShape, Range, range_of};
 use crate::slices::after;
-use program_tokens::span::Span;
+use program_tokens::span::TokenSpan;
 use program_tokens::token::{Mark, Number, Token};
 
 /// How many tokens the labels at the front of a line are: a name and a colon each.
@@ -27,17 +27,17 @@ pub fn label_tokens(tokens: &[Token]) -> usize
 }
 
 /// The place of the token with this index; the line's first byte where there is none.
-pub fn span_at(spans: &[Span], index: usize) -> Span
+pub fn span_at(spans: &[TokenSpan], index: usize) -> TokenSpan
     ensures { result ≡ span_at spans.now index }
 {
     spans.get(index).copied().unwrap_or(LINE_START)
 }
 
 /// The place after another one, which has no bytes.
-fn place_after(span: Span) -> Span
+fn place_after(span: TokenSpan) -> TokenSpan
     ensures { result ≡ place_after span }
 {
-    Span {
+    TokenSpan {
         column: span.column.saturating_add(span.len),
         len: 0,
     }
@@ -70,7 +70,7 @@ fn operands(tokens: &[Token]) -> &[Token]
 }
 
 /// Whether operands of a shape end too early, so far as they fit it.
-fn is_early(shape: Shape, tokens: &[Token]) -> bool
+fn is_early(shape: OperandShape, tokens: &[Token]) -> bool
     ensures { result ≡ is_early shape tokens.now }
 {
     let operands = operands(tokens);
@@ -80,7 +80,7 @@ fn is_early(shape: Shape, tokens: &[Token]) -> bool
 /// The first token that is no operand of the shape, or the place after the operands where they end too
 /// early.
 #[tactic(auto, unfolding(crate::specs::Meant::operand_span))]
-pub fn operand_span(shape: Shape, tokens: &[Token], spans: &[Span]) -> Span
+pub fn operand_span(shape: OperandShape, tokens: &[Token], spans: &[TokenSpan]) -> TokenSpan
     ensures { result ≡ operand_span shape tokens.now spans.now }
 {
     let last = label_tokens(tokens).saturating_add(fitting(shape, operands(tokens)));
@@ -123,7 +123,7 @@ fn first_beyond(range: Range, tokens: &[Token]) -> Option<usize>
 
 /// The first token that is a number out of the range of the shape; the first of all where there is none.
 #[tactic(auto, unfolding(crate::specs::Meant::number_index))]
-pub fn number_index(shape: Shape, tokens: &[Token]) -> usize
+pub fn number_index(shape: OperandShape, tokens: &[Token]) -> usize
     ensures { result ≡ number_index shape tokens.now }
 {
     first_beyond(range_of(shape), tokens).unwrap_or(0)

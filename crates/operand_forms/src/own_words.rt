@@ -15,7 +15,7 @@ use crate::slices::after;
 use crate::strings::string_words;
 use diagnostics::quotation::as_shown;
 use diagnostics::words::Words;
-use program_tokens::span::Span;
+use program_tokens::span::TokenSpan;
 use std::alloc::{AllocError, Global};
 
 // The tables: lines by the statement, or by all with these operands, or by any, and by the signs after the word: a number is
@@ -278,7 +278,7 @@ fn sign_of(first: u8) -> u8
 }
 
 /// The signs of some words of a line, up to a mark, or to the first colon.
-fn signs(alloc: Global, line: &[u8], places: &[Span]) -> Result<Vec<u8>, AllocError>
+fn signs(alloc: Global, line: &[u8], places: &[TokenSpan]) -> Result<Vec<u8>, AllocError>
     ensures { IfOk result (λ list. list.items ≡ signs line.now places.now) }
 {
     let mut list = Vec::new(alloc);
@@ -299,7 +299,7 @@ fn signs(alloc: Global, line: &[u8], places: &[Span]) -> Result<Vec<u8>, AllocEr
 fn add_word_for(
     bytes: &mut Vec<u8>,
     line: &[u8],
-    places: &[Span],
+    places: &[TokenSpan],
     letter: u8,
 ) -> Result<(), AllocError>
     ensures { OnOk result (bytes.new.items ≡ bytes.old.items ++ word_for line.now places.now letter) }
@@ -318,7 +318,7 @@ fn add_word_for(
 fn in_its_words(
     alloc: Global,
     line: &[u8],
-    places: &[Span],
+    places: &[TokenSpan],
     text: &[u8],
 ) -> Result<Words, AllocError>
     ensures { IfOk result (λ words. words ≡ in_its_words line.now places.now text.now) }
@@ -331,7 +331,7 @@ fn in_its_words(
 }
 
 /// Whether a word of a line is the register that texts write for one that is free.
-fn is_register_one(line: &[u8], place: Span) -> bool
+fn is_register_one(line: &[u8], place: TokenSpan) -> bool
     ensures { result ≡ is_register_one line.now place }
 {
     let word = bytes_at(line, place);
@@ -339,7 +339,7 @@ fn is_register_one(line: &[u8], place: Span) -> bool
 }
 
 /// Whether one of some words of a line is.
-fn has_register_one(line: &[u8], places: &[Span]) -> bool
+fn has_register_one(line: &[u8], places: &[TokenSpan]) -> bool
     ensures { result ≡ list_any (is_register_one line.now) places.now }
 {
     places.iter().any(|place| is_register_one(line, *place))
@@ -399,7 +399,7 @@ fn line_instead(word: &[u8], form: &str, signs: &[u8]) -> Option<&'static str>
 
 /// What is written instead of a line whose statement stands at these places, in its own words.
 #[tactic(auto, unfolding(crate::specs::OwnWords::line_words))]
-fn line_words(alloc: Global, line: &[u8], places: &[Span]) -> Result<Option<Words>, AllocError>
+fn line_words(alloc: Global, line: &[u8], places: &[TokenSpan]) -> Result<Option<Words>, AllocError>
     ensures { IfOk result (λ words. words ≡ line_words line.now places.now) }
 {
     if has_register_one(line, places) {

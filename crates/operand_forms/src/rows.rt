@@ -9,7 +9,7 @@ ghost use Rattle.operand_forms.specs.Rows.{line_at, reading_of};
 
 use diagnostics::listed::Listed;
 use program_tokens::line::{first_line, line_tokens};
-use program_tokens::span::{Span, read_spans};
+use program_tokens::span::{TokenSpan, read_spans};
 use program_tokens::token::{Token, TokenFault};
 use std::alloc::{AllocError, Global};
 
@@ -45,7 +45,7 @@ pub struct Reading {
     /// Its tokens; none where some bytes are no token.
     pub tokens: Listed<Token>,
     /// Where its tokens stand, and what is no token.
-    pub places: Listed<Span>,
+    pub places: Listed<TokenSpan>,
 }
 
 /// The tokens of a line; none where some bytes are no token.
@@ -60,7 +60,7 @@ fn tokens_of(alloc: Global, line: &[u8]) -> Result<Vec<Token>, AllocError>
 }
 
 /// Where the tokens of a line stand.
-pub fn places_of(alloc: Global, line: &[u8]) -> Result<Vec<Span>, AllocError>
+pub fn places_of(alloc: Global, line: &[u8]) -> Result<Vec<TokenSpan>, AllocError>
     ensures { IfOk result (λ places. places.items ≡ line_spans line.now) }
 {
     let mut places = Vec::new(alloc);

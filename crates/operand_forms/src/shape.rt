@@ -7,7 +7,7 @@ use mips_instructions::instruction::{Form, Mnemonic};
 
 /// What the operands of a statement are.
 #[derive(Clone, Copy, Debug, PartialEq, Eq)]
-pub enum Shape {
+pub enum OperandShape {
     /// Those of an instruction.
     Instruction(Form),
     /// No operands.
@@ -34,19 +34,19 @@ pub struct Range {
 }
 
 /// Every directive, with what operands follow it.
-pub const DIRECTIVES: [(&str, Shape); 8] = [
-    (".start", Shape::Start),
-    (".task", Shape::Task),
-    (".text", Shape::Nothing),
-    (".data", Shape::Nothing),
-    (".rodata", Shape::Nothing),
-    (".word", Shape::Words),
-    (".byte", Shape::Bytes),
-    (".space", Shape::Space),
+pub const DIRECTIVES: [(&str, OperandShape); 8] = [
+    (".start", OperandShape::Start),
+    (".task", OperandShape::Task),
+    (".text", OperandShape::Nothing),
+    (".data", OperandShape::Nothing),
+    (".rodata", OperandShape::Nothing),
+    (".word", OperandShape::Words),
+    (".byte", OperandShape::Bytes),
+    (".space", OperandShape::Space),
 ];
 
 /// The shape of this word in a table.
-fn shape_in(rows: &[(&'static str, Shape)], word: &[u8]) -> Option<Shape>
+fn shape_in(rows: &[(&'static str, OperandShape)], word: &[u8]) -> Option<OperandShape>
     ensures { result ≡ shape_in word.now (map (λ row. (row.0.now, row.1)) rows.now) }
 {
     for (name, shape) in rows {
@@ -59,11 +59,11 @@ fn shape_in(rows: &[(&'static str, Shape)], word: &[u8]) -> Option<Shape>
 
 /// What operands follow this word, if it begins a statement.
 #[tactic(auto, unfolding(crate::specs::Shapes::shape_of))]
-pub fn shape_of(word: &[u8]) -> Option<Shape>
+pub fn shape_of(word: &[u8]) -> Option<OperandShape>
     ensures { result ≡ shape_of word.now }
 {
     match Mnemonic::named(word) {
-        Some(mnemonic) => Some(Shape::Instruction(mnemonic.form())),
+        Some(mnemonic) => Some(OperandShape::Instruction(mnemonic.form())),
         None => shape_in(&DIRECTIVES, word),
     }
 }
@@ -87,48 +87,52 @@ fn instruction_text(form: Form) -> &'static str
 }
 
 /// Operands as they may stand after the word, with the blank before them; nothing where there are none.
-pub fn form_text(shape: Shape) -> &'static str
+pub fn form_text(shape: OperandShape) -> &'static str
     ensures { result.now ≡ form_text shape }
 {
     match shape {
-        Shape::Instruction(form) => instruction_text(form),
-        Shape::Nothing => "",
-        Shape::Start => " A",
-        Shape::Task => " A create=$8,$9 targets=A,B",
-        Shape::Words | Shape::Bytes => " 1,2",
-        Shape::Space => " 4",
+        OperandShape::Instruction(form) => instruction_text(form),
+        OperandShape::Nothing => "",
+        OperandShape::Start => " A",
+        OperandShape::Task => " A create=$8,$9 targets=A,B",
+        OperandShape::Words | OperandShape::Bytes => " 1,2",
+        OperandShape::Space => " 4",
     }
 }
 
 /// The numbers that the statement takes; 0 alone where it takes none.
-pub fn range_of(shape: Shape) -> Range
+pub fn range_of(shape: OperandShape) -> Range
     ensures { result ≡ range_of shape }
 {
     let (low, high) = match shape {
-        Shape::Instruction(Form::ShiftBy) => (0, 31),
-        Shape::Instruction(Form::Signed | Form::Memory) => (-32_768, 32_767),
-        Shape::Instruction(Form::Unsigned | Form::Upper) => (0, 65_535),
-        Shape::Instruction(Form::LoadImmediate) | Shape::Words => (-2_147_483_648, 4_294_967_295),
-        Shape::Bytes => (-128, 255),
-        Shape::Space => (0, 65_536),
+        OperandShape::Instruction(Form::ShiftBy) => (0, 31),
+        OperandShape::Instruction(Form::Signed | Form::Memory) => (-32_768, 32_767),
+        OperandShape::Instruction(Form::Unsigned | Form::Upper) => (0, 65_535),
+        OperandShape::Instruction(Form::LoadImmediate) | OperandShape::Words => (
+            -2_147_483_648,
+            4_294_967_295,
+        ),
+        OperandShape::Bytes => (-128, 255),
+        OperandShape::Space => (0, 65_536),
         _ => (0, 0),
     };
     Range { low, high }
 }
 
 /// The same in words.
-pub fn range_text(shape: Shape) -> &'static str
+pub fn range_text(shape: OperandShape) -> &'static str
     ensures { result.now ≡ range_text shape }
 {
     match shape {
-        Shape::Instruction(Form::ShiftBy) => "a shift amount is 0 to 31",
-        Shape::Instruction(Form::Signed) => "this number is -32768 to 32767",
-        Shape::Instruction(Form::Unsigned | Form::Upper) => "this number is 0 to 65535",
-        Shape::Instruction(Form::Memory) => "an offset is -32768 to 32767",
-        Shape::Instruction(Form::LoadImmediate) => "this number is -2147483648 to 4294967295",
-        Shape::Words => "a word is -2147483648 to 4294967295",
-        Shape::Bytes => "a byte is -128 to 255",
-        Shape::Space => "the size is 0 to 65536",
+        OperandShape::Instruction(Form::ShiftBy) => "a shift amount is 0 to 31",
+        OperandShape::Instruction(Form::Signed) => "this number is -32768 to 32767",
+        OperandShape::Instruction(Form::Unsigned | Form::Upper) => "this number is 0 to 65535",
+        OperandShape::Instruction(Form::Memory) => "an offset is -32768 to 32767",
+        OperandShape::Instruction(Form::LoadImmediate) =>
+            "this number is -2147483648 to 4294967295",
+        OperandShape::Words => "a word is -2147483648 to 4294967295",
+        OperandShape::Bytes => "a byte is -128 to 255",
+        OperandShape::Space => "the size is 0 to 65536",
         _ => "this statement takes no number",
     }
 }

@@ -7,7 +7,7 @@ ghost use Rattle.std.specs.Fmt.{decimal};
 ghost use Rattle.std.specs.String.{string_bytes};
 ghost use Rattle.operand_forms.specs.Strings.{escaped, letter_of, next_part, part_after, is_end, letters, ends_in_zero, is_string_directive, string_bytes_of, numbers, byte_line, string_words};
 
-use crate::strings::Part::{After, Before, Comment, Escaped, Inside, Wrong};
+use crate::strings::StringPart::{After, Before, Comment, Escaped, Inside, Wrong};
 use diagnostics::words;
 use diagnostics::words::Words;
 use std::alloc::{AllocError, Global};
@@ -15,7 +15,7 @@ use std::fmt::Write;
 
 /// The parts of a line with a string.
 #[derive(Clone, Copy, Debug, PartialEq, Eq)]
-pub enum Part {
+pub enum StringPart {
     /// What stands before the string.
     Before,
     /// The string.
@@ -47,7 +47,7 @@ fn escaped(letter: u8) -> Option<u8>
 }
 
 /// The letter of the string that a byte of its line is.
-fn letter_of(part: Part, byte: u8) -> Option<u8>
+fn letter_of(part: StringPart, byte: u8) -> Option<u8>
     ensures { result ≡ letter_of part byte }
 {
     match part {
@@ -64,8 +64,8 @@ fn letter_of(part: Part, byte: u8) -> Option<u8>
 }
 
 /// The part of the line after a byte of the string.
-fn after_letter(byte: u8) -> Part
-    ensures { result ≡ next_part Part.Inside byte }
+fn after_letter(byte: u8) -> StringPart
+    ensures { result ≡ next_part StringPart.Inside byte }
 {
     match byte {
         b'"' => After,
@@ -75,8 +75,8 @@ fn after_letter(byte: u8) -> Part
 }
 
 /// The part of the line after a byte that stands after the string.
-fn after_string(byte: u8) -> Part
-    ensures { result ≡ next_part Part.After byte }
+fn after_string(byte: u8) -> StringPart
+    ensures { result ≡ next_part StringPart.After byte }
 {
     match byte {
         b' ' | b'\t' => After,
@@ -86,7 +86,7 @@ fn after_string(byte: u8) -> Part
 }
 
 /// The part of the line after a byte.
-fn next_part(part: Part, byte: u8) -> Part
+fn next_part(part: StringPart, byte: u8) -> StringPart
     ensures { result ≡ next_part part byte }
 {
     match part {
@@ -100,8 +100,8 @@ fn next_part(part: Part, byte: u8) -> Part
 }
 
 /// The part of a line where it ends.
-fn last_part(line: &[u8]) -> Part
-    ensures { result ≡ part_after Part.Before line.now }
+fn last_part(line: &[u8]) -> StringPart
+    ensures { result ≡ part_after StringPart.Before line.now }
 {
     let mut part = Before;
     for byte in line {
@@ -111,7 +111,7 @@ fn last_part(line: &[u8]) -> Part
 }
 
 /// Whether a line ends there after one whole string.
-fn is_end(part: Part) -> bool
+fn is_end(part: StringPart) -> bool
     ensures { result ≡ is_end part }
 {
     matches!(part, After | Comment)
@@ -129,7 +129,7 @@ fn add(list: &mut Vec<u8>, letter: Option<u8>) -> Result<(), AllocError>
 
 /// The letters of the string of a line.
 fn letters(alloc: Global, line: &[u8]) -> Result<Vec<u8>, AllocError>
-    ensures { IfOk result (λ list. list.items ≡ letters Part.Before line.now) }
+    ensures { IfOk result (λ list. list.items ≡ letters StringPart.Before line.now) }
 {
     let mut list = Vec::new(alloc);
     let mut part = Before;

@@ -21,8 +21,8 @@ use crate::gate::ReadGate;
 use crate::numbers::{End, Numbers};
 use mask_certificate::block::Block;
 use mask_certificate::certificate::Cert;
-use mask_certificate::fault::{CertFault, Spelling};
-use mask_certificate::part::Part;
+use mask_certificate::fault::{CertFault, MaskSpelling};
+use mask_certificate::part::CertificatePart;
 use mask_certificate::reading::{read_parts, spelling_in};
 use std::alloc::{AllocError, Global};
 use std::marker::Model;
@@ -82,7 +82,7 @@ fn is_long(pieces: &[&[u8]]) -> bool
 /// is: so the program can be read at the same time. A contract sees it as the text.
 #[derive(Drop)]
 pub struct ReadAhead<'a> {
-    parts: Vec<Part<'a>>,
+    parts: Vec<CertificatePart<'a>>,
 }
 
 impl<'a> Model for ReadAhead<'a> {
@@ -168,7 +168,7 @@ struct ReadBlocks<'a> {
 fn read_blocks<'a, G: ReadGate, R: Threads + Sync>(
     rt: &R,
     alloc: Global,
-    spelling: Spelling,
+    spelling: MaskSpelling,
     pieces: &[&'a [u8]],
     workers: usize,
     gate: &G,
@@ -298,7 +298,7 @@ fn order(blocks: &mut Vec<Block<'_>>)
 /// has as many shares. Where memory is refused it stops, and what is missing is read later.
 fn draw<'a, G: ReadGate>(
     alloc: Global,
-    spelling: Spelling,
+    spelling: MaskSpelling,
     pieces: &[&'a [u8]],
     shares: usize,
     numbers: &Numbers,
@@ -329,7 +329,7 @@ fn draw<'a, G: ReadGate>(
 /// Why the worker stops.
 fn read_next<'a, G: ReadGate>(
     alloc: Global,
-    spelling: Spelling,
+    spelling: MaskSpelling,
     pieces: &[&'a [u8]],
     shares: usize,
     numbers: &Numbers,
@@ -368,7 +368,7 @@ fn share_of(text: &[u8], shares: usize, number: usize) -> (usize, usize)
 /// Reads the lists of the tasks whose lines begin in a share of a piece, as many as a program has tasks.
 fn read_share<'a, G: ReadGate>(
     alloc: Global,
-    spelling: Spelling,
+    spelling: MaskSpelling,
     pieces: &[&'a [u8]],
     piece: usize,
     share: (usize, usize),
@@ -424,7 +424,7 @@ fn parts_of<'a>(
     alloc: Global,
     pieces: &[&'a [u8]],
     groups: &mut [Vec<Block<'a>>],
-) -> Result<Vec<Part<'a>>, AllocError>
+) -> Result<Vec<CertificatePart<'a>>, AllocError>
     requires groups { AreGroups (map (λ piece. piece.now) pieces.now) groups.old }
     requires order { AreInOrder (length pieces.now) groups.old }
     ensures parts { IfOk result (λ parts. parts.items ≡ map (λ piece. piece.now) pieces.now) }
@@ -433,7 +433,7 @@ fn parts_of<'a>(
     let mut parts = Vec::with_capacity(alloc, pieces.len())?;
     for (number, piece) in pieces.iter().enumerate() {
         let blocks = mem::replace(&mut groups[number], Vec::new(alloc));
-        parts.push(Part::with_blocks(piece, blocks))?;
+        parts.push(CertificatePart::with_blocks(piece, blocks))?;
     }
     Ok(parts)
 }

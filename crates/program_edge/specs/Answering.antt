@@ -1,4 +1,4 @@
--- How the program ends, for what it was asked and what its files hold (own choice).
+-- How the program ends, for what it was asked and what its files hold.
 use Rattle.std.specs.Prelude.{◌≡◌, ◌≢◌, ◌⊎◌, ◌&&◌, ℕ, Bool, true, false, List, [], ◌∷◌, Option, Some, None, Result, Ok, Err}
 use Rattle.std.specs.Io.KnownBytes.{Appends, Keeps}
 use Rattle.std.specs.String.{string_bytes}

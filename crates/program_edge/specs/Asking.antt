@@ -1,4 +1,4 @@
--- What the program is asked for by its words (own choice).
+-- What the program is asked for by its words.
 use Rattle.std.specs.Prelude.{◌≡◌, ◌⊎◌, ℕ, ◌+◌, ◌<◌, ◌≤◌, ⊤, map, List, if◌then◌else◌, codes, Result, Ok, Err}
 use Rattle.std.specs.List.{sum_by}
 use Rattle.std.specs.String.{string_bytes}

@@ -1,4 +1,4 @@
--- What standard error gets beside a report: its hint, and what `annotate` leaves to mend by hand (own choice).
+-- What standard error gets beside a report: its hint, and what `annotate` leaves to mend by hand.
 use Rattle.std.specs.Prelude.{◌≡◌, ◌==◌, ◌||◌, ◌++◌, ℕ, Bool, true, false, List, [], Option, Some, None, if◌then◌else◌}
 use Rattle.jobs.specs.declared.job.Job.{Job}
 use Rattle.report_texts.specs.OutputTexts.{Report}

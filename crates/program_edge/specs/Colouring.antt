@@ -1,4 +1,4 @@
--- Whether the lines for a person have colours, where that is left to what the program finds (own choice).
+-- Whether the lines for a person have colours, where that is left to what the program finds.
 use Rattle.std.specs.Prelude.{◌≡◌, ◌==◌, Bool, true, false, is_some, List, [], length, Option, Result, Ok, Err}
 use Rattle.std.specs.Result.{result_map_both}
 use Rattle.std.specs.String.{string_bytes}

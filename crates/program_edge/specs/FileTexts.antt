@@ -1,4 +1,4 @@
--- Which files give the texts of a job, which file is at fault, and why (own choice).
+-- Which files give the texts of a job, which file is at fault, and why.
 use Rattle.std.specs.Prelude.{◌≡◌, ◌≢◌, ◌≤◌, ◌+◌, nat_le, ℕ, Bool, true, false, if◌then◌else◌, List, [], length, take, ⊤, Option, Some, Result, Ok, Err}
 use Rattle.std.specs.IoError.{error_kind}
 use Rattle.std.specs.String.{string_bytes}

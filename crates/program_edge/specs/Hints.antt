@@ -1,4 +1,4 @@
--- What is said on standard error beside a result, where that is a terminal (own choice).
+-- What is said on standard error beside a result, where that is a terminal.
 use Rattle.std.specs.Prelude.{◌≡◌, ◌==◌, ◌-◌, ◌&&◌, ◌||◌, ◌++◌, ◌∷◌, ℕ, Bool, true, false, not, nat_eq, List, [], length, take, codes, if◌then◌else◌, Option}
 use Rattle.std.specs.Io.KnownBytes.{Appends, Keeps}
 use Rattle.std.specs.List.{starts_with}

@@ -1,4 +1,4 @@
--- Whether what a job says is that a text was refused, so that there is no result (own choice).
+-- Whether what a job says is that a text was refused, so that there is no result.
 use Rattle.std.specs.Prelude.{◌==◌, ◌&&◌, ◌||◌, ℕ, Bool, true, false, not, nat_eq, List, [], ◌∷◌, codes, if◌then◌else◌}
 use Rattle.std.specs.List.{starts_with}
 use Rattle.jobs.specs.declared.job.Job.{Job}

@@ -1,4 +1,4 @@
--- What becomes of several programs, each of which gets the job in turn (own choice).
+-- What becomes of several programs, each of which gets the job in turn.
 use Rattle.std.specs.Prelude.{◌≡◌, ◌≢◌, ◌⊎◌, ◌==◌, ℕ, Bool, true, false, nat_eq, List, [], ◌∷◌, ◌++◌, ⊤, map, flat_map, codes, if◌then◌else◌, Option, None, Result, Ok, Err, ◌&&◌}
 use Rattle.std.specs.List.{starts_with}
 use Rattle.std.specs.String.{string_bytes}

@@ -1,4 +1,4 @@
--- What the two streams and the files hold, and what changes there (own choice).
+-- What the two streams and the files hold, and what changes there.
 use Rattle.std.specs.Prelude.{◌≡◌, ◌⊎◌, ℕ, List, Option, false}
 use Rattle.std.specs.Io.KnownBytes.{Appends}
 use Rattle.report_texts.specs.OutputTexts.{Report}

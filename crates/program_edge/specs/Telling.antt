@@ -1,4 +1,4 @@
--- What the program says of a fault, where, and its status (own choice).
+-- What the program says of a fault, where, and its status.
 use Rattle.std.specs.Prelude.{◌≡◌, ℕ, Bool, true, false, List, [], ◌∷◌, ◌++◌, ◌&&◌, if◌then◌else◌, codes, Option}
 use Rattle.std.specs.Io.KnownBytes.{Appends, Keeps}
 use Rattle.std.specs.Str.{bytes_eq}

@@ -1,4 +1,4 @@
--- Which faults of `clap` are none of the user's (own choice).
+-- Which faults of `clap` are none of the user's.
 use Rattle.std.specs.Prelude.{Bool, true, false}
 use Rattle.clap.specs.declared.error.kind.ErrorKind.{ErrorKind}
 use Rattle.clap.specs.declared.error.kind.ErrorKind.TheVariants as kind

@@ -51,7 +51,7 @@ pub fn answer<F: NamedFiles, D: Folder, O: Write, E: Write, R: Threads + Wait + 
 /// `folder` that was asked for, and the status is the report's. A text that is refused gives no result, and so
 /// changes no file. Where `errors` is a terminal, a report that refuses a text, or that is of a run that trapped or
 /// ended as unlisted, gets one line there; and there, or where it is asked for, what `annotate` leaves to mend by hand
-/// is told; and where it is asked for, each run of `curve` when it is done. The first fault ends it, and is told. `check` and `run` make threads. (own choice)
+/// is told; and where it is asked for, each run of `curve` when it is done. The first fault ends it, and is told. `check` and `run` make threads.
 pub fn answer_reader<F: NamedFiles, D: Folder, O: Write, E: Write, R: Threads + Wait + Sync>(
     rt: &R,
     alloc: Global,

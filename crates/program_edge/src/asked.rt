@@ -12,10 +12,10 @@ use command_line::request::Request;
 use command_line::words::{UsageFault, request_of};
 use std::alloc::{AllocError, Global};
 
-/// The name of standard input. A file of this name is `./-`. (own choice)
+/// The name of standard input. A file of this name is `./-`.
 pub const STANDARD_INPUT: &str = "-";
 
-/// What the words of a process ask for, or why they ask for nothing. (own choice)
+/// What the words of a process ask for, or why they ask for nothing.
 pub fn asked<W: ProcessWords>(alloc: Global, process: &W) -> Result<Request, Fault>
     ensures { IsAskedOf (W.known_words process.now) result }
 {
@@ -25,7 +25,7 @@ pub fn asked<W: ProcessWords>(alloc: Global, process: &W) -> Result<Request, Fau
     }
 }
 
-/// What words ask for, or their fault. The first word is the program's own name. (own choice)
+/// What words ask for, or their fault. The first word is the program's own name.
 ///
 /// # Errors
 ///
@@ -75,7 +75,7 @@ fn input(name: &str) -> u32
     u32::from(name == STANDARD_INPUT)
 }
 
-/// The fault that is told for one of the words. `OutOfMemory` may come in place of a text. (own choice)
+/// The fault that is told for one of the words. `OutOfMemory` may come in place of a text.
 pub fn fault_of(alloc: Global, fault: UsageFault) -> Fault
     ensures { IsFaultOf fault result }
 {

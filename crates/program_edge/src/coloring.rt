@@ -13,7 +13,7 @@ pub fn is_colorful<R: Env + AllocGlobal>(rt: &R) -> bool {
     wants_colors(env::var(rt, "NO_COLOR"))
 }
 
-/// Whether colours are wanted, for the value of `NO_COLOR`: where it is not set, or is empty. (own choice)
+/// Whether colours are wanted, for the value of `NO_COLOR`: where it is not set, or is empty.
 pub fn wants_colors(no_color: Result<String, VarError>) -> bool
     ensures { result ≡ wants_colors no_color }
 {
@@ -25,7 +25,7 @@ pub fn wants_colors(no_color: Result<String, VarError>) -> bool
 }
 
 /// What was asked for, with nothing left open: `--color auto` stands for colours where standard output shows them and
-/// no file takes the result. (own choice)
+/// no file takes the result.
 pub(crate) fn settle_asked(
     asked: Result<Request, Fault>,
     shows_colors: bool,

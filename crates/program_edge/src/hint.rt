@@ -7,7 +7,7 @@ use jobs::job::Job;
 use std::alloc::{AllocError, Global};
 
 /// The line that standard error gets beside the result of a job with this status, of a program of this name; empty
-/// where standard error is no terminal. (own choice)
+/// where standard error is no terminal.
 pub fn hint_for(
     alloc: Global,
     is_terminal: bool,

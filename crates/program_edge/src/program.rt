@@ -14,7 +14,7 @@ use text_pieces::folder::Folder;
 
 /// Runs the program on the words and the files of a process, and answers its status, 0 to 3. A result may go to a
 /// file of `folder`; `is_terminal` says whether `errors` is a terminal, and `shows_colors` whether `output` is one that
-/// shows colours. (own choice)
+/// shows colours.
 pub fn run<
     R: ProcessWords + NamedFiles + AllocGlobal + Threads + Wait + Sync,
     D: Folder,

@@ -5,7 +5,7 @@ ghost use Rattle.program_edge.specs.Refusals.{is_refusal, judges, last_line, ref
 use jobs::job::Job;
 
 /// Whether what a job says is that a text was refused, so that there is no result. What `check` and `explain` say
-/// is always one. (own choice)
+/// is always one.
 pub fn is_refusal(job: &Job, status: u8, text: &[u8]) -> bool
     ensures { result ≡ is_refusal job.now status text.now }
 {

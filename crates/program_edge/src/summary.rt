@@ -16,7 +16,7 @@ pub enum ProgramVerdict {
     Unjudged,
 }
 
-/// What the status of its report says of a program. (own choice)
+/// What the status of its report says of a program.
 pub fn judged_by(status: u8) -> ProgramVerdict
     ensures { result ≡ judged_by status }
 {
@@ -49,7 +49,7 @@ pub fn empty_tally() -> ProgramTally
     }
 }
 
-/// A tally with one program more. (own choice)
+/// A tally with one program more.
 pub fn count(tally: ProgramTally, judged: ProgramVerdict) -> ProgramTally
     requires { all_of tally + 1 ≤ usize.MAX }
     ensures { result ≡ counted tally judged }
@@ -70,7 +70,7 @@ pub fn count(tally: ProgramTally, judged: ProgramVerdict) -> ProgramTally
     }
 }
 
-/// The worst status of the programs: 2 where one is not judged, else 1 where one is wrong, else 0. (own choice)
+/// The worst status of the programs: 2 where one is not judged, else 1 where one is wrong, else 0.
 pub fn worst_status(tally: ProgramTally) -> u8
     ensures { result ≡ worst_status tally }
 {
@@ -83,7 +83,7 @@ pub fn worst_status(tally: ProgramTally) -> u8
     }
 }
 
-/// The line with the numbers of a tally. (own choice)
+/// The line with the numbers of a tally.
 ///
 /// # Errors
 ///

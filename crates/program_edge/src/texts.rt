@@ -34,7 +34,7 @@ pub struct NamedTexts {
 
 /// The texts of a job, from the files that its paths name, or the first file, in the order program,
 /// certificate, script, that can't be read or is too long, and why. A program text that is too long is cut
-/// behind the first byte too many, and is for the assembler to refuse. (own choice)
+/// behind the first byte too many, and is for the assembler to refuse.
 pub fn read_texts<F: NamedFiles, R: Threads + Sync>(
     rt: &R,
     alloc: Global,

@@ -5,7 +5,7 @@ ghost use Rattle.program_edge.specs.FileTexts.{opening_reason, reading_reason};
 use std::io::ErrorKind;
 use text_pieces::serial::FetchFault;
 
-/// Why a file gives no text, as far as the system tells. (own choice)
+/// Why a file gives no text, as far as the system tells.
 #[derive(Clone, Copy, Debug, PartialEq, Eq)]
 pub enum UnreadReason {
     /// There is no file of this name.
@@ -51,7 +51,7 @@ pub struct Unread {
     pub reason: UnreadReason,
 }
 
-/// Why a file is not opened, for the kind of error that the system told. (own choice)
+/// Why a file is not opened, for the kind of error that the system told.
 pub fn reason_of_opening(kind: ErrorKind) -> UnreadReason
     ensures { result ≡ opening_reason kind }
 {
@@ -64,7 +64,7 @@ pub fn reason_of_opening(kind: ErrorKind) -> UnreadReason
     }
 }
 
-/// Why an open file is not read. It is there, whatever a read says. (own choice)
+/// Why an open file is not read. It is there, whatever a read says.
 pub fn reason_of_reading(fault: FetchFault) -> UnreadReason
     ensures { result ≡ reading_reason fault }
 {

@@ -4,7 +4,7 @@ use Rattle.std.specs.Prelude.{◌==◌, ◌≢◌, take_while}
 use Rattle.std.specs.Str.{byte}
 use Rattle.program_tokens.specs.Grammar.{is_blank, kind_of, goes_on}
 use Rattle.program_tokens.specs.Spans.{spans_after}
-use Rattle.program_tokens.specs.declared.span.Span.{Span}
+use Rattle.program_tokens.specs.declared.span.TokenSpan.{TokenSpan}
 use Rattle.program_tokens.specs.declared.kind.Kind.{Kind}
 
 -- bytes that belong to a token are passed over
@@ -41,8 +41,8 @@ span_step column rest bs behind b n kind is_rest not_blank not_comment is_kind i
     let shifted : (column + 1) + n ≡ column + (1 + n) = omega arith in
     ap (spans_after column 0) is_rest
     ∙ front_span column b bs not_blank (ne_eqb b 35 not_comment)
-    ∙ ap (λ m. let here : Span = record { column = column; len = 1 + m } in here ∷ spans_after (column + 1) m bs) run
-    ∙ ap (λ (xs : List Span). let here : Span = record { column = column; len = 1 + n } in here ∷ xs)
+    ∙ ap (λ m. let here : TokenSpan = record { column = column; len = 1 + m } in here ∷ spans_after (column + 1) m bs) run
+    ∙ ap (λ (xs : List TokenSpan). let here : TokenSpan = record { column = column; len = 1 + n } in here ∷ xs)
     (skipped (column + 1) n bs ∙ ap (λ m. spans_after m 0 (drop n bs)) shifted ∙ ap (spans_after (column + (1 + n)) 0) cut)
 
 pub no_column : (column : ℕ) (rest : List ℕ) → length rest ≡ 0 → spans_after column 0 rest ≡ []
@@ -50,7 +50,7 @@ unfolding spans_after
 no_column column [] empty = refl
 no_column column (b ∷ bs) empty = absurd (omega (arith, empty))
 
-pub span_pushed : (front now : List Span) (span : Span) (others rest all : List Span) → now ≡ front ++ span ∷ [] → rest ≡ span ∷ others
+pub span_pushed : (front now : List TokenSpan) (span : TokenSpan) (others rest all : List TokenSpan) → now ≡ front ++ span ∷ [] → rest ≡ span ∷ others
     → front ++ rest ≡ all → now ++ others ≡ all
 span_pushed front now span others rest all is_now is_rest so_far =
-    ap (λ (xs : List Span). xs ++ others) is_now ∙ append_assoc front (span ∷ []) others ∙ ap (λ (xs : List Span). front ++ xs) (sym is_rest) ∙ so_far
+    ap (λ (xs : List TokenSpan). xs ++ others) is_now ∙ append_assoc front (span ∷ []) others ∙ ap (λ (xs : List TokenSpan). front ++ xs) (sym is_rest) ∙ so_far

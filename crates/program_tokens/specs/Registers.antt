@@ -6,7 +6,7 @@ use Rattle.std.specs.Str.{bytes_eq, byte}
 use Rattle.program_tokens.specs.Numbers.{begins_with_digit, number_in}
 
 -- The names of the registers 0 to 33 in this order (MIPS manual; hi and lo have the numbers 32 and 33
--- by own choice).
+-- by this project's choice).
 abbrev pub register_names : List (List ℕ)
 register_names =
     codes "zero" ∷ codes "at" ∷ codes "v0" ∷ codes "v1" ∷ codes "a0" ∷ codes "a1" ∷ codes "a2" ∷ codes "a3"

@@ -8,7 +8,7 @@ ghost use Rattle.program_tokens.specs.Registers.{register_named, register_number
 use crate::number::{begins_with_digit, number_in};
 use mips_instructions::number::Reg;
 
-/// The names of the registers 1 to 33, in this order (MIPS manual; `hi` and `lo`: own choice). That of
+/// The names of the registers 1 to 33, in this order (MIPS manual; `hi` and `lo`: this project's choice). That of
 /// register 0, `zero`, is longer.
 const NAMES: [[u8; 2]; 33] = [
     *b"at", *b"v0", *b"v1", *b"a0", *b"a1", *b"a2", *b"a3", *b"t0", *b"t1", *b"t2", *b"t3", *b"t4",

@@ -9,7 +9,7 @@ use std::alloc::AllocError;
 
 /// Where a token stands in its line.
 #[derive(Clone, Copy, Debug, PartialEq, Eq)]
-pub struct Span {
+pub struct TokenSpan {
     /// The column of its first byte; columns are counted in bytes, from 1.
     pub column: usize,
     /// How many bytes it has.
@@ -22,7 +22,7 @@ pub struct Span {
 /// # Errors
 ///
 /// `AllocError` where memory was refused.
-pub fn read_spans(spans: &mut Vec<Span>, line: &[u8]) -> Result<(), AllocError>
+pub fn read_spans(spans: &mut Vec<TokenSpan>, line: &[u8]) -> Result<(), AllocError>
     ensures { OnOk result (spans.new.items ≡ line_spans line.now) }
 {
     spans.clear();
@@ -39,7 +39,7 @@ pub fn read_spans(spans: &mut Vec<Span>, line: &[u8]) -> Result<(), AllocError>
             break;
         }
         let len = 1 + run_len(kind_of(*first, after), after);
-        spans.push(Span { column, len })?;
+        spans.push(TokenSpan { column, len })?;
         let (_, behind) = rest.split_at(len);
         column += len;
         rest = behind;

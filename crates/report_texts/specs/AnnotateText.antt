@@ -1,5 +1,5 @@
 -- The text of `annotate`: the program with the marks that are proposed for it, in canonical form or in the
--- author's own text, or least masks (own choice).
+-- author's own text, or least masks.
 use Rattle.std.specs.Prelude.{◌≡◌, ℕ, List, [], ◌∷◌, ◌++◌, codes, Option, Some, None, Result, Ok, Err}
 use Rattle.task_descriptor.specs.Listing.{Listing}
 use Rattle.annotated_asm.specs.declared.fault.AsmFault.{AsmFault}

@@ -1,5 +1,5 @@
 -- Which text is a program's certificate: that of a file, or with `--least` what `annotate --emit keep` writes
--- of the program (own choice).
+-- of the program.
 use Rattle.std.specs.Prelude.{ℕ, List}
 use Rattle.jobs.specs.declared.job.CertificateSource.{CertificateSource}
 use Rattle.jobs.specs.declared.job.CertificateSource.TheVariants.{File, Least}

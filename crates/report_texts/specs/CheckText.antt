@@ -1,4 +1,4 @@
--- The text of `check`: what the rules find (own choice). It is a function of the two texts alone.
+-- The text of `check`: what the rules find. It is a function of the two texts alone.
 use Rattle.std.specs.Prelude.{ℕ, List}
 use Rattle.report_texts.specs.OutputTexts.{Report}
 use Rattle.report_texts.specs.VerdictTexts.{program_accepted}

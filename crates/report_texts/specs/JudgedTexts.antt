@@ -1,4 +1,4 @@
--- How a program text and the text of its certificate are judged, and in which order (own choice): a
+-- How a program text and the text of its certificate are judged, and in which order: a
 -- program that is refused, a certificate that is refused, what the rules find, or a program in which they
 -- find nothing.
 use Rattle.std.specs.Prelude.{ℕ, List, [], ◌∷◌, Result, Ok, Err}

@@ -1,4 +1,4 @@
--- The texts that the jobs write, with the status that the program ends with (own choice).
+-- The texts that the jobs write, with the status that the program ends with.
 use Rattle.std.specs.Prelude.{ℕ, List, [], ◌∷◌, ◌++◌, codes, flat_map}
 use Rattle.std.specs.Fmt.{decimal}
 use Rattle.mips_plain.specs.declared.outcome.Outcome.{Outcome}

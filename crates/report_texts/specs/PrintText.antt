@@ -1,4 +1,4 @@
--- The text of `print`: the program in canonical form (own choice).
+-- The text of `print`: the program in canonical form.
 use Rattle.std.specs.Prelude.{ℕ, List, Result, Ok, Err}
 use Rattle.task_descriptor.specs.Listing.{Listing}
 use Rattle.annotated_asm.specs.declared.fault.AsmFault.{AsmFault}

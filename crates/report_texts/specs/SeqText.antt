@@ -1,4 +1,4 @@
--- The text of `seq`: a plain run, without the annotations (own choice).
+-- The text of `seq`: a plain run, without the annotations.
 use Rattle.std.specs.Prelude.{ℕ, List, ◌++◌, Result, Ok, Err}
 use Rattle.mips_plain.specs.PlainMachine.{plain, counted}
 use Rattle.task_descriptor.specs.Listing.{Listing, input}

@@ -1,4 +1,4 @@
--- The texts of a certificate that is refused, and of a verdict (own choice).
+-- The texts of a certificate that is refused, and of a verdict.
 use Rattle.std.specs.Prelude.{ℕ, List, [], ◌∷◌, ◌++◌, length, codes, flat_map, slice_get, Option, Some, None}
 use Rattle.std.specs.Fmt.{decimal}
 use Rattle.task_descriptor.specs.Listing.{Listing}

@@ -2,7 +2,7 @@
 ghost use Rattle.std.specs.Prelude.{◌≡◌, Some, Err, IfOk};
 ghost use Rattle.report_texts.specs.AnnotateText.{IsAnnotateReport, IsAnnotation, IsLeastText, IsMarksAnswer, IsMarksReport, IsProposalCertificate, IsProposalText, marks_report};
 
-use crate::report::{Report, refused_program};
+use crate::report::{JobReport, refused_program};
 use annotated_asm::assembler::assemble;
 use annotated_asm::fault::AsmFault;
 use annotator::certify::certify;
@@ -16,7 +16,7 @@ use std::alloc::{AllocError, Global};
 use task_descriptor::program::Program;
 
 /// What `annotate` writes of a program text.
-pub fn annotate(alloc: Global, emit: Emit, text: &[u8]) -> Result<Report, AllocError>
+pub fn annotate(alloc: Global, emit: Emit, text: &[u8]) -> Result<JobReport, AllocError>
     ensures { IfOk result (λ report. IsAnnotateReport emit text.now report) }
 {
     match assemble(alloc, text) {
@@ -32,13 +32,13 @@ fn annotation(
     emit: Emit,
     text: &[u8],
     program: Program,
-) -> Result<Report, AllocError>
+) -> Result<JobReport, AllocError>
     ensures { IfOk result (λ report. IsAnnotation emit text.now program report) }
 {
     match emit {
-        Emit::Text => Ok(Report::new(proposal(alloc, program)?, 0)),
-        Emit::Cert => Ok(Report::new(certificate_of_proposal(alloc, program)?, 0)),
-        Emit::Keep => Ok(Report::new(least_certificate(alloc, &program)?, 0)),
+        Emit::Text => Ok(JobReport::new(proposal(alloc, program)?, 0)),
+        Emit::Cert => Ok(JobReport::new(certificate_of_proposal(alloc, program)?, 0)),
+        Emit::Keep => Ok(JobReport::new(least_certificate(alloc, &program)?, 0)),
         Emit::Marks => marked(alloc, text, program),
     }
 }
@@ -72,7 +72,7 @@ fn least_certificate(alloc: Global, program: &Program) -> Result<Vec<u8>, AllocE
 }
 
 // The text itself, with the marks that are proposed for its program.
-fn marked(alloc: Global, text: &[u8], program: Program) -> Result<Report, AllocError>
+fn marked(alloc: Global, text: &[u8], program: Program) -> Result<JobReport, AllocError>
     ensures { IfOk result (λ report. IsMarksReport text.now program report) }
 {
     match propose(alloc, program) {
@@ -82,17 +82,17 @@ fn marked(alloc: Global, text: &[u8], program: Program) -> Result<Report, AllocE
 }
 
 // The text with the marks of a program, or why there is none.
-fn marks_report(alloc: Global, text: &[u8], program: &Program) -> Result<Report, AllocError>
+fn marks_report(alloc: Global, text: &[u8], program: &Program) -> Result<JobReport, AllocError>
     ensures { IfOk result (λ report. IsMarksAnswer text.now program.now report) }
 {
     match with_marks_of(alloc, text, program) {
-        Ok(bytes) => Ok(Report::new(bytes, 0)),
+        Ok(bytes) => Ok(JobReport::new(bytes, 0)),
         Err(fault) => refused_marks(alloc, fault),
     }
 }
 
 // Why a text does not get its marks.
-fn refused_marks(alloc: Global, fault: MarksFault) -> Result<Report, AllocError>
+fn refused_marks(alloc: Global, fault: MarksFault) -> Result<JobReport, AllocError>
     ensures { IfOk result (λ report. marks_report (Err fault) ≡ Some report) }
 {
     match fault {
@@ -100,7 +100,7 @@ fn refused_marks(alloc: Global, fault: MarksFault) -> Result<Report, AllocError>
         MarksFault::TooLong | MarksFault::Differs => {
             let mut text = String::new(alloc);
             writeln!(text, "marks refused: {fault}")?;
-            Ok(Report::new(text.into_bytes(), 1))
+            Ok(JobReport::new(text.into_bytes(), 1))
         }
     }
 }

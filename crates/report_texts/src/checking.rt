@@ -11,7 +11,7 @@ ghost use Rattle.report_texts.specs.JudgedTexts.{certificate_judged, findings_ju
 ghost use Rattle.report_texts.specs.VerdictTexts.{program_accepted};
 
 use crate::judging::keep;
-use crate::report::{Report, refused_program};
+use crate::report::{JobReport, refused_program};
 use crate::verdict_text::{accepted_program, found_program, refused_certificate};
 use annotated_asm::assembler::assemble;
 use annotated_asm::fault::AsmFault;
@@ -37,7 +37,7 @@ pub fn check<R: Threads + Sync>(
     source: CertificateSource,
     workers: Workers,
     texts: &Texts,
-) -> Result<Report, AllocError>
+) -> Result<JobReport, AllocError>
     ensures { IfOk result (λ report. OfCertificate source texts.now.program.items texts.now.certificate (λ certificate.
         report ≡ check_text texts.now.program.items certificate)) }
 {
@@ -55,7 +55,7 @@ fn check_by_least<R: Threads + Sync>(
     alloc: Global,
     workers: Workers,
     program: &[u8],
-) -> Result<Report, AllocError>
+) -> Result<JobReport, AllocError>
     ensures { IfOk result (λ report. OfCertificate CertificateSource.Least program.now [] (λ certificate.
         report ≡ check_text program.now certificate)) }
 {
@@ -78,7 +78,7 @@ fn check_by_text<R: Threads + Sync>(
     workers: Workers,
     program: &[u8],
     certificate: &Text,
-) -> Result<Report, AllocError>
+) -> Result<JobReport, AllocError>
     ensures { IfOk result (λ report. report ≡ check_text program.now certificate.now) }
 {
     let pieces = certificate.pieces(alloc)?;
@@ -126,7 +126,7 @@ fn check_certificate<R: Threads + Sync>(
     workers: Workers,
     program: &Program,
     certificate: ReadAhead<'_>,
-) -> Result<Report, AllocError>
+) -> Result<JobReport, AllocError>
     ensures { IfOk result (λ report.
         report ≡ goes_on program_accepted (certificate_judged program.now (cert_parse certificate.entry (names_of program.now)))) }
 {
@@ -144,7 +144,7 @@ fn check_marks<R: Threads + Sync>(
     workers: Workers,
     program: &Program,
     cert: &Cert,
-) -> Result<Report, AllocError>
+) -> Result<JobReport, AllocError>
     ensures { IfOk result (λ report.
         report ≡ goes_on program_accepted (findings_judged program.now (all_rules program.now cert.now))) }
 {

@@ -7,7 +7,7 @@ ghost use Rattle.report_texts.specs.JudgedTexts.{certificate_judged, findings_ju
 ghost use Rattle.report_texts.specs.Judging.{IsKept, IsLeastJudged, as_judgement};
 ghost use Rattle.report_texts.specs.CertificateTexts.{OfCertificate};
 
-use crate::report::{Report, refused_program};
+use crate::report::{JobReport, refused_program};
 use crate::verdict_text::{found_program, refused_certificate};
 use annotated_asm::assembler::assemble;
 use annotated_asm::fault::AsmFault;
@@ -18,7 +18,7 @@ use mark_checker::check::verdict;
 use mask_certificate::certificate::Cert;
 use mask_certificate::fault::CertFault;
 use mask_certificate::laws::written_is_read;
-use mask_certificate::part::Part;
+use mask_certificate::part::CertificatePart;
 use mask_certificate::reading::read_parts;
 use std::alloc::{AllocError, Global};
 use task_descriptor::program::Program;
@@ -28,7 +28,7 @@ use text_pieces::text::Text;
 #[derive(Debug, Drop)]
 pub enum Judged {
     /// A text is refused, or the rules find something: what the job writes.
-    Refused(Report),
+    Refused(JobReport),
     /// The program with its certificate, in which nothing is found.
     Accepted(accept::Accepted),
 }
@@ -90,12 +90,12 @@ pub fn read(alloc: Global, certificate: &Text, program: &Program) -> Result<Cert
 }
 
 // The pieces, of which nothing was read ahead.
-fn parts_of<'a>(alloc: Global, pieces: &[&'a [u8]]) -> Result<Vec<Part<'a>>, AllocError>
+fn parts_of<'a>(alloc: Global, pieces: &[&'a [u8]]) -> Result<Vec<CertificatePart<'a>>, AllocError>
     ensures { IfOk result (λ parts. parts.items ≡ map (λ piece. piece.now) pieces.now) }
 {
     let mut parts = Vec::with_capacity(alloc, pieces.len())?;
     for piece in pieces {
-        parts.push(Part::new(alloc, piece))?;
+        parts.push(CertificatePart::new(alloc, piece))?;
     }
     Ok(parts)
 }
@@ -111,7 +111,7 @@ fn judge_marks(alloc: Global, program: Program, cert: Cert) -> Result<Judged, Al
 }
 
 // What the rules find, where they find something.
-fn report_findings(alloc: Global, program: &Program, cert: &Cert) -> Result<Report, AllocError>
+fn report_findings(alloc: Global, program: &Program, cert: &Cert) -> Result<JobReport, AllocError>
     requires { all_rules program.now cert.now ≢ [] }
     ensures { IfOk result (λ report. report ≡ program_found program.now (all_rules program.now cert.now)) }
 {

@@ -2,17 +2,17 @@
 ghost use Rattle.std.specs.Prelude.{◌≡◌, IfOk};
 ghost use Rattle.report_texts.specs.PrintText.{print_text};
 
-use crate::report::{Report, refused_program};
+use crate::report::{JobReport, refused_program};
 use annotated_asm::assembler::assemble;
 use annotated_asm::fault::AsmFault;
 use std::alloc::{AllocError, Global};
 
 /// What `print` writes of a program text.
-pub fn print(alloc: Global, text: &[u8]) -> Result<Report, AllocError>
+pub fn print(alloc: Global, text: &[u8]) -> Result<JobReport, AllocError>
     ensures { IfOk result (λ report. report ≡ print_text text.now) }
 {
     match assemble(alloc, text) {
-        Ok(program) => Ok(Report::new(canonical_text::print::print(alloc, &program)?, 0)),
+        Ok(program) => Ok(JobReport::new(canonical_text::print::print(alloc, &program)?, 0)),
         Err(AsmFault::OutOfMemory) => Err(AllocError),
         Err(fault) => refused_program(alloc, fault),
     }

@@ -8,12 +8,12 @@ use std::marker::Model;
 
 /// What a job writes, and the status that the program ends with.
 #[derive(Debug, Drop)]
-pub struct Report {
+pub struct JobReport {
     bytes: Vec<u8>,
     status: u8,
 }
 
-impl Model for Report {
+impl Model for JobReport {
     ghost use Rattle.report_texts.specs.OutputTexts.{Report as Said};
 
     ghost Value = { Said };
@@ -21,12 +21,12 @@ impl Model for Report {
     ghost view = { λ r. record { bytes = r.bytes.items; status = r.status } };
 }
 
-impl Report {
+impl JobReport {
     /// These bytes with this status.
-    pub fn new(bytes: Vec<u8>, status: u8) -> Report
+    pub fn new(bytes: Vec<u8>, status: u8) -> JobReport
         ensures { result ≡ record { bytes = bytes.items; status = status } }
     {
-        Report { bytes, status }
+        JobReport { bytes, status }
     }
 
     /// The bytes.
@@ -45,10 +45,10 @@ impl Report {
 }
 
 /// What every job writes of a text that is no program.
-pub fn refused_program(alloc: Global, fault: AsmFault) -> Result<Report, AllocError>
+pub fn refused_program(alloc: Global, fault: AsmFault) -> Result<JobReport, AllocError>
     ensures { IfOk result (λ report. report ≡ program_refused fault) }
 {
     let mut text = String::new(alloc);
     writeln!(text, "program refused: {fault}")?;
-    Ok(Report::new(text.into_bytes(), 1))
+    Ok(JobReport::new(text.into_bytes(), 1))
 }

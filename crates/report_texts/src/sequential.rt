@@ -3,7 +3,7 @@ ghost use Rattle.std.specs.Prelude.{◌≡◌, IfOk};
 ghost use Rattle.report_texts.specs.SeqText.{run_report, seq_text};
 
 use crate::plain_text::{closing_status_of, write_closing, write_words};
-use crate::report::{Report, refused_program};
+use crate::report::{JobReport, refused_program};
 use annotated_asm::assembler::assemble;
 use annotated_asm::fault::AsmFault;
 use jobs::ranges::Budget;
@@ -12,7 +12,7 @@ use std::alloc::{AllocError, Global};
 use task_descriptor::program::Program;
 
 /// What `seq` writes of a program text.
-pub fn seq(alloc: Global, budget: Budget, text: &[u8]) -> Result<Report, AllocError>
+pub fn seq(alloc: Global, budget: Budget, text: &[u8]) -> Result<JobReport, AllocError>
     ensures { IfOk result (λ report. report ≡ seq_text budget text.now) }
 {
     match assemble(alloc, text) {
@@ -23,7 +23,7 @@ pub fn seq(alloc: Global, budget: Budget, text: &[u8]) -> Result<Report, AllocEr
 }
 
 // What `seq` writes of a program.
-fn run(alloc: Global, budget: Budget, program: &Program) -> Result<Report, AllocError>
+fn run(alloc: Global, budget: Budget, program: &Program) -> Result<JobReport, AllocError>
     ensures { IfOk result (λ report. report ≡ run_report budget program.now) }
 {
     let mut machine = program.plain(alloc).map_err(|_: OutOfMemory| AllocError)?;
@@ -34,5 +34,5 @@ fn run(alloc: Global, budget: Budget, program: &Program) -> Result<Report, Alloc
     write_words(&mut text, machine.output())?;
     let outcome = machine.outcome();
     write_closing(&mut text, outcome, machine.count())?;
-    Ok(Report::new(text.into_bytes(), closing_status_of(outcome)))
+    Ok(JobReport::new(text.into_bytes(), closing_status_of(outcome)))
 }

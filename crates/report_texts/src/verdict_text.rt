@@ -4,7 +4,7 @@ ghost use Rattle.std.specs.String.{string_bytes};
 ghost use Rattle.report_texts.specs.VerdictTexts.{certificate_refused, finding_text, name_at, program_accepted, program_found, register_text};
 ghost use Rattle.std.specs.List.{flat_map};
 
-use crate::report::Report;
+use crate::report::JobReport;
 use mark_checker::finding::Finding;
 use mask_certificate::fault::CertFault;
 use mips_instructions::number::Reg;
@@ -12,12 +12,12 @@ use std::alloc::{AllocError, Global};
 use task_descriptor::program::Program;
 
 /// What every job with a certificate writes of a text that is none.
-pub fn refused_certificate(alloc: Global, fault: CertFault) -> Result<Report, AllocError>
+pub fn refused_certificate(alloc: Global, fault: CertFault) -> Result<JobReport, AllocError>
     ensures { IfOk result (λ report. report ≡ certificate_refused fault) }
 {
     let mut text = String::new(alloc);
     writeln!(text, "certificate refused: {fault}")?;
-    Ok(Report::new(text.into_bytes(), 1))
+    Ok(JobReport::new(text.into_bytes(), 1))
 }
 
 // The name of the task of this number.
@@ -74,23 +74,23 @@ pub fn found_program(
     alloc: Global,
     program: &Program,
     findings: &[Finding],
-) -> Result<Report, AllocError>
+) -> Result<JobReport, AllocError>
     ensures { IfOk result (λ report. report ≡ program_found program.now findings.now) }
 {
     let mut text = String::new(alloc);
     write_findings(&mut text, program, findings)?;
     let count = findings.len();
     writeln!(text, "refused {count}")?;
-    Ok(Report::new(text.into_bytes(), 1))
+    Ok(JobReport::new(text.into_bytes(), 1))
 }
 
 /// What `check` writes where there are no findings.
-pub fn accepted_program(alloc: Global, program: &Program) -> Result<Report, AllocError>
+pub fn accepted_program(alloc: Global, program: &Program) -> Result<JobReport, AllocError>
     ensures { IfOk result (λ report. report ≡ program_accepted program.now) }
 {
     let tasks = program.tasks().len();
     let instructions = program.code().len();
     let mut text = String::new(alloc);
     writeln!(text, "accepted {tasks} tasks {instructions} instructions")?;
-    Ok(Report::new(text.into_bytes(), 0))
+    Ok(JobReport::new(text.into_bytes(), 0))
 }

@@ -1,11 +1,11 @@
--- The bars of lives, and the names of their tasks (own choice).
+-- The bars of lives, and the names of their tasks.
 use Rattle.std.specs.Prelude.{ℕ, ◌+◌, ◌-◌, List, [], ◌∷◌, map, flat_map, length, slice_get, nat_eq, nat_lt, if◌then◌else◌, codes, Option, Some, None}
 use Rattle.task_descriptor.specs.declared.descriptor.Descriptor.{Descriptor}
 use Rattle.task_lives.specs.declared.life.Life.{Life}
 use Rattle.run_picture.specs.declared.shape.Shape.{Shape}
 use Rattle.run_picture.specs.declared.shape.Style.TheVariants.{Bar, TaskName}
-use Rattle.run_picture.specs.declared.shape.Form.TheVariants.{Rectangle}
-use Rattle.run_picture.specs.declared.shape.Words.TheVariants.{Task}
+use Rattle.run_picture.specs.declared.shape.Geometry.TheVariants.{Rectangle}
+use Rattle.run_picture.specs.declared.shape.LabelText.TheVariants.{Task}
 use Rattle.run_picture.specs.declared.shape.Hover.TheVariants.{OfLife}
 use Rattle.run_picture.specs.Scales.{left_edge_of, top_of, fitting_of}
 use Rattle.run_picture.specs.Shapes.{label}

@@ -7,7 +7,7 @@ use Rattle.task_lives.specs.declared.life.Ending.{Ending}
 use Rattle.task_lives.specs.declared.life.Ending.TheVariants.{Squashed}
 use Rattle.task_lives.specs.declared.life.Life.{Life}
 use Rattle.run_picture.specs.declared.shape.Style.TheVariants.{Bar, Instruction}
-use Rattle.run_picture.specs.declared.shape.Form.TheVariants.{Rectangle, Line}
+use Rattle.run_picture.specs.declared.shape.Geometry.TheVariants.{Rectangle, Line}
 use Rattle.run_picture.specs.declared.shape.Hover.TheVariants.{Nothing, OfLife}
 use Rattle.run_picture.specs.Scales.{pixels_text, step_of, fitting_of}
 use Rattle.run_picture.specs.Bars.{bar_of}

@@ -1,4 +1,4 @@
--- The parts of the file that are the same in every picture (own choice): what a colour says, a pattern or a
+-- The parts of the file that are the same in every picture: what a colour says, a pattern or a
 -- dashed border says too.
 use Rattle.std.specs.Prelude.{ℕ, List, [], ◌∷◌, ◌++◌, codes, flat_map}
 

@@ -1,12 +1,11 @@
--- What stands round the bars: the two lines above, a lane for each unit, the axis of events, and a note below
--- (own choice).
+-- What stands round the bars: the two lines above, a lane for each unit, the axis of events, and a note below.
 use Rattle.std.specs.Prelude.{ℕ, ◌+◌, ◌-◌, ◌*◌, ◌/◌, ◌%◌, List, [], ◌∷◌, flat_map, max, nat_eq, if◌then◌else◌}
 use Rattle.std.specs.List.{range_with_len}
 use Rattle.task_lives.specs.declared.tally.Tally.{Tally}
 use Rattle.run_picture.specs.declared.shape.Shape.{Shape}
 use Rattle.run_picture.specs.declared.shape.Style.TheVariants.{Heading, Quiet, Ground, UnitName, Grid, Axis, AxisNumber, Caption}
-use Rattle.run_picture.specs.declared.shape.Words.{Words}
-use Rattle.run_picture.specs.declared.shape.Words.TheVariants.{Title, Sums, OfUnit, EventNumber, Events}
+use Rattle.run_picture.specs.declared.shape.LabelText.{LabelText}
+use Rattle.run_picture.specs.declared.shape.LabelText.TheVariants.{Title, Sums, OfUnit, EventNumber, Events}
 use Rattle.run_picture.specs.Scales.{bottom_of, middle_of, step_of}
 use Rattle.run_picture.specs.Shapes.{rectangle, line, label}
 
@@ -40,5 +39,5 @@ axis_of units events =
     ∷ label Caption 66800 (bottom_of units + 5000) Events
     ∷ numbers_of units events (max (step_of events) 1)
 
-abbrev pub note_of : (units : ℕ) → Words → List Shape
+abbrev pub note_of : (units : ℕ) → LabelText → List Shape
 note_of units words = label Quiet 8800 (bottom_of units + 7600) words ∷ []

@@ -1,5 +1,5 @@
 -- The marks of single events: instructions, registers that go from one unit to the next, and where a squash
--- begins (own choice).
+-- begins.
 use Rattle.std.specs.Prelude.{ℕ, ◌+◌, ◌-◌, List, [], ◌∷◌, ◌++◌, nat_eq, nat_lt, nat_le, if◌then◌else◌}
 use Rattle.machine_model.specs.declared.event.Event.{Event}
 use Rattle.machine_model.specs.declared.event.Event.TheVariants.{Exec, Transfer, Squash}
@@ -7,8 +7,8 @@ use Rattle.machine_model.specs.HeadEvent.{unit_of, retired_after}
 use Rattle.run_picture.specs.declared.shape.Shape.{Shape}
 use Rattle.run_picture.specs.declared.shape.Style.{Style}
 use Rattle.run_picture.specs.declared.shape.Style.TheVariants.{Instruction, FineInstruction, Arrow, FineArrow, RegisterName, SquashMark}
-use Rattle.run_picture.specs.declared.shape.Form.TheVariants.{Line, Wedge}
-use Rattle.run_picture.specs.declared.shape.Words.TheVariants.{Register}
+use Rattle.run_picture.specs.declared.shape.Geometry.TheVariants.{Line, Wedge}
+use Rattle.run_picture.specs.declared.shape.LabelText.TheVariants.{Register}
 use Rattle.run_picture.specs.declared.shape.Counted.{Counted}
 use Rattle.run_picture.specs.declared.shape.Counted.TheVariants.{Events}
 use Rattle.run_picture.specs.declared.shape.Hover.{Hover}

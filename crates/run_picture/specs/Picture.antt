@@ -8,7 +8,7 @@ use Rattle.task_lives.specs.declared.life.Life.{Life}
 use Rattle.task_lives.specs.Lives.{lives_of}
 use Rattle.task_lives.specs.Tallies.{tally_of}
 use Rattle.run_picture.specs.declared.shape.Shape.{Shape}
-use Rattle.run_picture.specs.declared.shape.Words.TheVariants.{Ring, Stretch}
+use Rattle.run_picture.specs.declared.shape.LabelText.TheVariants.{Ring, Stretch}
 use Rattle.run_picture.specs.Scales.{bottom_of}
 use Rattle.run_picture.specs.WordsText.{title_text}
 use Rattle.run_picture.specs.Frame.{titles_of, lanes_of, axis_of, note_of}

@@ -1,4 +1,4 @@
--- Where things stand in the picture, in hundredths of a pixel from the left and from above (own choice).
+-- Where things stand in the picture, in hundredths of a pixel from the left and from above.
 use Rattle.std.specs.Fmt.{decimal}
 use Rattle.std.specs.Prelude.{ℕ, suc, ◌+◌, ◌-◌, ◌*◌, ◌/◌, ◌%◌, ◌++◌, codes, List, [], ◌∷◌, ◌||◌, ◌&&◌, ◌==◌, nat_le, max, if◌then◌else◌}
 

@@ -8,8 +8,8 @@ use Rattle.task_lives.specs.declared.life.Life.{Life}
 use Rattle.run_picture.specs.declared.shape.Shape.{Shape}
 use Rattle.run_picture.specs.declared.shape.Style.{Style}
 use Rattle.run_picture.specs.declared.shape.Style.TheVariants.{Heading, Quiet, Ground, UnitName, Grid, Axis, AxisNumber, Caption, Bar, Share, TaskName, Instruction, FineInstruction, Arrow, FineArrow, RegisterName, SquashMark, Halted, WaitForRegister, WaitForTurn, WaitToPass}
-use Rattle.run_picture.specs.declared.shape.Form.{Form}
-use Rattle.run_picture.specs.declared.shape.Form.TheVariants.{Rectangle, Line, Wedge, Label}
+use Rattle.run_picture.specs.declared.shape.Geometry.{Geometry}
+use Rattle.run_picture.specs.declared.shape.Geometry.TheVariants.{Rectangle, Line, Wedge, Label}
 use Rattle.run_picture.specs.declared.shape.Counted.{Counted}
 use Rattle.run_picture.specs.declared.shape.Counted.TheVariants as counted
 use Rattle.run_picture.specs.declared.shape.Hover.{Hover}
@@ -55,7 +55,7 @@ style_text WaitForTurn = codes "wait turn"
 style_text WaitToPass = codes "wait pass"
 
 -- an element's name, class and place
-abbrev pub beginning_text : (class : List ℕ) → Form → List ℕ
+abbrev pub beginning_text : (class : List ℕ) → Geometry → List ℕ
 beginning_text class (Rectangle left top width height) =
     codes "<rect class='" ++ (class ++ (codes "' x='" ++ (pixels_text left ++ (codes "' y='" ++ (pixels_text top
     ++ (codes "' width='" ++ (pixels_text width ++ (codes "' height='" ++ (pixels_text height ++ codes "'>")))))))))
@@ -100,7 +100,7 @@ hover_text tasks (OfSquash counts number unit) =
     when_text counts number ++ (codes "what follows unit " ++ (decimal unit ++ codes " is squashed</title>"))
 
 -- what a label says, and the closing tag
-abbrev pub end_text : List Descriptor → Form → List ℕ
+abbrev pub end_text : List Descriptor → Geometry → List ℕ
 end_text tasks (Rectangle left top width height) = codes "</rect>" ++ 10 ∷ []
 end_text tasks (Line left top right bottom) = codes "</line>" ++ 10 ∷ []
 end_text tasks (Wedge left top) = codes "</path>" ++ 10 ∷ []

@@ -2,12 +2,12 @@
 use Rattle.std.specs.Prelude.{ℕ}
 use Rattle.run_picture.specs.declared.shape.Shape.{Shape}
 use Rattle.run_picture.specs.declared.shape.Style.{Style}
-use Rattle.run_picture.specs.declared.shape.Form.{Form}
-use Rattle.run_picture.specs.declared.shape.Form.TheVariants.{Rectangle, Line, Label}
-use Rattle.run_picture.specs.declared.shape.Words.{Words}
+use Rattle.run_picture.specs.declared.shape.Geometry.{Geometry}
+use Rattle.run_picture.specs.declared.shape.Geometry.TheVariants.{Rectangle, Line, Label}
+use Rattle.run_picture.specs.declared.shape.LabelText.{LabelText}
 use Rattle.run_picture.specs.declared.shape.Hover.TheVariants.{Nothing}
 
-abbrev pub plain : Style → Form → Shape
+abbrev pub plain : Style → Geometry → Shape
 plain style form = record { style = style; form = form; hover = Nothing }
 
 abbrev pub rectangle : Style → (left top width height : ℕ) → Shape
@@ -16,5 +16,5 @@ rectangle style left top width height = plain style (Rectangle left top width he
 abbrev pub line : Style → (left top right bottom : ℕ) → Shape
 line style left top right bottom = plain style (Line left top right bottom)
 
-abbrev pub label : Style → (left base : ℕ) → Words → Shape
+abbrev pub label : Style → (left base : ℕ) → LabelText → Shape
 label style left base words = plain style (Label left base words)

@@ -1,5 +1,5 @@
 -- Long histories, summed by 290 stretches of equal length: how many events of a stretch each unit spent on
--- tasks that ended in each way (own choice).
+-- tasks that ended in each way.
 use Rattle.std.specs.Prelude.{ℕ, ◌+◌, ◌-◌, ◌*◌, ◌/◌, ◌%◌, List, [], ◌∷◌, flat_map, min, max, nat_eq, nat_lt, ◌&&◌, if◌then◌else◌}
 use Rattle.std.specs.List.{range_with_len, sum_by}
 use Rattle.task_lives.specs.declared.life.Ending.{Ending}

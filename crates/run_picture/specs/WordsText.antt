@@ -3,8 +3,8 @@ use Rattle.std.specs.Fmt.{decimal}
 use Rattle.std.specs.Prelude.{ℕ, List, [], ◌++◌, codes, length, take, flat_map, encode_utf8, nat_eq, nat_le, if◌then◌else◌}
 use Rattle.task_descriptor.specs.declared.descriptor.Descriptor.{Descriptor}
 use Rattle.task_lives.specs.declared.tally.Tally.{Tally}
-use Rattle.run_picture.specs.declared.shape.Words.{Words}
-use Rattle.run_picture.specs.declared.shape.Words.TheVariants.{Title, Sums, OfUnit, EventNumber, Events, Task, Register, Ring, Stretch, Steps, OneEvent, StretchOfSteps}
+use Rattle.run_picture.specs.declared.shape.LabelText.{LabelText}
+use Rattle.run_picture.specs.declared.shape.LabelText.TheVariants.{Title, Sums, OfUnit, EventNumber, Events, Task, Register, Ring, Stretch, Steps, OneEvent, StretchOfSteps}
 use Rattle.run_picture.specs.Bars.{name_of}
 
 -- what follows a word for a number of things
@@ -29,7 +29,7 @@ abbrev pub name_text : (name : List ℕ) (letters : ℕ) → List ℕ
 name_text name letters =
     if nat_le (length name) letters then name else flat_map encode_utf8 (take letters name) ++ codes "&#8230;"
 
-abbrev pub words_text : List Descriptor → Words → List ℕ
+abbrev pub words_text : List Descriptor → LabelText → List ℕ
 words_text tasks (Title units events) = title_text units events
 words_text tasks (Sums tally) = lives_text tally ++ work_text tally
 words_text tasks (OfUnit unit) = codes "unit " ++ decimal unit

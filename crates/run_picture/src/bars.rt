@@ -4,7 +4,7 @@ ghost use Rattle.std.specs.Prelude.{◌≡◌, ◌++◌, OnOk};
 ghost use Rattle.run_picture.specs.Bars.{bar_of as bar_of_life, bars_of, letters_in as letters_in_width, name_label, name_of as name_of_task, name_on, names_of, width_of};
 
 use crate::scale::{BAR_HEIGHT, fitting, left_edge, top};
-use crate::shape::{Form, Hover, Shape, Style, Words};
+use crate::shape::{Geometry, Hover, LabelText, Shape, Style};
 use std::alloc::AllocError;
 use task_descriptor::descriptor::Descriptor;
 use task_lives::life::Life;
@@ -30,7 +30,7 @@ fn bar_of(events: u32, life: Life) -> Shape
     let left = left_edge(events, u64::from(life.first));
     Shape {
         style: Style::Bar(life.ending),
-        form: Form::Rectangle(left, top(life.unit), width(events, life), BAR_HEIGHT),
+        form: Geometry::Rectangle(left, top(life.unit), width(events, life), BAR_HEIGHT),
         hover: Hover::OfLife(life),
     }
 }
@@ -86,8 +86,8 @@ fn push_letters(
         return Ok(());
     }
     let left = left_edge(events, u64::from(life.first)) + 600;
-    let words = Words::Task(life.task, letters);
-    let form = Form::Label(left, top(life.unit) + 1_800, words);
+    let words = LabelText::Task(life.task, letters);
+    let form = Geometry::Label(left, top(life.unit) + 1_800, words);
     shapes.push(Shape::plain(Style::TaskName, form))?;
     Ok(())
 }

@@ -13,7 +13,7 @@ use crate::events::single_events;
 use crate::lanes::{push_axis, push_lanes, push_note, push_titles};
 use crate::marks::push_marks;
 use crate::scale::bottom;
-use crate::shape::{Shape, Words};
+use crate::shape::{LabelText, Shape};
 use crate::shape_text::write_shapes;
 use crate::sheet::{marks_legend, stretches_legend, style_sheet};
 use crate::stretches::{push_stretches, stretch_length};
@@ -129,7 +129,7 @@ fn push_single(
     push_bars(shapes, count, lives)?;
     push_marks(shapes, units, count, events)?;
     push_names(shapes, tasks, count, lives)?;
-    push_note(shapes, units, Words::Ring)
+    push_note(shapes, units, LabelText::Ring)
 }
 
 /// Adds the columns of a long history.
@@ -145,7 +145,7 @@ fn push_summed(
     ensures { OnOk result (shapes.new.items ≡ shapes.old.items ++ summed_shapes units events lives.now) }
 {
     push_stretches(alloc, shapes, units, events, lives)?;
-    push_note(shapes, units, Words::Stretch(stretch_length(events)))
+    push_note(shapes, units, LabelText::Stretch(stretch_length(events)))
 }
 
 /// Writes the file of some shapes.

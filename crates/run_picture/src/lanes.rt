@@ -4,7 +4,7 @@ ghost use Rattle.std.specs.Prelude.{◌≡◌, ◌++◌, ◌<◌, OnOk};
 ghost use Rattle.run_picture.specs.Frame.{axis_of, lane_of, lanes_of, note_of, number_at, numbers_of, titles_of};
 
 use crate::scale::{AXIS_LEFT, AXIS_WIDTH, LANE_HEIGHT, LANES_TOP, axis_step, bottom, middle};
-use crate::shape::{Form, Shape, Style, Words};
+use crate::shape::{Geometry, LabelText, Shape, Style};
 use std::alloc::AllocError;
 use task_lives::tally::Tally;
 
@@ -17,8 +17,8 @@ pub(crate) fn push_titles(
 ) -> Result<(), AllocError>
     ensures { OnOk result (shapes.new.items ≡ shapes.old.items ++ titles_of units events tally) }
 {
-    let title = Form::Label(8_800, 4_600, Words::Title(units, events));
-    let sums = Form::Label(8_800, 7_200, Words::Sums(tally));
+    let title = Geometry::Label(8_800, 4_600, LabelText::Title(units, events));
+    let sums = Geometry::Label(8_800, 7_200, LabelText::Sums(tally));
     shapes.push(Shape::plain(Style::Heading, title))?;
     shapes.push(Shape::plain(Style::Quiet, sums))?;
     Ok(())
@@ -40,8 +40,8 @@ fn push_lane(shapes: &mut Vec<Shape>, unit: u32) -> Result<(), AllocError>
 {
     let top = bottom(unit);
     let height = if unit % 2 == 0 { LANE_HEIGHT } else { 0 };
-    let ground = Form::Rectangle(AXIS_LEFT, top, AXIS_WIDTH, height);
-    let name = Form::Label(7_200, top + 3_900, Words::OfUnit(unit));
+    let ground = Geometry::Rectangle(AXIS_LEFT, top, AXIS_WIDTH, height);
+    let name = Geometry::Label(7_200, top + 3_900, LabelText::OfUnit(unit));
     shapes.push(Shape::plain(Style::Ground, ground))?;
     shapes.push(Shape::plain(Style::UnitName, name))?;
     Ok(())
@@ -52,8 +52,8 @@ pub(crate) fn push_axis(shapes: &mut Vec<Shape>, units: u32, events: u32) -> Res
     ensures { OnOk result (shapes.new.items ≡ shapes.old.items ++ axis_of units events) }
 {
     let below = bottom(units);
-    let line = Form::Line(AXIS_LEFT, below, AXIS_LEFT + AXIS_WIDTH, below);
-    let caption = Form::Label(66_800, below + 5_000, Words::Events);
+    let line = Geometry::Line(AXIS_LEFT, below, AXIS_LEFT + AXIS_WIDTH, below);
+    let caption = Geometry::Label(66_800, below + 5_000, LabelText::Events);
     shapes.push(Shape::plain(Style::Axis, line))?;
     shapes.push(Shape::plain(Style::Caption, caption))?;
     push_numbers(shapes, units, events, axis_step(events).max(1))
@@ -86,18 +86,18 @@ fn push_number(
 {
     let x = middle(events, number.saturating_sub(1));
     let below = bottom(units);
-    let line = Form::Line(x, LANES_TOP, x, below + 600);
-    let label = Form::Label(x, below + 2_400, Words::EventNumber(number));
+    let line = Geometry::Line(x, LANES_TOP, x, below + 600);
+    let label = Geometry::Label(x, below + 2_400, LabelText::EventNumber(number));
     shapes.push(Shape::plain(Style::Grid, line))?;
     shapes.push(Shape::plain(Style::AxisNumber, label))?;
     Ok(())
 }
 
 /// Adds a note below the axis. An error says that memory was refused.
-pub fn push_note(shapes: &mut Vec<Shape>, units: u32, words: Words) -> Result<(), AllocError>
+pub fn push_note(shapes: &mut Vec<Shape>, units: u32, words: LabelText) -> Result<(), AllocError>
     ensures { OnOk result (shapes.new.items ≡ shapes.old.items ++ note_of units words) }
 {
-    let note = Form::Label(8_800, bottom(units) + 7_600, words);
+    let note = Geometry::Label(8_800, bottom(units) + 7_600, words);
     shapes.push(Shape::plain(Style::Quiet, note))?;
     Ok(())
 }

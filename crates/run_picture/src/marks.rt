@@ -6,7 +6,7 @@ ghost use Rattle.machine_model.specs.HeadEvent.{retired_after, unit_of};
 ghost use Rattle.run_picture.specs.Marks.{arrow_of, arrows_of, by_room as style_by_room, marks_at, marks_of, register_of, squash_of, tick_of, transfer_of, unit_before};
 
 use crate::scale::{BAR_HEIGHT, middle, room, top};
-use crate::shape::{Counted, Form, Hover, Shape, Style, Words};
+use crate::shape::{Counted, Geometry, Hover, LabelText, Shape, Style};
 use machine_model::event::Event;
 use std::alloc::AllocError;
 
@@ -113,7 +113,7 @@ fn tick(count: u32, number: u32, unit: u32) -> Shape
     let x = middle(count, number.saturating_sub(1));
     let y = top(unit) + BAR_HEIGHT;
     let style = by_room(count, Style::FineInstruction, Style::Instruction);
-    Shape::plain(style, Form::Line(x, y - 1_300, x, y - 400))
+    Shape::plain(style, Geometry::Line(x, y - 1_300, x, y - 400))
 }
 
 /// A mark above the bar of the unit behind which a squash begins.
@@ -123,7 +123,7 @@ fn squash(counted: Counted, count: u32, number: u32, unit: u32) -> Shape
     let x = middle(count, number.saturating_sub(1));
     Shape {
         style: Style::SquashMark,
-        form: Form::Wedge(x.saturating_sub(700), top(unit) - 900),
+        form: Geometry::Wedge(x.saturating_sub(700), top(unit) - 900),
         hover: Hover::OfSquash(counted, number, unit),
     }
 }
@@ -184,7 +184,7 @@ fn arrow(count: u32, number: u32, hover: Hover, top: u64, bottom: u64) -> Shape
     let x = middle(count, number.saturating_sub(1));
     Shape {
         style: by_room(count, Style::FineArrow, Style::Arrow),
-        form: Form::Line(x, top, x, bottom),
+        form: Geometry::Line(x, top, x, bottom),
         hover,
     }
 }
@@ -203,7 +203,7 @@ fn push_register(
         return Ok(());
     }
     let x = middle(count, number.saturating_sub(1)) + 500;
-    let form = Form::Label(x, top(unit) - 900, Words::Register(register));
+    let form = Geometry::Label(x, top(unit) - 900, LabelText::Register(register));
     shapes.push(Shape::plain(Style::RegisterName, form))?;
     Ok(())
 }

@@ -3,7 +3,7 @@
 use task_lives::life::{Ending, Life};
 use task_lives::tally::Tally;
 
-/// How a shape looks: a class of the style sheet (own choice).
+/// How a shape looks: a class of the style sheet.
 #[derive(Clone, Copy, Debug, PartialEq, Eq)]
 pub enum Style {
     /// What the picture is called.
@@ -52,7 +52,7 @@ pub enum Style {
 
 /// What a label says.
 #[derive(Clone, Copy, Debug, PartialEq, Eq)]
-pub enum Words {
+pub enum LabelText {
     /// What the picture is called: how many units, and how many events.
     Title(u32, u32),
     /// What the lives came to.
@@ -103,7 +103,7 @@ pub enum Hover {
 
 /// The form of a shape.
 #[derive(Clone, Copy, Debug, PartialEq, Eq)]
-pub enum Form {
+pub enum Geometry {
     /// A rectangle: where its left upper corner is, and how wide and high it is.
     Rectangle(u64, u64, u64, u64),
     /// A line from one point to another.
@@ -111,7 +111,7 @@ pub enum Form {
     /// A small triangle that points down, from its left upper corner.
     Wedge(u64, u64),
     /// A label: where its first letter stands, or the one in its middle or the last one, as its style says.
-    Label(u64, u64, Words),
+    Label(u64, u64, LabelText),
 }
 
 /// A shape.
@@ -120,7 +120,7 @@ pub struct Shape {
     /// How it looks.
     pub style: Style,
     /// Where it is.
-    pub form: Form,
+    pub form: Geometry,
     /// What is said of it.
     pub hover: Hover,
 }
@@ -130,7 +130,7 @@ impl Shape {
     ghost use Rattle.run_picture.specs.Shapes.{plain as plain_of};
 
     /// A shape of which nothing is said.
-    pub fn plain(style: Style, form: Form) -> Shape
+    pub fn plain(style: Style, form: Geometry) -> Shape
         ensures { result ≡ plain_of style form }
     {
         Shape {

@@ -6,7 +6,7 @@ ghost use Rattle.run_picture.specs.ShapeText.{beginning_text, counted_text, cour
 
 use crate::bars::name_of;
 use crate::pixels::Pixels;
-use crate::shape::{Counted, Form, Hover, Shape, Style};
+use crate::shape::{Counted, Geometry, Hover, Shape, Style};
 use crate::words_text::write_words;
 use std::alloc::AllocError;
 use task_descriptor::descriptor::Descriptor;
@@ -36,12 +36,12 @@ fn write_shape(text: &mut String, tasks: &[Descriptor], shape: &Shape) -> Result
 }
 
 /// Writes the beginning of an element: its style and its place. An error says that memory was refused.
-pub fn write_beginning(text: &mut String, style: Style, form: Form) -> Result<(), AllocError>
+pub fn write_beginning(text: &mut String, style: Style, form: Geometry) -> Result<(), AllocError>
     ensures { OnOk result (string_bytes text.new ≡ string_bytes text.old ++ beginning_text (style_text style) form) }
 {
     let class = class_of(style);
     match form {
-        Form::Rectangle(left, top, width, height) => {
+        Geometry::Rectangle(left, top, width, height) => {
             let (x, y) = (Pixels(left), Pixels(top));
             let (w, h) = (Pixels(width), Pixels(height));
             write!(
@@ -49,7 +49,7 @@ pub fn write_beginning(text: &mut String, style: Style, form: Form) -> Result<()
                 "<rect class='{class}' x='{x}' y='{y}' width='{w}' height='{h}'>"
             )
         }
-        Form::Line(left, top, right, bottom) => {
+        Geometry::Line(left, top, right, bottom) => {
             let (x, y) = (Pixels(left), Pixels(top));
             let (to, below) = (Pixels(right), Pixels(bottom));
             write!(
@@ -57,11 +57,11 @@ pub fn write_beginning(text: &mut String, style: Style, form: Form) -> Result<()
                 "<line class='{class}' x1='{x}' y1='{y}' x2='{to}' y2='{below}'>"
             )
         }
-        Form::Wedge(left, top) => {
+        Geometry::Wedge(left, top) => {
             let (x, y) = (Pixels(left), Pixels(top));
             write!(text, "<path class='{class}' d='M{x} {y}h14l-7 11z'>")
         }
-        Form::Label(left, base, _) => {
+        Geometry::Label(left, base, _) => {
             let (x, y) = (Pixels(left), Pixels(base));
             write!(text, "<text class='{class}' x='{x}' y='{y}'>")
         }
@@ -69,14 +69,14 @@ pub fn write_beginning(text: &mut String, style: Style, form: Form) -> Result<()
 }
 
 /// Writes the end of an element: what a label says, and the closing tag. An error says that memory was refused.
-pub fn write_end(text: &mut String, tasks: &[Descriptor], form: Form) -> Result<(), AllocError>
+pub fn write_end(text: &mut String, tasks: &[Descriptor], form: Geometry) -> Result<(), AllocError>
     ensures { OnOk result (string_bytes text.new ≡ string_bytes text.old ++ end_text tasks.now form) }
 {
     match form {
-        Form::Rectangle(..) => text.push_str("</rect>\n"),
-        Form::Line(..) => text.push_str("</line>\n"),
-        Form::Wedge(..) => text.push_str("</path>\n"),
-        Form::Label(_, _, words) => {
+        Geometry::Rectangle(..) => text.push_str("</rect>\n"),
+        Geometry::Line(..) => text.push_str("</line>\n"),
+        Geometry::Wedge(..) => text.push_str("</path>\n"),
+        Geometry::Label(_, _, words) => {
             write_words(text, tasks, words)?;
             text.push_str("</text>\n")
         }

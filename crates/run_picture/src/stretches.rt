@@ -9,7 +9,7 @@ ghost use Rattle.run_picture.specs.Stretches.{column_part, ending_of as ending_o
 ghost use Rattle.run_picture.specs.Adding.{AddsLife, with_overlap, HaveRoom};
 
 use crate::scale::{BAR_HEIGHT, left_edge, top};
-use crate::shape::{Form, Shape, Style};
+use crate::shape::{Geometry, Shape, Style};
 use std::alloc::{AllocError, Global};
 use task_lives::life::{Ending, Life};
 
@@ -175,7 +175,7 @@ fn rectangle(events: u32, part: usize, below: u64, here: u64) -> Shape
     let low = height(events, stretch, below);
     let high = height(events, stretch, below + here);
     let bottom = top((part / 1_160) as u32) + BAR_HEIGHT;
-    let form = Form::Rectangle(
+    let form = Geometry::Rectangle(
         left,
         bottom.saturating_sub(high),
         right.saturating_sub(left),

@@ -5,7 +5,7 @@ ghost use Rattle.std.specs.String.{string_bytes};
 ghost use Rattle.run_picture.specs.WordsText.{lives_text, name_text, plural as plural_of, title_text, work_text, words_text};
 
 use crate::bars::name_of;
-use crate::shape::Words;
+use crate::shape::LabelText;
 use std::alloc::AllocError;
 use task_descriptor::descriptor::Descriptor;
 use task_lives::tally::Tally;
@@ -14,30 +14,30 @@ use task_lives::tally::Tally;
 pub(crate) fn write_words(
     text: &mut String,
     tasks: &[Descriptor],
-    words: Words,
+    words: LabelText,
 ) -> Result<(), AllocError>
     ensures { OnOk result (string_bytes text.new ≡ string_bytes text.old ++ words_text tasks.now words) }
 {
     match words {
-        Words::Title(units, events) => write_title(text, units, events as usize),
-        Words::Sums(tally) => write_sums(text, tally),
-        Words::OfUnit(unit) => write!(text, "unit {unit}"),
-        Words::EventNumber(number) => write!(text, "{number}"),
-        Words::Task(task, letters) => write_name(text, name_of(tasks, task), letters),
-        Words::Register(register) => write!(text, "${register}"),
-        Words::Events => text.push_str("events that were allowed, numbered from 1"),
-        Words::Ring => text.push_str(
+        LabelText::Title(units, events) => write_title(text, units, events as usize),
+        LabelText::Sums(tally) => write_sums(text, tally),
+        LabelText::OfUnit(unit) => write!(text, "unit {unit}"),
+        LabelText::EventNumber(number) => write!(text, "{number}"),
+        LabelText::Task(task, letters) => write_name(text, name_of(tasks, task), letters),
+        LabelText::Register(register) => write!(text, "${register}"),
+        LabelText::Events => text.push_str("events that were allowed, numbered from 1"),
+        LabelText::Ring => text.push_str(
             "An arrow that leaves the last unit goes on at unit 0: the units form a ring.",
         ),
-        Words::Stretch(events) => write!(
+        LabelText::Stretch(events) => write!(
             text,
             "A long run, summed: each column is {events} events, and shows how much of them a unit spent on tasks that ended so."
         ),
-        Words::Steps => text.push_str("steps, numbered from 1"),
-        Words::OneEvent => text.push_str(
+        LabelText::Steps => text.push_str("steps, numbered from 1"),
+        LabelText::OneEvent => text.push_str(
             "In a step each unit does one event, unless it waits for a reason that is shaded, or has no task. Steps are no time of a processor.",
         ),
-        Words::StretchOfSteps(steps) => write!(
+        LabelText::StretchOfSteps(steps) => write!(
             text,
             "A long run, summed: each column is {steps} steps, and shows how much of them a unit spent on tasks that ended so."
         ),

@@ -1,4 +1,4 @@
--- What the runs of a program in steps come to, on 1, 2, 3 units and more (own choice). The steps are those of
+-- What the runs of a program in steps come to, on 1, 2, 3 units and more. The steps are those of
 -- the synchronous schedule: they say how far the marks let tasks overlap, and are no time of a processor.
 use Rattle.std.specs.Prelude.{◌≡◌, ℕ, List, map}
 use Rattle.std.specs.List.{All, range_with_len}

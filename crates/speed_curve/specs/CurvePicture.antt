@@ -1,4 +1,4 @@
--- The picture of a curve, as the text of an SVG file (own choice).
+-- The picture of a curve, as the text of an SVG file.
 use Rattle.std.specs.Fmt.{decimal}
 use Rattle.std.specs.Prelude.{ℕ, ◌+◌, ◌-◌, ◌*◌, ◌/◌, Option, Some, None, List, [], ◌∷◌, ◌++◌, codes, flat_map, length}
 use Rattle.machine_model.specs.declared.event.Standing.{Standing}

@@ -1,4 +1,4 @@
--- The part of the file that is the same in every picture (own choice): what a colour says, a form or a
+-- The part of the file that is the same in every picture: what a colour says, a form or a
 -- pattern says too.
 use Rattle.std.specs.Prelude.{ℕ, List, [], ◌∷◌, ◌++◌, codes, flat_map}
 

@@ -1,4 +1,4 @@
--- Where things stand in the picture of a curve, in pixels from the left and from above (own choice).
+-- Where things stand in the picture of a curve, in pixels from the left and from above.
 use Rattle.std.specs.Fmt.{decimal}
 use Rattle.std.specs.Prelude.{ℕ, ◌+◌, ◌-◌, ◌*◌, ◌/◌, ◌%◌, ◌++◌, List, codes, max, min, unwrap_or}
 use Rattle.std.specs.List.{fold}

@@ -1,4 +1,4 @@
--- The table of some runs: a heading, and a row for each (own choice).
+-- The table of some runs: a heading, and a row for each.
 use Rattle.std.specs.Prelude.{ℕ, ◌+◌, ◌-◌, ◌*◌, ◌/◌, ◌%◌, Option, Some, None, List, [], ◌∷◌, ◌++◌, Bool, true, false, ◌&&◌, nat_eq, nat_lt, if◌then◌else◌, codes, flat_map}
 use Rattle.std.specs.Fmt.{decimal}
 use Rattle.machine_model.specs.declared.event.Standing.{Standing}

@@ -16,7 +16,7 @@ use std::alloc::{AllocError, Global};
 /// times as many steps the run on one unit took, which is the first row; below, a bar says which share was
 /// thrown away. All are rounded as in the table (`crate::table`), and a run has a speed-up where it has
 /// one there. The row of so many units stands in the column of that number, and there are as many columns as
-/// rows. The error says that memory was refused. (own choice)
+/// rows. The error says that memory was refused.
 pub fn draw(alloc: Global, rows: &[Row]) -> Result<String, AllocError>
     ensures { IfOk result (λ text. string_bytes text ≡ curve_text rows.now) }
 {

@@ -33,7 +33,6 @@ pub struct Row {
 
 /// Runs the accepted program in steps, as `run_steps` does, on a machine of so many units, 1 to 16, up to
 /// this many events, 1 to 1,000,000, and says what the run came to. The error says that memory was refused.
-/// (own choice)
 pub fn row_of(
     alloc: Global,
     accepted: &Accepted,

@@ -13,7 +13,7 @@ use std::alloc::{AllocError, Global};
 /// each. The columns are the units, the steps, the retired instructions, how many of these there are for each
 /// step, how many times as many steps the run on one unit took, the share of instructions that were thrown
 /// away, and how the run ended. The fifth has `-` unless both runs ended and an instruction retired. Numbers
-/// with decimals have two, rounded to the nearest. The error says that memory was refused. (own choice)
+/// with decimals have two, rounded to the nearest. The error says that memory was refused.
 pub fn write(alloc: Global, rows: &[Row]) -> Result<Vec<u8>, AllocError>
     ensures { IfOk result (λ text. text.items ≡ table_text rows.now) }
 {

@@ -1,4 +1,4 @@
--- The bars of lives in steps (own choice). The task that halted is not called unfinished.
+-- The bars of lives in steps. The task that halted is not called unfinished.
 use Rattle.std.specs.Prelude.{ℕ, ◌%◌, Bool, false, List, flat_map, nat_eq, if◌then◌else◌}
 use Rattle.machine_model.specs.declared.event.Standing.{Standing}
 use Rattle.machine_model.specs.declared.event.Standing.TheVariants as standing

@@ -18,8 +18,8 @@ use Rattle.unit_waits.specs.declared.waiting.Reason.TheVariants.{NeedsRegister, 
 use Rattle.unit_waits.specs.declared.waiting.Waiting.{Waiting}
 use Rattle.run_picture.specs.declared.shape.Style.TheVariants.{Bar, Halted, WaitForTurn, SquashMark, Instruction, Arrow, RegisterName}
 use Rattle.run_picture.specs.declared.shape.Shape.{Shape}
-use Rattle.run_picture.specs.declared.shape.Form.TheVariants.{Line, Wedge}
-use Rattle.run_picture.specs.declared.shape.Words.TheVariants.{Register}
+use Rattle.run_picture.specs.declared.shape.Geometry.TheVariants.{Line, Wedge}
+use Rattle.run_picture.specs.declared.shape.LabelText.TheVariants.{Register}
 use Rattle.run_picture.specs.declared.shape.Counted.TheVariants.{Steps}
 use Rattle.run_picture.specs.declared.shape.Hover.TheVariants.{OfTransfer, OfSquash}
 use Rattle.run_picture.specs.Shapes.{label, line, rectangle}

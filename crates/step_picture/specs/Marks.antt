@@ -1,5 +1,5 @@
 -- The marks of a run in steps, each in the middle of its step, as in a picture of events: instructions, registers that
--- go from one unit to the next, and where squashes begin. More than 300 steps have room for squashes alone (own choice).
+-- go from one unit to the next, and where squashes begin. More than 300 steps have room for squashes alone.
 use Rattle.std.specs.Prelude.{ℕ, ◌+◌, List, [], ◌∷◌, ◌++◌, Bool, true, false, ◌||◌, nat_le, if◌then◌else◌}
 use Rattle.machine_model.specs.declared.event.Event.{Event}
 use Rattle.machine_model.specs.declared.event.Event.TheVariants.{Squash}

@@ -1,4 +1,4 @@
--- What the picture calls a predictor: as `--predict` has it; of a long list, the first 24 numbers (own choice).
+-- What the picture calls a predictor: as `--predict` has it; of a long list, the first 24 numbers.
 use Rattle.std.specs.Fmt.{decimal}
 use Rattle.std.specs.Prelude.{ℕ, List, [], ◌∷◌, ◌++◌, codes, flat_map, length, take, nat_le, if◌then◌else◌}
 use Rattle.jobs.specs.declared.job.Prediction.{Prediction}

@@ -1,4 +1,4 @@
--- The picture of a run in steps: its shapes, and its text (own choice).
+-- The picture of a run in steps: its shapes, and its text.
 use Rattle.std.specs.Fmt.{decimal}
 use Rattle.std.specs.Prelude.{ℕ, ◌+◌, List, [], ◌∷◌, ◌++◌, codes, max, nat_le, if◌then◌else◌}
 use Rattle.machine_model.specs.declared.event.Event.{Event}
@@ -15,7 +15,7 @@ use Rattle.unit_waits.specs.Waits.{waits}
 use Rattle.jobs.specs.declared.job.Prediction.{Prediction}
 use Rattle.run_picture.specs.declared.shape.Shape.{Shape}
 use Rattle.run_picture.specs.declared.shape.Style.TheVariants.{Axis, Caption}
-use Rattle.run_picture.specs.declared.shape.Words.TheVariants.{Steps, OneEvent, StretchOfSteps}
+use Rattle.run_picture.specs.declared.shape.LabelText.TheVariants.{Steps, OneEvent, StretchOfSteps}
 use Rattle.run_picture.specs.Scales.{bottom_of, step_of}
 use Rattle.run_picture.specs.Shapes.{line, label}
 use Rattle.run_picture.specs.Frame.{lanes_of, numbers_of, note_of}

@@ -1,5 +1,5 @@
 -- Why units wait, as strips in the lower part of their bars: one for each stretch of steps in which a unit waits for one
--- reason (own choice).
+-- reason.
 use Rattle.std.specs.Prelude.{ℕ, ◌+◌, ◌-◌, List, [], ◌∷◌, ◌++◌, Bool, true, false, not, ◌&&◌, filter, flat_map, nat_eq, if◌then◌else◌, Option, Some, None}
 use Rattle.std.specs.List.{range_with_len}
 use Rattle.task_descriptor.specs.declared.descriptor.Descriptor.{Descriptor}

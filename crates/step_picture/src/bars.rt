@@ -9,7 +9,7 @@ use crate::said::write_life;
 use machine_model::event::Standing;
 use run_picture::bars::{name_of, width};
 use run_picture::scale::{BAR_HEIGHT, left_edge, top};
-use run_picture::shape::{Form, Shape, Style};
+use run_picture::shape::{Geometry, Shape, Style};
 use run_picture::shape_text::{write_beginning, write_end};
 use std::alloc::AllocError;
 use task_descriptor::descriptor::Descriptor;
@@ -63,7 +63,7 @@ fn bar_of(count: u32, halted: u32, life: Life) -> Shape
     ensures { result ≡ bar_of_life count halted life }
 {
     let left = left_edge(count, u64::from(life.first));
-    let form = Form::Rectangle(left, top(life.unit), width(count, life), BAR_HEIGHT);
+    let form = Geometry::Rectangle(left, top(life.unit), width(count, life), BAR_HEIGHT);
     Shape::plain(bar_style(halted, life), form)
 }
 

@@ -25,7 +25,7 @@ use run_picture::bars::push_names;
 use run_picture::drawing::MOST_SINGLE;
 use run_picture::events::single_events;
 use run_picture::lanes::push_note;
-use run_picture::shape::Words;
+use run_picture::shape::LabelText;
 use run_picture::shape_text::write_shapes;
 use run_picture::stretches::{push_stretches, stretch_length};
 use std::alloc::{AllocError, Global};
@@ -274,7 +274,7 @@ fn write_labels(
 {
     let mut shapes = Vec::new(alloc);
     push_names(&mut shapes, tasks, count, lives)?;
-    push_note(&mut shapes, units, Words::OneEvent)?;
+    push_note(&mut shapes, units, LabelText::OneEvent)?;
     write_shapes(text, tasks, &shapes)
 }
 
@@ -296,7 +296,7 @@ fn write_summed(
     push_note(
         &mut shapes,
         units,
-        Words::StretchOfSteps(stretch_length(count)),
+        LabelText::StretchOfSteps(stretch_length(count)),
     )?;
     write_shapes(text, tasks, &shapes)
 }

@@ -5,7 +5,7 @@ ghost use Rattle.step_picture.specs.StepPicture.{axis_of, frame_of};
 
 use run_picture::lanes::{push_lanes, push_numbers};
 use run_picture::scale::{AXIS_LEFT, AXIS_WIDTH, axis_step, bottom};
-use run_picture::shape::{Form, Shape, Style, Words};
+use run_picture::shape::{Geometry, LabelText, Shape, Style};
 use std::alloc::{AllocError, Global};
 
 /// Adds the axis of so many steps below the lanes of so many units: its line, what it counts, and its numbers.
@@ -13,8 +13,8 @@ fn push_axis(shapes: &mut Vec<Shape>, units: u32, count: u32) -> Result<(), Allo
     ensures { OnOk result (shapes.new.items ≡ shapes.old.items ++ axis_of units count) }
 {
     let below = bottom(units);
-    let line = Form::Line(AXIS_LEFT, below, AXIS_LEFT + AXIS_WIDTH, below);
-    let caption = Form::Label(66_800, below + 5_000, Words::Steps);
+    let line = Geometry::Line(AXIS_LEFT, below, AXIS_LEFT + AXIS_WIDTH, below);
+    let caption = Geometry::Label(66_800, below + 5_000, LabelText::Steps);
     shapes.push(Shape::plain(Style::Axis, line))?;
     shapes.push(Shape::plain(Style::Caption, caption))?;
     push_numbers(shapes, units, count, axis_step(count).max(1))

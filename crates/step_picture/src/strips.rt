@@ -8,7 +8,7 @@ use crate::one_reason::is_one_reason;
 use crate::said::write_waited;
 use crate::strip::Strip;
 use run_picture::scale::{left_edge, top};
-use run_picture::shape::{Form, Shape, Style};
+use run_picture::shape::{Geometry, Shape, Style};
 use run_picture::shape_text::{write_beginning, write_end};
 use std::alloc::{AllocError, Global};
 use task_descriptor::descriptor::Descriptor;
@@ -115,7 +115,7 @@ fn shape_of(count: u32, strip: &Strip, style: Style) -> Shape
     let left = left_edge(count, u64::from(strip.first.step.saturating_sub(1)));
     let right = left_edge(count, u64::from(strip.last));
     let wide = right.saturating_sub(left);
-    let form = Form::Rectangle(left, top(strip.first.unit) + 2_400, wide, 1_300);
+    let form = Geometry::Rectangle(left, top(strip.first.unit) + 2_400, wide, 1_300);
     Shape::plain(style, form)
 }
 

@@ -10,7 +10,7 @@ use Rattle.machine_model.specs.declared.event.Refused.{Refused}
 use Rattle.sequencer.specs.Machines.{MachineView, answer_to, state, units_of}
 use Rattle.annotated_asm.specs.declared.position.Position.{Position}
 use Rattle.event_script.specs.EventScript.{event_in, names_in}
-use Rattle.event_script.specs.declared.fault.LineFault.{LineFault}
+use Rattle.event_script.specs.declared.fault.EventFault.{EventFault}
 use Rattle.event_trace.specs.declared.change.Change.{Change}
 use Rattle.event_trace.specs.declared.told.Told.TheVariants as told
 use Rattle.event_trace.specs.Entries.{Tells, state_behind}
@@ -74,8 +74,8 @@ refused_departs p places number parts m m' e refusal over on tells =
 pub means_nothing : (names : List (List ℕ)) (text : List ℕ) → is_silent text ≡ true → meaning_of names text ≡ None
 means_nothing names text silent = rw silent refl
 
-pub means : (names : List (List ℕ)) (text : List ℕ) (spelt : Result Event LineFault) → is_silent text ≡ false → spelt ≡ event_in names (event_text text) → meaning_of names text ≡ Some spelt
-means names text spelt loud is = rw loud (ap (λ (r : Result Event LineFault). Some r) (sym is))
+pub means : (names : List (List ℕ)) (text : List ℕ) (spelt : Result Event EventFault) → is_silent text ≡ false → spelt ≡ event_in names (event_text text) → meaning_of names text ≡ Some spelt
+means names text spelt loud is = rw loud (ap (λ (r : Result Event EventFault). Some r) (sym is))
 
 -- a line that does not depart leaves it to those after it
 pub line_passes : (p : Listing) (places : List Position) (units number n n' : ℕ) (s s' : State) (names : List (List ℕ)) (line : List ℕ) (all more : List (List ℕ))

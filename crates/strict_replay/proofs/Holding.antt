@@ -7,7 +7,7 @@ use Rattle.machine_model.specs.declared.event.Event.{Event}
 use Rattle.machine_model.specs.declared.event.Refused.{Refused}
 use Rattle.annotated_asm.specs.declared.position.Position.{Position}
 use Rattle.event_script.specs.EventScript.{names_in}
-use Rattle.event_script.specs.declared.fault.LineFault.{LineFault}
+use Rattle.event_script.specs.declared.fault.EventFault.{EventFault}
 use Rattle.event_trace.specs.Changes.{changes_of}
 use Rattle.event_trace.specs.declared.change.Change.{Change}
 use Rattle.report_texts.specs.OutputTexts.{Report}
@@ -48,7 +48,7 @@ event_holds p number parts told s e (Ok done) = (
 )
 event_holds p number parts told s e (Err why) = (λ none. cc, λ holds. absurd (not_allowed (Err why) why refl holds.0))
 
-line_holds : (p : Listing) (places : List Position) (units number n : ℕ) (parts : List (List ℕ)) (s : State) (meaning : Option (Result Event LineFault))
+line_holds : (p : Listing) (places : List Position) (units number n : ℕ) (parts : List (List ℕ)) (s : State) (meaning : Option (Result Event EventFault))
     → (departure_of p places units number n parts s meaning ≡ None) ↔ Holds p units n parts s meaning
 line_holds p places units number n parts s None = (λ none. tt, λ holds. refl)
 line_holds p places units number n parts s (Some (Err fault)) = (λ none. cc, λ holds. absurd holds)

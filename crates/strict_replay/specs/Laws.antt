@@ -7,7 +7,7 @@ use Rattle.machine_model.specs.Answer.{after, answer}
 use Rattle.machine_model.specs.declared.event.Event.{Event}
 use Rattle.annotated_asm.specs.declared.position.Position.{Position}
 use Rattle.event_script.specs.EventScript.{lines, names_in}
-use Rattle.event_script.specs.declared.fault.LineFault.{LineFault}
+use Rattle.event_script.specs.declared.fault.EventFault.{EventFault}
 use Rattle.event_trace.specs.Changes.{changes_of}
 use Rattle.event_trace.specs.declared.change.Change.{Change}
 use Rattle.strict_replay.specs.StrictScript.{content, expectation_in, expected_parts, trimmed}
@@ -19,7 +19,7 @@ AllMet changes [] = Unit {0}
 AllMet changes (part ∷ parts) = (is_met changes (expectation_in (trimmed part)) ≡ true) × AllMet changes parts
 
 -- the event of a line is allowed in a state, with n events allowed before it, and does what each part expects
-abbrev pub Holds : Listing → (units n : ℕ) → (parts : List (List ℕ)) → State → Option (Result Event LineFault) → Type 0
+abbrev pub Holds : Listing → (units n : ℕ) → (parts : List (List ℕ)) → State → Option (Result Event EventFault) → Type 0
 Holds p units n parts s None = Unit {0}
 Holds p units n parts s (Some (Err fault)) = ⊥
 Holds p units n parts s (Some (Ok e)) =

@@ -1,4 +1,4 @@
--- How the units of a machine stand (own choice): each with its task and its place, the registers that it has, that arrived
+-- How the units of a machine stand: each with its task and its place, the registers that it has, that arrived
 -- and that it sent, with their words unless these are 0, and those that it waits for.
 use Rattle.std.specs.Prelude.{ℕ, suc, List, [], ◌∷◌, ◌++◌, Option, None, Some, flat_map, nat_eq, if◌then◌else◌, codes}
 use Rattle.std.specs.List.{range_with_len}

@@ -1,4 +1,4 @@
--- A strict replay (own choice): whether each line of a script is as the machine does it, from the start on; and if not, the
+-- A strict replay: whether each line of a script is as the machine does it, from the start on; and if not, the
 -- first that is not, with what the machine has.
 use Rattle.std.specs.Prelude.{ℕ, suc, Bool, true, false, ◌&&◌, List, [], ◌∷◌, ◌++◌, Option, None, Some, Result, Ok, Err, nat_eq, if◌then◌else◌, codes}
 use Rattle.std.specs.List.{list_any}
@@ -14,7 +14,7 @@ use Rattle.mips_plain.specs.declared.outcome.Trap.{Trap}
 use Rattle.mips_plain.specs.declared.outcome.Trap.TheVariants.{Unaligned, OutOfRange, BadPc, ReadOnly}
 use Rattle.annotated_asm.specs.declared.position.Position.{Position}
 use Rattle.event_script.specs.EventScript.{event_in, lines, names_in}
-use Rattle.event_script.specs.declared.fault.LineFault.{LineFault}
+use Rattle.event_script.specs.declared.fault.EventFault.{EventFault}
 use Rattle.event_trace.specs.Changes.{changes_of}
 use Rattle.event_trace.specs.Entries.{count_behind, places_of, state_behind}
 use Rattle.event_trace.specs.Trace.{entry_text}
@@ -124,21 +124,21 @@ event_departure p places units number n parts s e =
     answer_departure p number parts (told_after p places units number n s e) s e (answer p units s n e)
 
 -- what a line means: nothing of an event, or the event that it spells, or why it spells none
-abbrev pub meaning_of : (names : List (List ℕ)) → (content : List ℕ) → Option (Result Event LineFault)
+abbrev pub meaning_of : (names : List (List ℕ)) → (content : List ℕ) → Option (Result Event EventFault)
 meaning_of names content = if is_silent content then None else Some (event_in names (event_text content))
 
 -- how a line departs from the machine in a state, with n events allowed before it
-abbrev pub departure_of : Listing → List Position → (units number n : ℕ) → (parts : List (List ℕ)) → State → Option (Result Event LineFault) → Option (List ℕ)
+abbrev pub departure_of : Listing → List Position → (units number n : ℕ) → (parts : List (List ℕ)) → State → Option (Result Event EventFault) → Option (List ℕ)
 departure_of p places units number n parts s None = None
 departure_of p places units number n parts s (Some (Err fault)) = Some (at_line number (codes "this spells no event"))
 departure_of p places units number n parts s (Some (Ok e)) = event_departure p places units number n parts s e
 
 -- the state after a line, and the number of events that were allowed
-abbrev pub state_after : Listing → (units n : ℕ) → State → Option (Result Event LineFault) → State
+abbrev pub state_after : Listing → (units n : ℕ) → State → Option (Result Event EventFault) → State
 state_after p units n s (Some (Ok e)) = state_behind p s e (answer p units s n e)
 state_after p units n s other = s
 
-abbrev pub count_after : Listing → (units n : ℕ) → State → Option (Result Event LineFault) → ℕ
+abbrev pub count_after : Listing → (units n : ℕ) → State → Option (Result Event EventFault) → ℕ
 count_after p units n s (Some (Ok e)) = count_behind n (answer p units s n e)
 count_after p units n s other = n
 

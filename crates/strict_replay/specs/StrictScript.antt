@@ -1,4 +1,4 @@
--- A script for a strict replay (own choice): the lines of an event script, each perhaps with what its event must have
+-- A script for a strict replay: the lines of an event script, each perhaps with what its event must have
 -- done behind a colon (`exec 1 : $9=7, $10=8`), and beside them comments from `#` on, blank lines, and lines such as
 -- `step 3`, which mark where a step of the hardware begins. Spaces at the ends of a part do not count.
 use Rattle.std.specs.Prelude.{ℕ, zero, suc, ◌+◌, ◌-◌, ◌^◌, Bool, true, ◌&&◌, List, [], ◌∷◌, length, map, take, drop, position, slice_index, Option, None, Some, nat_lt, nat_eq, ◌==◌, if◌then◌else◌, codes}

@@ -1,4 +1,4 @@
--- Writing a script with expectations (own choice): each event with what it did, as a strict replay reads it.
+-- Writing a script with expectations: each event with what it did, as a strict replay reads it.
 use Rattle.std.specs.Prelude.{ℕ, Bool, true, false, List, [], ◌∷◌, ◌++◌, Option, None, Some, if◌then◌else◌, codes}
 use Rattle.std.specs.Fmt.{decimal}
 use Rattle.task_descriptor.specs.Listing.{Listing}

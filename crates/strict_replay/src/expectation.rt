@@ -3,7 +3,7 @@
 use machine_model::event::Standing;
 use mips_instructions::number::Reg;
 
-/// What an event must have done (own choice). Words are unsigned.
+/// What an event must have done. Words are unsigned.
 #[derive(Clone, Copy, Debug, PartialEq, Eq)]
 pub enum Expectation {
     /// It brought this word into this register of the unit that it names: by a write, or from the unit before it.

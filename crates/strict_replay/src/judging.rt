@@ -21,7 +21,7 @@ use event_trace::told::Told;
 use event_trace::walk::Walk;
 use machine_model::event::{Event, Refused};
 use mark_checker::accept::Accepted;
-use report_texts::report::Report;
+use report_texts::report::JobReport;
 use sequencer::machine::Machine;
 use std::alloc::{AllocError, Global};
 use task_descriptor::program::Program;
@@ -150,7 +150,12 @@ impl Referee<'_, '_> {
     }
 
     /// The report of a script, whose walk is at its start.
-    fn judge(&self, alloc: Global, mut walk: Walk<'_>, script: &[u8]) -> Result<Report, AllocError>
+    fn judge(
+        &self,
+        alloc: Global,
+        mut walk: Walk<'_>,
+        script: &[u8],
+    ) -> Result<JobReport, AllocError>
         requires over { walk.accepted.program ≡ self.now.program.now }
         requires names { length self.now.names.now ≤ 1024 }
         requires all { self.now.names.now ≡ names_in self.now.program.now.tasks }
@@ -163,7 +168,7 @@ impl Referee<'_, '_> {
             let (line, others) = next_line(rest);
             match self.take_line(alloc, walk, number, line)? {
                 Ok(next) => walk = next,
-                Err(text) => return Ok(Report::new(text.into_bytes(), 1)),
+                Err(text) => return Ok(JobReport::new(text.into_bytes(), 1)),
             }
             rest = others;
         }
@@ -181,7 +186,7 @@ fn no_event(alloc: Global, number: usize) -> Result<String, AllocError>
 }
 
 /// What is told at the end of a script, where each line is as the machine does it.
-fn as_expected(alloc: Global, walk: Walk<'_>) -> Result<Report, AllocError>
+fn as_expected(alloc: Global, walk: Walk<'_>) -> Result<JobReport, AllocError>
     ensures { IfOk result (λ report. report ≡ as_expected (length walk.entry.history) (state walk.entry)) }
 {
     let machine = walk.into_machine();
@@ -190,7 +195,7 @@ fn as_expected(alloc: Global, walk: Walk<'_>) -> Result<Report, AllocError>
 }
 
 /// What is told of a machine that has done as expected.
-fn as_expected_of(alloc: Global, machine: &Machine<'_>) -> Result<Report, AllocError>
+fn as_expected_of(alloc: Global, machine: &Machine<'_>) -> Result<JobReport, AllocError>
     ensures { IfOk result (λ report. report ≡ as_expected (length machine.now.history) (state machine.now)) }
 {
     let count = machine.length();
@@ -198,7 +203,7 @@ fn as_expected_of(alloc: Global, machine: &Machine<'_>) -> Result<Report, AllocE
     write!(text, "as expected: {count} events; ")?;
     write_ending(&mut text, machine.outcome())?;
     writeln!(text, "")?;
-    Ok(Report::new(text.into_bytes(), 0))
+    Ok(JobReport::new(text.into_bytes(), 0))
 }
 
 /// The names of a program's tasks.
@@ -222,7 +227,7 @@ pub fn judge(
     units: u32,
     program_text: &[u8],
     script: &[u8],
-) -> Result<Report, AllocError>
+) -> Result<JobReport, AllocError>
     requires some { 0 < units }
     requires few { units ≤ 16 }
     ensures { IfOk result (λ report. report ≡ strict_report accepted.now.program (places_of program_text.now) units script.now) }

@@ -8,7 +8,7 @@ use crate::judging::judge as judge_script;
 use jobs::job::{CertificateSource, Texts};
 use jobs::ranges::Units;
 use report_texts::judging::{Judged, judge};
-use report_texts::report::Report;
+use report_texts::report::JobReport;
 use std::alloc::{AllocError, Global};
 
 /// What `replay --strict` writes of a program text, the text of its certificate and the text of a script, on a machine of so
@@ -22,7 +22,7 @@ pub fn replay_strictly(
     source: CertificateSource,
     units: Units,
     texts: &Texts,
-) -> Result<Report, AllocError>
+) -> Result<JobReport, AllocError>
     ensures { IfOk result (λ report. OfCertificate source texts.now.program.items texts.now.certificate (λ certificate.
         report ≡ strict_text units texts.now.program.items certificate texts.now.script.items)) }
 {

@@ -8,7 +8,7 @@ use Rattle.std.proofs.lemmas.List.Elements.{All-nil, All-cons, All-append, All-w
 use Rattle.std.proofs.lemmas.Option.{slice_get-get_or}
 use Rattle.program_tokens.specs.Grammar.{line_tokens}
 use Rattle.program_tokens.specs.Spans.{line_spans}
-use Rattle.program_tokens.specs.declared.span.Span.{Span}
+use Rattle.program_tokens.specs.declared.span.TokenSpan.{TokenSpan}
 use Rattle.program_tokens.specs.declared.token.Token.{Token}
 use Rattle.program_tokens.specs.declared.token.Token.TheVariants as token
 use Rattle.program_tokens.specs.declared.token.LineFault.{LineFault}
@@ -25,10 +25,10 @@ use Rattle.syntax_tree.specs.Trees.{column_at, end_at, column_of, end_of, label_
 use Rattle.syntax_tree.specs.Laws.{Says, Spell}
 use Rattle.syntax_tree.proofs.Pieces.{piece, same_count}
 
-abbrev nowhere : Span
+abbrev nowhere : TokenSpan
 nowhere = record { column = 0; len = 0 }
 
-abbrev place_at : List ℕ → ℕ → Span
+abbrev place_at : List ℕ → ℕ → TokenSpan
 place_at line k = slice_index_or (line_spans line) k nowhere
 
 -- the bytes from token i to token j of a line
@@ -41,8 +41,8 @@ between line tokens i j read in_order within =
     let count = same_count line tokens read in
     let first : slice_get (line_spans line) i ≡ Some (place_at line i) = slice_get-get_or (line_spans line) i nowhere (omega (arith, count)) in
     let last : slice_get (line_spans line) j ≡ Some (place_at line j) = slice_get-get_or (line_spans line) j nowhere (omega (arith, count)) in
-    ap (λ (p : Option Span). line_tokens (take (end_at (line_spans line) j - column_of p) (drop (column_of p - 1) line))) first
-    ∙ ap (λ (p : Option Span). line_tokens (take (end_of p - (place_at line i).column) (drop ((place_at line i).column - 1) line))) last
+    ap (λ (p : Option TokenSpan). line_tokens (take (end_at (line_spans line) j - column_of p) (drop (column_of p - 1) line))) first
+    ∙ ap (λ (p : Option TokenSpan). line_tokens (take (end_of p - (place_at line i).column) (drop ((place_at line i).column - 1) line))) last
     ∙ piece line tokens i j (place_at line i) (place_at line j) read first last in_order
 
 -- an item of line n, and its bytes are what it says

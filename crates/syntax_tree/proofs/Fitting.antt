@@ -28,7 +28,7 @@ use Rattle.annotated_asm.specs.ProgramText.{built, program_of, parse}
 use Rattle.annotated_asm.specs.Tables.{Names, lookup}
 use Rattle.annotated_asm.specs.declared.fault.AsmFault.{AsmFault}
 use Rattle.annotated_asm.specs.declared.fault.AsmFault.TheVariants as fault
-use Rattle.annotated_asm.specs.declared.item.Item.{Item as Unplaced}
+use Rattle.annotated_asm.specs.declared.item.PlacedStatement.{PlacedStatement as Unplaced}
 use Rattle.syntax_tree.specs.declared.item.Said.{Said}
 use Rattle.syntax_tree.specs.declared.item.Said.TheVariants as said
 use Rattle.syntax_tree.specs.declared.item.Item.{Item}

@@ -14,15 +14,15 @@ use Rattle.program_tokens.specs.Spans.{spans_after, line_spans}
 use Rattle.program_tokens.specs.declared.token.Token.{Token}
 use Rattle.program_tokens.specs.declared.token.LineFault.{LineFault}
 use Rattle.program_tokens.specs.declared.token.LineFault.TheVariants as fault
-use Rattle.program_tokens.specs.declared.span.Span.{Span}
+use Rattle.program_tokens.specs.declared.span.TokenSpan.{TokenSpan}
 
 -- Places.
 
 -- each place ends at this column or before it
-abbrev EndBy : ℕ → List Span → Type 0
-EndBy limit spans = All (λ (span : Span). span.column + span.len ≤ limit) spans
+abbrev EndBy : ℕ → List TokenSpan → Type 0
+EndBy limit spans = All (λ (span : TokenSpan). span.column + span.len ≤ limit) spans
 
-chosen : (b : Bool) (xs ys : List Span) (limit : ℕ) → EndBy limit xs → EndBy limit ys → EndBy limit (if b then xs else ys)
+chosen : (b : Bool) (xs ys : List TokenSpan) (limit : ℕ) → EndBy limit xs → EndBy limit ys → EndBy limit (if b then xs else ys)
 chosen true xs ys limit here there = here
 chosen false xs ys limit here there = there
 
@@ -31,18 +31,18 @@ run-le p bs = omega (arith, length-take-le (prefix_len p bs) bs (prefix_len-le-l
 
 ends_within : (column taken limit : ℕ) (bs : List ℕ) → column + length bs ≤ limit → EndBy limit (spans_after column taken bs)
 unfolding spans_after
-ends_within column zero limit [] within = All-nil (λ (span : Span). span.column + span.len ≤ limit)
-ends_within column (suc taken) limit [] within = All-nil (λ (span : Span). span.column + span.len ≤ limit)
+ends_within column zero limit [] within = All-nil (λ (span : TokenSpan). span.column + span.len ≤ limit)
+ends_within column (suc taken) limit [] within = All-nil (λ (span : TokenSpan). span.column + span.len ≤ limit)
 ends_within column (suc taken) limit (b ∷ bs) within = ends_within (column + 1) taken limit bs (omega arith)
 ends_within column zero limit (b ∷ bs) within =
     let others = length (take_while (goes_on (kind_of b bs)) bs) in
-    let here : Span = record { column = column; len = 1 + others } in
+    let here : TokenSpan = record { column = column; len = 1 + others } in
     let ends : column + (1 + others) ≤ limit = omega (arith, run-le (goes_on (kind_of b bs)) bs) in
     chosen (is_blank b) (spans_after (column + 1) 0 bs) (if b == byte "#" then [] else here ∷ spans_after (column + 1) others bs) limit
     (ends_within (column + 1) 0 limit bs (omega arith))
     (chosen (b == byte "#") [] (here ∷ spans_after (column + 1) others bs) limit
-    (All-nil (λ (span : Span). span.column + span.len ≤ limit))
-    (All-cons (λ (span : Span). span.column + span.len ≤ limit) here (spans_after (column + 1) others bs) ends (ends_within (column + 1) others limit bs (omega arith))))
+    (All-nil (λ (span : TokenSpan). span.column + span.len ≤ limit))
+    (All-cons (λ (span : TokenSpan). span.column + span.len ≤ limit) here (spans_after (column + 1) others bs) ends (ends_within (column + 1) others limit bs (omega arith))))
 
 shorter : (line : List ℕ) (b : Bool) → length (if b then take (length line - 1) line else line) ≤ length line
 shorter line true = omega (arith, length-take-le (length line - 1) line (omega arith))
@@ -52,10 +52,10 @@ pub stripped-le : (line : List ℕ) → length (strip_carriage_return line) ≤ 
 stripped-le line = shorter line (slice_index line (length line - 1) == 13)
 
 -- no place of a line ends behind its bytes
-pub places_end : (line : List ℕ) → All (λ (span : Span). span.column + span.len ≤ 1 + length (strip_carriage_return line)) (line_spans line)
+pub places_end : (line : List ℕ) → All (λ (span : TokenSpan). span.column + span.len ≤ 1 + length (strip_carriage_return line)) (line_spans line)
 places_end line = ends_within 1 0 (1 + length (strip_carriage_return line)) (strip_carriage_return line) (omega arith)
 
-pub line_ends : (line : List ℕ) → length line ≤ 4194304 → All (λ (span : Span). span.column + span.len < 2 ^ 32) (line_spans line)
+pub line_ends : (line : List ℕ) → length line ≤ 4194304 → All (λ (span : TokenSpan). span.column + span.len < 2 ^ 32) (line_spans line)
 line_ends line within =
     let less = stripped-le line in
     let ends = places_end line in

@@ -16,7 +16,7 @@ use Rattle.program_tokens.specs.Spans.{spans_after, line_spans}
 use Rattle.program_tokens.specs.declared.token.Token.{Token}
 use Rattle.program_tokens.specs.declared.token.LineFault.{LineFault}
 use Rattle.program_tokens.specs.declared.token.LineFault.TheVariants as fault
-use Rattle.program_tokens.specs.declared.span.Span.{Span}
+use Rattle.program_tokens.specs.declared.span.TokenSpan.{TokenSpan}
 use Rattle.program_tokens.proofs.Steps.{blank_step, comment_step}
 use Rattle.syntax_tree.proofs.Limits.{Led, led, tokens_are, places_end, run-le}
 
@@ -94,7 +94,7 @@ comment_places column b bs not_blank comment = rw (not_blank, comment) refl
 abbrev others_of : ℕ → List ℕ → ℕ
 others_of b bs = length (take_while (goes_on (kind_of b bs)) bs)
 
-abbrev front_place : ℕ → ℕ → List ℕ → Span
+abbrev front_place : ℕ → ℕ → List ℕ → TokenSpan
 front_place column b bs = record { column = column; len = 1 + others_of b bs }
 
 token_places : (column b : ℕ) (bs : List ℕ) → is_blank b ≡ false → (b == byte "#") ≡ false
@@ -103,26 +103,26 @@ unfolding spans_after
 token_places column b bs not_blank not_comment = rw (not_blank, not_comment) refl
 
 -- the first of some places, or one of the others
-first_or : (x : Span) (xs : List Span) (k : ℕ) (place : Span) → slice_get (x ∷ xs) k ≡ Some place
+first_or : (x : TokenSpan) (xs : List TokenSpan) (k : ℕ) (place : TokenSpan) → slice_get (x ∷ xs) k ≡ Some place
     → ((k ≡ 0) × (x ≡ place)) ⊎ ((m : ℕ) × (k ≡ suc m) × (slice_get xs m ≡ Some place))
 first_or x xs zero place at = inl (refl, cc)
 first_or x xs (suc m) place at = inr (m, refl, at)
 
-nowhere : (A : Type 0) (k : ℕ) (places : List Span) (place : Span) → places ≡ [] → slice_get places k ≡ Some place → A
-nowhere A k places place none at = let e = ap (λ (ss : List Span). slice_get ss k) (sym none) ∙ at in absurd cc
+nowhere : (A : Type 0) (k : ℕ) (places : List TokenSpan) (place : TokenSpan) → places ≡ [] → slice_get places k ≡ Some place → A
+nowhere A k places place none at = let e = ap (λ (ss : List TokenSpan). slice_get ss k) (sym none) ∙ at in absurd cc
 
-begins : (column taken : ℕ) (bs : List ℕ) (k : ℕ) (place : Span) → slice_get (spans_after column taken bs) k ≡ Some place → column + taken ≤ place.column
+begins : (column taken : ℕ) (bs : List ℕ) (k : ℕ) (place : TokenSpan) → slice_get (spans_after column taken bs) k ≡ Some place → column + taken ≤ place.column
 unfolding spans_after
 begins column zero [] k place at = absurd cc
 begins column (suc taken) [] k place at = absurd cc
 begins column (suc taken) (b ∷ bs) k place at = omega (arith, begins (column + 1) taken bs k place at)
 begins column zero (b ∷ bs) k place at =
     front_cases (column + 0 ≤ place.column) b
-    (λ blank. omega (arith, begins (column + 1) 0 bs k place (ap (λ (ss : List Span). slice_get ss k) (sym (blank_places column b bs blank)) ∙ at)))
+    (λ blank. omega (arith, begins (column + 1) 0 bs k place (ap (λ (ss : List TokenSpan). slice_get ss k) (sym (blank_places column b bs blank)) ∙ at)))
     (λ not_blank comment. nowhere (column + 0 ≤ place.column) k (spans_after column 0 (b ∷ bs)) place (comment_places column b bs not_blank comment) at)
     (λ not_blank not_comment.
-    elim (first_or (front_place column b bs) (spans_after (column + 1) (others_of b bs) bs) k place (ap (λ (ss : List Span). slice_get ss k) (sym (token_places column b bs not_blank not_comment)) ∙ at)) [
-      | inl here ↦ omega (arith, ap (λ (s : Span). s.column) here.1)
+    elim (first_or (front_place column b bs) (spans_after (column + 1) (others_of b bs) bs) k place (ap (λ (ss : List TokenSpan). slice_get ss k) (sym (token_places column b bs not_blank not_comment)) ∙ at)) [
+      | inl here ↦ omega (arith, ap (λ (s : TokenSpan). s.column) here.1)
       | inr later ↦ omega (arith, begins (column + 1) (others_of b bs) bs later.0 place later.2)
     ])
 
@@ -133,14 +133,14 @@ count column (suc taken) [] tokens read = let none : [] ≡ tokens = cc in ap (�
 count column (suc taken) (b ∷ bs) tokens read = count (column + 1) taken bs tokens read
 count column zero (b ∷ bs) tokens read =
     front_cases (length (spans_after column 0 (b ∷ bs)) ≡ length tokens) b
-    (λ blank. ap (λ (ss : List Span). length ss) (blank_places column b bs blank) ∙ count (column + 1) 0 bs tokens (sym (blank_step b bs blank) ∙ read))
+    (λ blank. ap (λ (ss : List TokenSpan). length ss) (blank_places column b bs blank) ∙ count (column + 1) 0 bs tokens (sym (blank_step b bs blank) ∙ read))
     (λ not_blank comment.
     let none : ok [] ≡ ok tokens = sym (comment_step b bs not_blank comment) ∙ read in
     let same : [] ≡ tokens = cc in
-    ap (λ (ss : List Span). length ss) (comment_places column b bs not_blank comment) ∙ ap (λ (ts : List Token). length ts) same)
+    ap (λ (ss : List TokenSpan). length ss) (comment_places column b bs not_blank comment) ∙ ap (λ (ts : List Token). length ts) same)
     (λ not_blank not_comment.
     let cut = led (token_of (kind_of b bs) (b ∷ take_while (goes_on (kind_of b bs)) bs)) (tokens_after (others_of b bs) bs) tokens (sym (token_front b bs not_blank not_comment) ∙ read) in
-    ap (λ (ss : List Span). length ss) (token_places column b bs not_blank not_comment)
+    ap (λ (ss : List TokenSpan). length ss) (token_places column b bs not_blank not_comment)
     ∙ ap (λ m. suc m) (count (column + 1) (others_of b bs) bs cut.rest cut.is_rest)
     ∙ ap (λ (ts : List Token). length ts) (sym cut.whole))
 
@@ -185,7 +185,7 @@ cut_later b e m bs tokens not_blank not_comment within cut rest =
     ∙ ap (with_token (Some cut.first)) rest
     ∙ ap (λ (ts : List Token). ok (take (suc (suc m)) ts)) (sym cut.whole)
 
-front : (column taken : ℕ) (bs : List ℕ) (tokens : List Token) (k : ℕ) (place : Span) → tokens_after taken bs ≡ Ok tokens
+front : (column taken : ℕ) (bs : List ℕ) (tokens : List Token) (k : ℕ) (place : TokenSpan) → tokens_after taken bs ≡ Ok tokens
     → slice_get (spans_after column taken bs) k ≡ Some place → tokens_after taken (take (place.column + place.len - column) bs) ≡ ok (take (suc k) tokens)
 unfolding tokens_after spans_after
 front column zero [] tokens k place read at = absurd cc
@@ -197,16 +197,16 @@ front column zero (b ∷ bs) tokens k place read at =
     let until = place.column + place.len - (column + 1) in
     front_cases (tokens_after 0 (take (place.column + place.len - column) (b ∷ bs)) ≡ ok (take (suc k) tokens)) b
     (λ blank.
-    let there = ap (λ (ss : List Span). slice_get ss k) (sym (blank_places column b bs blank)) ∙ at in
+    let there = ap (λ (ss : List TokenSpan). slice_get ss k) (sym (blank_places column b bs blank)) ∙ at in
     let e : place.column + place.len - column ≡ suc until = omega (arith, begins (column + 1) 0 bs k place there) in
     ap (λ m. tokens_after 0 (take m (b ∷ bs))) e ∙ blank_step b (take until bs) blank
     ∙ front (column + 1) 0 bs tokens k place (sym (blank_step b bs blank) ∙ read) there)
     (λ not_blank comment. nowhere _ k (spans_after column 0 (b ∷ bs)) place (comment_places column b bs not_blank comment) at)
     (λ not_blank not_comment.
     let cut = led (token_of (kind_of b bs) (b ∷ take_while (goes_on (kind_of b bs)) bs)) (tokens_after (others_of b bs) bs) tokens (sym (token_front b bs not_blank not_comment) ∙ read) in
-    elim (first_or (front_place column b bs) (spans_after (column + 1) (others_of b bs) bs) k place (ap (λ (ss : List Span). slice_get ss k) (sym (token_places column b bs not_blank not_comment)) ∙ at)) [
+    elim (first_or (front_place column b bs) (spans_after (column + 1) (others_of b bs) bs) k place (ap (λ (ss : List TokenSpan). slice_get ss k) (sym (token_places column b bs not_blank not_comment)) ∙ at)) [
       | inl here ↦
-          let e : place.column + place.len - column ≡ suc (others_of b bs) = omega (arith, ap (λ (s : Span). s.column) here.1, ap (λ (s : Span). s.len) here.1) in
+          let e : place.column + place.len - column ≡ suc (others_of b bs) = omega (arith, ap (λ (s : TokenSpan). s.column) here.1, ap (λ (s : TokenSpan). s.len) here.1) in
           ap (λ m. tokens_after 0 (take m (b ∷ bs))) e ∙ cut_first b bs tokens not_blank not_comment cut ∙ ap (λ n. ok (take (suc n) tokens)) (sym here.0)
       | inr later ↦
           let ahead = begins (column + 1) (others_of b bs) bs later.0 place later.2 in
@@ -218,11 +218,11 @@ front column zero (b ∷ bs) tokens k place read at =
 
 -- The back: what begins with the token of number k has the tokens from it on, and their places.
 
-abbrev Goes : (column taken : ℕ) (bs : List ℕ) (tokens : List Token) (k : ℕ) (place : Span) (m : ℕ) → Type 0
+abbrev Goes : (column taken : ℕ) (bs : List ℕ) (tokens : List Token) (k : ℕ) (place : TokenSpan) (m : ℕ) → Type 0
 Goes column taken bs tokens k place m =
     (tokens_after 0 (drop m bs) ≡ ok (drop k tokens)) × (spans_after place.column 0 (drop m bs) ≡ drop k (spans_after column taken bs))
 
-back : (column taken : ℕ) (bs : List ℕ) (tokens : List Token) (k : ℕ) (place : Span) → tokens_after taken bs ≡ Ok tokens
+back : (column taken : ℕ) (bs : List ℕ) (tokens : List Token) (k : ℕ) (place : TokenSpan) → tokens_after taken bs ≡ Ok tokens
     → slice_get (spans_after column taken bs) k ≡ Some place → Goes column taken bs tokens k place (place.column - column)
 unfolding tokens_after spans_after
 back column zero [] tokens k place read at = absurd cc
@@ -235,17 +235,17 @@ back column zero (b ∷ bs) tokens k place read at =
     front_cases (Goes column 0 (b ∷ bs) tokens k place (place.column - column)) b
     (λ blank.
     let same = blank_places column b bs blank in
-    let there = ap (λ (ss : List Span). slice_get ss k) (sym same) ∙ at in
+    let there = ap (λ (ss : List TokenSpan). slice_get ss k) (sym same) ∙ at in
     let e : place.column - column ≡ suc until = omega (arith, begins (column + 1) 0 bs k place there) in
     let rest = back (column + 1) 0 bs tokens k place (sym (blank_step b bs blank) ∙ read) there in
-    (ap (λ m. tokens_after 0 (drop m (b ∷ bs))) e ∙ rest.0, ap (λ m. spans_after place.column 0 (drop m (b ∷ bs))) e ∙ rest.1 ∙ ap (λ (ss : List Span). drop k ss) (sym same)))
+    (ap (λ m. tokens_after 0 (drop m (b ∷ bs))) e ∙ rest.0, ap (λ m. spans_after place.column 0 (drop m (b ∷ bs))) e ∙ rest.1 ∙ ap (λ (ss : List TokenSpan). drop k ss) (sym same)))
     (λ not_blank comment. nowhere _ k (spans_after column 0 (b ∷ bs)) place (comment_places column b bs not_blank comment) at)
     (λ not_blank not_comment.
     let same = token_places column b bs not_blank not_comment in
     let cut = led (token_of (kind_of b bs) (b ∷ take_while (goes_on (kind_of b bs)) bs)) (tokens_after (others_of b bs) bs) tokens (sym (token_front b bs not_blank not_comment) ∙ read) in
-    elim (first_or (front_place column b bs) (spans_after (column + 1) (others_of b bs) bs) k place (ap (λ (ss : List Span). slice_get ss k) (sym same) ∙ at)) [
+    elim (first_or (front_place column b bs) (spans_after (column + 1) (others_of b bs) bs) k place (ap (λ (ss : List TokenSpan). slice_get ss k) (sym same) ∙ at)) [
       | inl here ↦
-          let is_column : column ≡ place.column = ap (λ (s : Span). s.column) here.1 in
+          let is_column : column ≡ place.column = ap (λ (s : TokenSpan). s.column) here.1 in
           let e : place.column - column ≡ 0 = omega (arith, is_column) in (
             ap (λ m. tokens_after 0 (drop m (b ∷ bs))) e ∙ read ∙ ap (λ n. ok (drop n tokens)) (sym here.0),
             ap (λ m. spans_after place.column 0 (drop m (b ∷ bs))) e ∙ ap (λ c. spans_after c 0 (b ∷ bs)) (sym is_column) ∙ ap (λ n. drop n (spans_after column 0 (b ∷ bs))) (sym here.0),
@@ -254,7 +254,7 @@ back column zero (b ∷ bs) tokens k place read at =
           let e : place.column - column ≡ suc until = omega (arith, begins (column + 1) (others_of b bs) bs later.0 place later.2) in
           let rest = back (column + 1) (others_of b bs) bs cut.rest later.0 place cut.is_rest later.2 in (
             ap (λ m. tokens_after 0 (drop m (b ∷ bs))) e ∙ rest.0 ∙ ap (λ (ts : List Token). ok (drop (suc later.0) ts)) (sym cut.whole) ∙ ap (λ n. ok (drop n tokens)) (sym later.1),
-            ap (λ m. spans_after place.column 0 (drop m (b ∷ bs))) e ∙ rest.1 ∙ ap (λ (ss : List Span). drop (suc later.0) ss) (sym same) ∙ ap (λ n. drop n (spans_after column 0 (b ∷ bs))) (sym later.1),
+            ap (λ m. spans_after place.column 0 (drop m (b ∷ bs))) e ∙ rest.1 ∙ ap (λ (ss : List TokenSpan). drop (suc later.0) ss) (sym same) ∙ ap (λ n. drop n (spans_after column 0 (b ∷ bs))) (sym later.1),
           )
     ])
 
@@ -316,14 +316,14 @@ before_return line c w within =
       | false ↦ λ short. refl
     ]) within
 
-get_behind : (i j : ℕ) (xs : List Span) → i ≤ j → slice_get (drop i xs) (j - i) ≡ slice_get xs j
+get_behind : (i j : ℕ) (xs : List TokenSpan) → i ≤ j → slice_get (drop i xs) (j - i) ≡ slice_get xs j
 get_behind zero j xs within = let e : j - 0 ≡ j = omega arith in ap (λ n. slice_get xs n) e
 get_behind (suc i) j [] within = refl
 get_behind (suc i) zero (x ∷ xs) within = absurd (omega arith)
 get_behind (suc i) (suc j) (x ∷ xs) within = let e : suc j - suc i ≡ j - i = omega arith in ap (λ n. slice_get (drop i xs) n) e ∙ get_behind i j xs (omega arith)
 
 -- The bytes from the first of token i to the last of token j, read alone, are these tokens and those between them.
-pub piece : (line : List ℕ) (tokens : List Token) (i j : ℕ) (first last : Span) → line_tokens line ≡ Ok tokens
+pub piece : (line : List ℕ) (tokens : List Token) (i j : ℕ) (first last : TokenSpan) → line_tokens line ≡ Ok tokens
     → slice_get (line_spans line) i ≡ Some first → slice_get (line_spans line) j ≡ Some last → i ≤ j
     → line_tokens (take (last.column + last.len - first.column) (drop (first.column - 1) line)) ≡ Ok (take (suc (j - i)) (drop i tokens))
 piece line tokens i j first last read at_first at_last in_order =
@@ -333,11 +333,11 @@ piece line tokens i j first last read at_first at_last in_order =
     let are = tokens_are line tokens read in
     let behind = back 1 0 text tokens i first are.1 at_first in
     let there : slice_get (spans_after first.column 0 (drop c text)) (j - i) ≡ Some last =
-    ap (λ (ss : List Span). slice_get ss (j - i)) behind.1 ∙ get_behind i j (line_spans line) in_order ∙ at_last in
+    ap (λ (ss : List TokenSpan). slice_get ss (j - i)) behind.1 ∙ get_behind i j (line_spans line) in_order ∙ at_last in
     let from = begins 1 0 text i first at_first in
     let ahead = begins first.column 0 (drop c text) (j - i) last there in
     let ends : last.column + last.len ≤ 1 + length text =
-    subst (λ (s : Span). s.column + s.len ≤ 1 + length text) (get_or_from_slice_get (line_spans line) j last last at_last) (places_end line j last (slice_get_within (line_spans line) j last at_last)) in
+    subst (λ (s : TokenSpan). s.column + s.len ≤ 1 + length text) (get_or_from_slice_get (line_spans line) j last last at_last) (places_end line j last (slice_get_within (line_spans line) j last at_last)) in
     let bytes : take w (drop c line) ≡ take w (drop c text) = before_return line c w (omega (arith, from, ahead, ends)) in
     let passes : list_all is_text_byte (take w (drop c text)) ≡ true = all_before is_text_byte w (drop c text) (all_behind is_text_byte c text are.0) in
     ap line_tokens bytes ∙ alone (take w (drop c text)) passes ∙ front first.column 0 (drop c text) (drop i tokens) (j - i) last behind.0 there

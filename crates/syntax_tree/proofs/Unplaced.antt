@@ -2,7 +2,7 @@
 use Rattle.std.proofs.Common.{◌≡◌, ℕ, ◌+◌, ◌*◌, List, [], ◌∷◌, ◌++◌, map, length, Result, Ok, Err, refl, ap, sym, ◌∙◌, append_assoc}
 use Rattle.program_tokens.specs.Grammar.{line_tokens}
 use Rattle.program_tokens.specs.Spans.{line_spans}
-use Rattle.program_tokens.specs.declared.span.Span.{Span}
+use Rattle.program_tokens.specs.declared.span.TokenSpan.{TokenSpan}
 use Rattle.program_tokens.specs.declared.token.Token.{Token}
 use Rattle.program_tokens.specs.declared.token.Token.TheVariants as token
 use Rattle.program_tokens.specs.declared.token.LineFault.{LineFault}
@@ -17,7 +17,7 @@ use Rattle.program_statements.specs.declared.statement.Statement.TheVariants as 
 use Rattle.program_statements.proofs.Fronts.{with_front, no_front}
 use Rattle.annotated_asm.specs.Items as asm
 use Rattle.annotated_asm.specs.declared.fault.AsmFault.{AsmFault}
-use Rattle.annotated_asm.specs.declared.item.Item.{Item as Unplaced}
+use Rattle.annotated_asm.specs.declared.item.PlacedStatement.{PlacedStatement as Unplaced}
 use Rattle.syntax_tree.specs.declared.item.Item.{Item}
 use Rattle.syntax_tree.specs.Trees.{label_items, statement_items, next_section, tokens_items, items_read, line_items, items_from}
 use Rattle.syntax_tree.specs.Laws.{without_places}
@@ -28,7 +28,7 @@ led_by : (x : Unplaced) (front : List Unplaced) (read : Result (List Unplaced) A
 led_by x front (Ok others) = refl
 led_by x front (Err f) = refl
 
-labels_are : (n : ℕ) (here : Section) (places : List Span) (k : ℕ) (tokens : List Token) (rest : List Item)
+labels_are : (n : ℕ) (here : Section) (places : List TokenSpan) (k : ℕ) (tokens : List Token) (rest : List Item)
     → without_places (label_items n here places k tokens ++ rest) ≡ with_front (map (asm.label_item n here) (asm.labels_of tokens)) (without_places rest)
 labels_are n here places k (token.Name name ∷ token.Colon ∷ tokens) rest =
     ap (λ (r : Result (List Unplaced) AsmFault). r >>= λ others. Ok (asm.label_item n here name ∷ others)) (labels_are n here places (k + 2) tokens rest)
@@ -48,12 +48,12 @@ added : (labels own : List Unplaced) (r : Result (List Unplaced) AsmFault)
 added labels own (Ok more) = ap (λ (xs : List Unplaced). let made : Result (List Unplaced) AsmFault = Ok xs in made) (append_assoc labels own more)
 added labels own (Err f) = refl
 
-own_is : (n : ℕ) (here : Section) (places : List Span) (k : ℕ) (s : Statement) (rest : List Item)
+own_is : (n : ℕ) (here : Section) (places : List TokenSpan) (k : ℕ) (s : Statement) (rest : List Item)
     → with_front (asm.statement_items n here s) (without_places rest) ≡ without_places (statement_items n here places k (Ok s) ++ rest)
 own_is n here places k statement.Empty rest = no_front (without_places rest)
 own_is n here places k s rest = refl
 
-said_is : (n : ℕ) (here : Section) (places : List Span) (k : ℕ) (labels : List Unplaced) (others : Section → Result (List Unplaced) AsmFault) (rest : Section → List Item)
+said_is : (n : ℕ) (here : Section) (places : List TokenSpan) (k : ℕ) (labels : List Unplaced) (others : Section → Result (List Unplaced) AsmFault) (rest : Section → List Item)
     → ((next : Section) → others next ≡ without_places (rest next)) → (said : Result Statement StatementFault)
     → asm_rest n here labels others (asm.on_line n said) ≡ with_front labels (without_places (statement_items n here places k said ++ rest (next_section here said)))
 said_is n here places k labels others rest same (Ok s) =

@@ -1,4 +1,4 @@
--- How much of a program stands before each item (own choice); sizes are the assembler's.
+-- How much of a program stands before each item; sizes are the assembler's.
 use Rattle.std.specs.Prelude.{ℕ, List, [], ◌∷◌, length}
 use Rattle.program_statements.specs.declared.statement.Section.{Section}
 use Rattle.program_statements.specs.declared.statement.Section.TheVariants as section

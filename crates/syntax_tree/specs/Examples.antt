@@ -13,7 +13,7 @@ use Rattle.program_statements.specs.declared.statement.Section.TheVariants.{Text
 use Rattle.program_statements.specs.declared.statement.Instruction.TheVariants as instruction
 use Rattle.program_statements.specs.declared.statement.Statement.TheVariants as statement
 use Rattle.annotated_asm.specs.declared.fault.AsmFault.TheVariants as fault
-use Rattle.syntax_tree.specs.declared.item.Span.{Span}
+use Rattle.syntax_tree.specs.declared.item.SyntaxSpan.{SyntaxSpan}
 use Rattle.syntax_tree.specs.declared.item.LineFaultKind.TheVariants as kind
 use Rattle.syntax_tree.specs.declared.item.Said.{Said}
 use Rattle.syntax_tree.specs.declared.item.Said.TheVariants as said
@@ -64,7 +64,7 @@ carriage_return = refl
 
 -- The parts of an item.
 
-abbrev pub from : (column width : ℕ) → Span
+abbrev pub from : (column width : ℕ) → SyntaxSpan
 from column width = record { line = 7; column = column; width = width }
 
 -- blanks within a list belong to it; a task, too, may be called create

@@ -12,8 +12,8 @@ use Rattle.program_statements.specs.declared.statement.Section.{Section}
 use Rattle.program_statements.specs.declared.statement.Statement.{Statement}
 use Rattle.program_statements.specs.declared.statement.Statement.TheVariants as statement
 use Rattle.annotated_asm.specs.declared.fault.AsmFault.{AsmFault}
-use Rattle.annotated_asm.specs.declared.item.Item.{Item as Unplaced}
-use Rattle.syntax_tree.specs.declared.item.Span.{Span}
+use Rattle.annotated_asm.specs.declared.item.PlacedStatement.{PlacedStatement as Unplaced}
+use Rattle.syntax_tree.specs.declared.item.SyntaxSpan.{SyntaxSpan}
 use Rattle.syntax_tree.specs.declared.item.LineFaultKind.TheVariants as kind
 use Rattle.syntax_tree.specs.declared.item.Said.{Said}
 use Rattle.syntax_tree.specs.declared.item.Said.TheVariants as said
@@ -39,7 +39,7 @@ without_places (item ∷ items) = before_others item item.said (without_places i
 abbrev pub line_at : List ℕ → (n : ℕ) → List ℕ
 line_at text n = slice_index_or (lines text) (n - 1) []
 
-abbrev pub bytes_at : List ℕ → Span → List ℕ
+abbrev pub bytes_at : List ℕ → SyntaxSpan → List ℕ
 bytes_at text span = take span.width (drop (span.column - 1) (line_at text span.line))
 
 -- the statement, or its fault, that these bytes spell alone on a line of a section

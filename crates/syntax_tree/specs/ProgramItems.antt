@@ -1,4 +1,4 @@
--- The items of which the instructions and the tasks of a program are (own choice).
+-- The items of which the instructions and the tasks of a program are.
 use Rattle.std.specs.Prelude.{◌≡◌, ℕ, List, [], ◌∷◌, ◌++◌, Bool, true, false, length, map, replicate, find, Option}
 use Rattle.std.specs.List.{filter}
 use Rattle.task_descriptor.specs.Listing.{Listing}

@@ -1,4 +1,4 @@
--- What a text defines a second time (own choice): labels, tasks and the start, each with the item that defines it first.
+-- What a text defines a second time: labels, tasks and the start, each with the item that defines it first.
 use Rattle.std.specs.Prelude.{ℕ, ◌+◌, List, [], ◌∷◌, nat_eq, position, Option, Some, None, is_some, if◌then◌else◌}
 use Rattle.program_statements.specs.declared.statement.Statement.TheVariants as statement
 use Rattle.syntax_tree.specs.declared.item.Said.{Said}

@@ -1,4 +1,4 @@
--- The labels and the statements of a text, each with its place, and the lines that cannot be read (own choice).
+-- The labels and the statements of a text, each with its place, and the lines that cannot be read.
 -- Lines, tokens and statements are the assembler's; a line with a fault leaves the section as it was, and the
 -- reading goes on after it.
 use Rattle.std.specs.Prelude.{ℕ, ◌+◌, ◌-◌, ◌*◌, List, [], ◌∷◌, ◌++◌, length, slice_get, Option, Some, None, Result, Ok, Err}
@@ -10,7 +10,7 @@ use Rattle.program_tokens.specs.declared.token.Token.{Token}
 use Rattle.program_tokens.specs.declared.token.Token.TheVariants as token
 use Rattle.program_tokens.specs.declared.token.LineFault.{LineFault as TokenFault}
 use Rattle.program_tokens.specs.declared.token.LineFault.TheVariants as token_fault
-use Rattle.program_tokens.specs.declared.span.Span.{Span as Place}
+use Rattle.program_tokens.specs.declared.span.TokenSpan.{TokenSpan as Place}
 use Rattle.program_statements.specs.Statements.{statement_of}
 use Rattle.program_statements.specs.declared.fault.StatementFault.{StatementFault}
 use Rattle.program_statements.specs.declared.fault.StatementFault.TheVariants as statement_fault
@@ -21,14 +21,14 @@ use Rattle.program_statements.specs.declared.statement.Statement.TheVariants as 
 use Rattle.annotated_asm.specs.Items.{labels_of, after_labels, section_after}
 use Rattle.annotated_asm.specs.declared.fault.AsmFault.{AsmFault}
 use Rattle.annotated_asm.specs.declared.fault.AsmFault.TheVariants as fault
-use Rattle.syntax_tree.specs.declared.item.Span.{Span}
+use Rattle.syntax_tree.specs.declared.item.SyntaxSpan.{SyntaxSpan}
 use Rattle.syntax_tree.specs.declared.item.LineFaultKind.{LineFaultKind}
 use Rattle.syntax_tree.specs.declared.item.LineFaultKind.TheVariants as kind
 use Rattle.syntax_tree.specs.declared.item.Said.{Said}
 use Rattle.syntax_tree.specs.declared.item.Said.TheVariants as said
 use Rattle.syntax_tree.specs.declared.item.Item.{Item}
 
-abbrev pub span_of : Item → Span
+abbrev pub span_of : Item → SyntaxSpan
 span_of item = record { line = item.line; column = item.column; width = item.width }
 
 -- the column at which the token of this number begins, and the one after its last byte; after the last token

@@ -1,4 +1,4 @@
--- What an item shows of a fault of the program as a whole (own choice): a limit that is passed, a mask with $0, and
+-- What an item shows of a fault of the program as a whole: a limit that is passed, a mask with $0, and
 -- where each task begins.
 use Rattle.std.specs.Prelude.{ℕ, ◌+◌, Bool, false, ◌&&◌, List, [], ◌∷◌, ◌++◌, length, slice_get, Option, Some, None, nat_lt, nat_le, if◌then◌else◌}
 use Rattle.mips_instructions.specs.Words.{has}

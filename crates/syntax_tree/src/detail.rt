@@ -6,11 +6,11 @@ ghost use Rattle.program_tokens.specs.Spans.{line_spans};
 ghost use Rattle.program_statements.specs.Statements.{is_mark, mark_count};
 ghost use Rattle.syntax_tree.specs.Details.{Parts, tokens_or_none, detail_of, between, is_comma, part, comma_parts, listed, operand_spans, token_spans, mark_spans, is_no_name, targets_number, create_span, targets_span, create_spans, target_spans};
 
-use crate::item::{Item, Span};
+use crate::item::{Item, SyntaxSpan};
 use crate::spans::{column_at, end_at, read_places, width_between};
 use annotated_asm::assembler::MOST_TEXT;
 use program_tokens::line::line_tokens;
-use program_tokens::span::Span as Place;
+use program_tokens::span::TokenSpan as Place;
 use program_tokens::token::{Token, TokenFault};
 use std::alloc::{AllocError, Global};
 use std::marker::Model;
@@ -146,10 +146,10 @@ fn before_name(tokens: &[Token]) -> usize
 
 impl Detail {
     /// What stands from the first byte of one token to the last of another.
-    fn between(&self, first: usize, last: usize) -> Span
+    fn between(&self, first: usize, last: usize) -> SyntaxSpan
         ensures { result ≡ between self.now first last }
     {
-        Span {
+        SyntaxSpan {
             line: self.line,
             column: column_at(&self.places, first) as usize,
             width: width_between(&self.places, first, last) as usize,
@@ -157,20 +157,20 @@ impl Detail {
     }
 
     /// The token of this number, from 0 on, which is the item's own first.
-    pub fn token(&self, number: usize) -> Span
+    pub fn token(&self, number: usize) -> SyntaxSpan
         ensures { result ≡ between self.now number number }
     {
         self.between(number, number)
     }
 
     /// A part from the token of a number on and before another; where there is none, the place after the comma.
-    fn part(&self, first: usize, number: usize) -> Span
+    fn part(&self, first: usize, number: usize) -> SyntaxSpan
         ensures { result ≡ part self.now first number }
     {
         if first < number {
             return self.between(first, number - 1);
         }
-        Span {
+        SyntaxSpan {
             line: self.line,
             column: end_at(&self.places, number.saturating_sub(1)) as usize,
             width: 0,
@@ -183,7 +183,7 @@ impl Detail {
         alloc: Global,
         first: usize,
         tokens: &[Token],
-    ) -> Result<Vec<Span>, AllocError>
+    ) -> Result<Vec<SyntaxSpan>, AllocError>
         requires { first + length tokens.now < 2 ^ 64 - 1 }
         ensures { IfOk result (λ spans. spans.items ≡ comma_parts self.now first first tokens.now) }
     {
@@ -204,7 +204,12 @@ impl Detail {
     }
 
     /// The same of the tokens from one number on and before another.
-    fn listed(&self, alloc: Global, first: usize, until: usize) -> Result<Vec<Span>, AllocError>
+    fn listed(
+        &self,
+        alloc: Global,
+        first: usize,
+        until: usize,
+    ) -> Result<Vec<SyntaxSpan>, AllocError>
         ensures { IfOk result (λ spans. spans.items ≡ listed self.now first until) }
     {
         if until <= first {
@@ -223,7 +228,7 @@ impl Detail {
         alloc: Global,
         first: usize,
         count: usize,
-    ) -> Result<Vec<Span>, AllocError>
+    ) -> Result<Vec<SyntaxSpan>, AllocError>
         requires { first + count < 2 ^ 64 }
         ensures { IfOk result (λ spans. spans.items ≡ token_spans self.now first count) }
     {
@@ -248,7 +253,7 @@ impl Detail {
     /// # Errors
     ///
     /// `AllocError` where memory was refused.
-    pub fn operands(&self, alloc: Global) -> Result<Vec<Span>, AllocError>
+    pub fn operands(&self, alloc: Global) -> Result<Vec<SyntaxSpan>, AllocError>
         ensures { IfOk result (λ spans. spans.items ≡ operand_spans self.now) }
     {
         self.listed(alloc, 1, self.marks_begin())
@@ -259,7 +264,7 @@ impl Detail {
     /// # Errors
     ///
     /// `AllocError` where memory was refused.
-    pub fn marks(&self, alloc: Global) -> Result<Vec<Span>, AllocError>
+    pub fn marks(&self, alloc: Global) -> Result<Vec<SyntaxSpan>, AllocError>
         ensures { IfOk result (λ spans. spans.items ≡ mark_spans self.now) }
     {
         self.token_spans(alloc, self.marks_begin(), mark_count(&self.tokens))
@@ -275,14 +280,14 @@ impl Detail {
     }
 
     /// `create=` and its registers, where the item is a `.task`.
-    pub fn create(&self) -> Span
+    pub fn create(&self) -> SyntaxSpan
         ensures { result ≡ create_span self.now }
     {
         self.between(2, self.targets_number() - 1)
     }
 
     /// `targets=` and its targets, where the item is a `.task`.
-    pub fn targets(&self) -> Span
+    pub fn targets(&self) -> SyntaxSpan
         ensures { result ≡ targets_span self.now }
     {
         self.between(self.targets_number(), self.tokens.len().saturating_sub(1))
@@ -293,7 +298,7 @@ impl Detail {
     /// # Errors
     ///
     /// `AllocError` where memory was refused.
-    pub fn create_list(&self, alloc: Global) -> Result<Vec<Span>, AllocError>
+    pub fn create_list(&self, alloc: Global) -> Result<Vec<SyntaxSpan>, AllocError>
         ensures { IfOk result (λ spans. spans.items ≡ create_spans self.now) }
     {
         self.listed(alloc, 4, self.targets_number())
@@ -304,7 +309,7 @@ impl Detail {
     /// # Errors
     ///
     /// `AllocError` where memory was refused.
-    pub fn target_list(&self, alloc: Global) -> Result<Vec<Span>, AllocError>
+    pub fn target_list(&self, alloc: Global) -> Result<Vec<SyntaxSpan>, AllocError>
         ensures { IfOk result (λ spans. spans.items ≡ target_spans self.now) }
     {
         self.listed(alloc, self.targets_number() + 2, self.tokens.len())

@@ -9,7 +9,7 @@ use task_descriptor::name::Name;
 
 /// A part of one line of a text.
 #[derive(Clone, Copy, Debug, PartialEq, Eq)]
-pub struct Span {
+pub struct SyntaxSpan {
     /// The line, from 1 on.
     pub line: u32,
     /// The column of its first byte; columns are counted in bytes, from 1.
@@ -68,10 +68,10 @@ pub struct Item {
 
 impl Item {
     /// Where it stands.
-    pub fn span(&self) -> Span
+    pub fn span(&self) -> SyntaxSpan
         ensures { result ≡ span_of self.now }
     {
-        Span {
+        SyntaxSpan {
             line: self.line,
             column: self.column as usize,
             width: self.width as usize,

@@ -14,7 +14,7 @@ use annotated_asm::line::section_after;
 use program_statements::fault::{StatementError, StatementFault};
 use program_statements::line::statement_of;
 use program_statements::statement::{Section, Statement};
-use program_tokens::span::Span;
+use program_tokens::span::TokenSpan;
 use program_tokens::token::{Token, TokenFault};
 use std::alloc::{AllocError, Global};
 use task_descriptor::name::Name;
@@ -23,7 +23,7 @@ use task_descriptor::name::Name;
 fn item_between(
     line: u32,
     section: Section,
-    spans: &[Span],
+    spans: &[TokenSpan],
     first: usize,
     last: usize,
     said: Said,
@@ -58,7 +58,7 @@ fn add_labels<'a>(
     items: &mut Vec<Item>,
     line: u32,
     section: Section,
-    spans: &[Span],
+    spans: &[TokenSpan],
     tokens: &'a [Token],
 ) -> Result<(&'a [Token], usize), AllocError>
     requires ends { All (λ span. span.column + span.len < 2 ^ 32) spans.now }
@@ -96,7 +96,7 @@ fn add_statement(
     items: &mut Vec<Item>,
     line: u32,
     section: Section,
-    spans: &[Span],
+    spans: &[TokenSpan],
     number: usize,
     statement: Statement,
 ) -> Result<(), AllocError>
@@ -122,7 +122,7 @@ fn add_tokens(
     items: &mut Vec<Item>,
     line: u32,
     section: Section,
-    spans: &[Span],
+    spans: &[TokenSpan],
     tokens: &[Token],
 ) -> Result<Section, AllocError>
     requires ends { All (λ span. span.column + span.len < 2 ^ 32) spans.now }
@@ -170,7 +170,7 @@ fn whole_line(line: u32, section: Section, text: &[u8], kind: LineFaultKind) -> 
 #[derive(Drop)]
 struct Read {
     tokens: Vec<Token>,
-    spans: Vec<Span>,
+    spans: Vec<TokenSpan>,
 }
 
 /// Adds the items of a line, and answers the section after it.

@@ -8,7 +8,7 @@ ghost use Rattle.program_tokens.specs.Lines.{lines};
 ghost use Rattle.syntax_tree.specs.Trees.{column_at, end_at};
 
 use program_tokens::line::{first_line, read_tokens};
-use program_tokens::span::{Span, read_spans};
+use program_tokens::span::{TokenSpan, read_spans};
 use program_tokens::token::{Token, TokenFault};
 use std::alloc::AllocError;
 
@@ -30,7 +30,7 @@ pub(crate) fn read_line(tokens: &mut Vec<Token>, line: &[u8]) -> Result<(), Toke
 /// # Errors
 ///
 /// `AllocError` where memory was refused.
-pub(crate) fn read_places(spans: &mut Vec<Span>, line: &[u8]) -> Result<(), AllocError>
+pub(crate) fn read_places(spans: &mut Vec<TokenSpan>, line: &[u8]) -> Result<(), AllocError>
     requires { length line.now ≤ 4194304 }
     ensures places { OnOk result (spans.new.items ≡ line_spans line.now) }
     ensures ends { OnOk result (All (λ span. span.column + span.len < 2 ^ 32) spans.new.items) }
@@ -39,7 +39,7 @@ pub(crate) fn read_places(spans: &mut Vec<Span>, line: &[u8]) -> Result<(), Allo
 }
 
 /// The column of the token of this number; after the last token, where the line begins.
-pub(crate) fn column_at(spans: &[Span], number: usize) -> u32
+pub(crate) fn column_at(spans: &[TokenSpan], number: usize) -> u32
     requires { All (λ span. span.column + span.len < 2 ^ 32) spans.now }
     ensures { result ≡ column_at spans.now number }
 {
@@ -52,7 +52,7 @@ pub(crate) fn column_at(spans: &[Span], number: usize) -> u32
 }
 
 /// The column after the last byte of the token of this number.
-pub(crate) fn end_at(spans: &[Span], number: usize) -> u32
+pub(crate) fn end_at(spans: &[TokenSpan], number: usize) -> u32
     requires { All (λ span. span.column + span.len < 2 ^ 32) spans.now }
     ensures { result ≡ end_at spans.now number }
 {
@@ -65,7 +65,7 @@ pub(crate) fn end_at(spans: &[Span], number: usize) -> u32
 }
 
 /// How many bytes there are from the first of one token to the last of another.
-pub(crate) fn width_between(spans: &[Span], first: usize, last: usize) -> u32
+pub(crate) fn width_between(spans: &[TokenSpan], first: usize, last: usize) -> u32
     requires { All (λ span. span.column + span.len < 2 ^ 32) spans.now }
     ensures { result ≡ end_at spans.now last - column_at spans.now first }
 {

@@ -1,4 +1,4 @@
--- The number and the name of what is wrong with a program's parts (own choice).
+-- The number and the name of what is wrong with a program's parts.
 use Rattle.std.specs.Prelude.{ℕ, List, ◌++◌, codes}
 use Rattle.std.specs.Fmt.{decimal}
 use Rattle.task_descriptor.specs.declared.program.BuildFault.{BuildFault}

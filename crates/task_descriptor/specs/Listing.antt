@@ -1,5 +1,5 @@
 -- What a well-formed annotated program is (Sohi, Breach, Vijaykumar, ISCA 1995, section 2.2; the
--- limits and the marks that fit an instruction are own choices).
+-- limits and the marks that fit an instruction are this project's choices).
 use Rattle.std.specs.Prelude.{◌≡◌, ◌<◌, ℕ, zero, suc, ◌++◌, Bool, true, false, not, ◌&&◌, ◌||◌, ◌==◌, nat_lt, nat_le, if◌then◌else◌, Option, Some, None, List, [], ◌∷◌, map, length, position}
 use Rattle.std.specs.List.{list_any, All}
 use Rattle.std.specs.Str.{bytes_eq}

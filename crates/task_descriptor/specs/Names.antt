@@ -1,4 +1,4 @@
--- What a name is (own choice): a letter or `_`, then letters, digits and `_`, 1 to 32 bytes.
+-- What a name is: a letter or `_`, then letters, digits and `_`, 1 to 32 bytes.
 use Rattle.std.specs.Prelude.{◌≡◌, ◌≤◌, ℕ, ◌-◌, Bool, true, false, Option, Some, None, ◌&&◌, ◌||◌, ◌==◌, nat_le, List, length, slice_get, take, drop, replicate}
 use Rattle.std.specs.List.{list_all}
 use Rattle.std.specs.Char.{is_ascii_alphabetic, is_ascii_alphanumeric}

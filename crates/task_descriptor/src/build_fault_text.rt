@@ -10,7 +10,7 @@ impl fmt::Display for BuildFault {
 
     ghost output = { λ fault. Some (build_fault_text fault) };
 
-    /// The number and the name of the fault, and the index of a bad mark (own choice).
+    /// The number and the name of the fault, and the index of a bad mark.
     fn fmt<W: fmt::Write>(&self, f: &mut fmt::Formatter<W>) -> fmt::Result {
         match *self {
             BuildFault::TooMany => write!(f, "1 TooMany"),

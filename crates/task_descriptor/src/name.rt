@@ -5,7 +5,7 @@ use std::marker::Model;
 /// The most bytes that a name has.
 pub const MOST_NAME: usize = 32;
 
-/// A name: a letter or `_`, then letters, digits and `_`; 1 to 32 bytes (own choice).
+/// A name: a letter or `_`, then letters, digits and `_`; 1 to 32 bytes.
 // The bytes behind the name are 0, so that equal names have equal fields.
 #[derive(Clone, Copy, Debug, PartialEq, Eq, Hash)]
 pub struct Name {

@@ -211,7 +211,7 @@ impl Program {
         }
     }
 
-    /// The address of an instruction of this index, 0x00400000 + 4 * index (own choice).
+    /// The address of an instruction of this index, 0x00400000 + 4 * index.
     pub fn address(&self, place: Place) -> u32
         ensures { result ≡ address place }
     {

@@ -1,5 +1,5 @@
 -- The summary of a run: a heading, a row for each task of the program, in the order of their numbers, and a
--- row for all lives (own choice).
+-- row for all lives.
 use Rattle.std.specs.Prelude.{ℕ, ◌+◌, ◌-◌, List, [], ◌∷◌, ◌++◌, length, replicate, codes}
 use Rattle.std.specs.Fmt.{decimal}
 use Rattle.task_descriptor.specs.Listing.{Listing}

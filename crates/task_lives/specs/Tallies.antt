@@ -1,4 +1,4 @@
--- Lives counted: how many there are, how they ended, and how much of their work was of use (own choice).
+-- Lives counted: how many there are, how they ended, and how much of their work was of use.
 use Rattle.std.specs.Prelude.{ℕ, List, length, map, filter, nat_eq, Bool, true, false}
 use Rattle.std.specs.List.{range_with_len}
 use Rattle.task_lives.specs.declared.life.Ending.{Ending}

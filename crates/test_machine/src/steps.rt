@@ -1,4 +1,4 @@
-//! How many steps the test programs take on 1, 2 and 4 units.
+//! StepsEnd many steps the test programs take on 1, 2 and 4 units.
 
 use crate::facts::expect_run;
 use crate::given::accepted;
@@ -12,7 +12,7 @@ use test_programs::certificates::{
 };
 use test_programs::programs::{COUNT, DIAMOND, PAIR, SPIN};
 use unit_turns::predictor::Predictor;
-use unit_turns::report::{How, StepsFault, StepsReport};
+use unit_turns::report::{StepsEnd, StepsFault, StepsReport};
 use unit_turns::runner::run_steps;
 
 /// Which target a run follows.
@@ -44,7 +44,7 @@ struct Row<'a> {
     units: u32,
     follows: Follows<'a>,
     budget: u32,
-    how: How,
+    how: StepsEnd,
     standing: Standing,
     steps: u32,
     events: usize,
@@ -74,7 +74,7 @@ const COUNTS: Row<'static> = Row {
     units: 1,
     follows: Follows::First,
     budget: 1_000_000,
-    how: How::Ended,
+    how: StepsEnd::Ended,
     standing: Standing::Halted,
     steps: 31,
     events: 31,
@@ -174,7 +174,7 @@ const BUDGET_ROWS: [Row<'static>; 2] = [
         program: SPIN,
         certificate: SPIN_CERTIFICATE,
         budget: 5,
-        how: How::OutOfBudget,
+        how: StepsEnd::OutOfBudget,
         standing: Standing::Running,
         steps: 5,
         events: 5,
@@ -183,7 +183,7 @@ const BUDGET_ROWS: [Row<'static>; 2] = [
     Row {
         units: 2,
         budget: 2,
-        how: How::OutOfBudget,
+        how: StepsEnd::OutOfBudget,
         standing: Standing::Running,
         steps: 2,
         events: 2,

@@ -6,7 +6,7 @@ use Rattle.program_tokens.specs.Numbers.{number_of, magnitude_of, number_in}
 use Rattle.program_tokens.specs.Registers.{register_of, register_named}
 use Rattle.program_tokens.specs.Grammar.{line_tokens, tokens_after, token_of, kind_of}
 use Rattle.program_tokens.specs.Spans.{spans_after}
-use Rattle.program_tokens.specs.declared.span.Span.{Span}
+use Rattle.program_tokens.specs.declared.span.TokenSpan.{TokenSpan}
 use Rattle.program_statements.specs.Operands.{base_at, operand_at, after_one, after_two, operands_of}
 use Rattle.program_statements.specs.Rows.{three, imm, branch_two, nop, halt}
 use Rattle.program_statements.specs.declared.statement.Section.TheVariants.{Text, Data}
@@ -22,7 +22,7 @@ use Rattle.operand_forms.specs.ForeignWords.{instead, word_instead, sign_instead
 use Rattle.text_diagnostics.specs.Mending.{goes_further, mended, may_be_label}
 use Rattle.text_diagnostics.specs.Sections.{fault_in, line_kind, meant_after}
 
-abbrev pub at : (column len : ℕ) → Span
+abbrev pub at : (column len : ℕ) → TokenSpan
 at column len = record { column = column; len = len }
 
 -- `addu` is nearer, but takes no number

@@ -3,7 +3,7 @@ use Rattle.std.specs.Prelude.{ℕ, List, [], ◌∷◌, ◌++◌, ◌&&◌, ◌|
 use Rattle.std.specs.List.{flat_map}
 use Rattle.std.specs.Str.{byte, bytes_eq, str_to_ascii_lowercase}
 use Rattle.program_tokens.specs.Numbers.{begins_with_digit}
-use Rattle.program_tokens.specs.declared.span.Span.{Span as Place}
+use Rattle.program_tokens.specs.declared.span.TokenSpan.{TokenSpan as Place}
 use Rattle.program_tokens.specs.declared.token.Token.{Token}
 use Rattle.program_tokens.specs.declared.token.Token.TheVariants as token
 use Rattle.program_tokens.specs.declared.token.Mark.TheVariants as mark
@@ -15,7 +15,7 @@ use Rattle.operand_forms.specs.Bytes.{bytes_at, byte_at, byte_help, token_help}
 use Rattle.operand_forms.specs.Meant.{span_at, number_index, mark_index, is_directive}
 use Rattle.diagnostics.specs.Near.{is_near}
 use Rattle.operand_forms.specs.Shapes.{shape_of, form_text, range_text}
-use Rattle.operand_forms.specs.declared.shape.Shape.{Shape}
+use Rattle.operand_forms.specs.declared.shape.OperandShape.{OperandShape}
 use Rattle.syntax_tree.specs.declared.item.LineFaultKind.{LineFaultKind}
 use Rattle.syntax_tree.specs.declared.item.LineFaultKind.TheVariants as kind
 use Rattle.syntax_tree.specs.declared.item.Said.{Said}
@@ -84,7 +84,7 @@ token_words (Some text) meant first = text
 token_words None (Some text) first = text
 token_words None None first = token_help first
 
-abbrev pub number_help : Option Token → Shape → List ℕ
+abbrev pub number_help : Option Token → OperandShape → List ℕ
 number_help (Some (token.Index n)) shape = codes "a place is @0 to @4096"
 number_help _ shape = range_text shape
 

@@ -1,4 +1,4 @@
--- What has to be known of a whole text to judge one of its items (own choice).
+-- What has to be known of a whole text to judge one of its items.
 use Rattle.std.specs.Prelude.{Bool, not, List, take, length}
 use Rattle.std.specs.List.{list_any}
 use Rattle.syntax_tree.specs.declared.item.Item.{Item}

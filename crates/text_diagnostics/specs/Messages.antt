@@ -2,7 +2,7 @@
 use Rattle.std.specs.Prelude.{ℕ, nat_eq, List, [], ◌++◌, ◌==◌, codes, Bool, true, false, Option, Some, is_some, slice_get, if◌then◌else◌}
 use Rattle.std.specs.Str.{byte}
 use Rattle.std.specs.Fmt.{decimal}
-use Rattle.program_tokens.specs.declared.span.Span.{Span}
+use Rattle.program_tokens.specs.declared.span.TokenSpan.{TokenSpan}
 use Rattle.program_tokens.specs.declared.token.Token.{Token}
 use Rattle.program_tokens.specs.declared.token.Token.TheVariants as token
 use Rattle.program_tokens.specs.declared.token.Mark.TheVariants as mark
@@ -54,7 +54,7 @@ mark_message true is_none t meant = codes "a directive cannot have the mark " ++
 mark_message false true t meant = codes "there is no mark " ++ meant
 mark_message false false t meant = second_message t meant
 
-unfoldable pub line_message : LineFaultKind → Section → (line : List ℕ) → Reading → Span → List ℕ
+unfoldable pub line_message : LineFaultKind → Section → (line : List ℕ) → Reading → TokenSpan → List ℕ
 line_message kind.NotAscii here line r at = codes "a program text cannot have the byte " ++ decimal (byte_at line at)
 line_message kind.Token here line r at = token_message (byte_at line at) (quoted (bytes_at line at))
 line_message kind.Mnemonic here line r at =

@@ -1,4 +1,4 @@
--- What is wrong with each item of a text (own choice). What would only follow from a line that cannot be read is not told:
+-- What is wrong with each item of a text. What would only follow from a line that cannot be read is not told:
 -- where there is one, nothing is said of unknown names, since a label may be missing, and nothing of where tasks and the
 -- program begin, since an instruction may be missing.
 use Rattle.std.specs.Prelude.{ℕ, ◌+◌, Bool, true, false, not, ◌&&◌, ◌||◌, nat_eq, nat_lt, nat_le, List, [], ◌∷◌, ◌++◌, map, find, slice_get, Option, Some, None, is_some, is_none, if◌then◌else◌}

@@ -1,7 +1,7 @@
--- Which bytes of an item are meant by what is wrong with it (own choice): a name, a list, or all of it.
+-- Which bytes of an item are meant by what is wrong with it: a name, a list, or all of it.
 use Rattle.std.specs.Prelude.{ℕ, ◌-◌, List, length, slice_get, unwrap_or}
-use Rattle.program_tokens.specs.declared.span.Span.{Span as Place}
-use Rattle.syntax_tree.specs.declared.item.Span.{Span as TreeSpan}
+use Rattle.program_tokens.specs.declared.span.TokenSpan.{TokenSpan as Place}
+use Rattle.syntax_tree.specs.declared.item.SyntaxSpan.{SyntaxSpan}
 use Rattle.syntax_tree.specs.declared.item.Item.{Item}
 use Rattle.syntax_tree.specs.declared.unknown_names.UsedAs.{UsedAs}
 use Rattle.syntax_tree.specs.declared.unknown_names.UsedAs.TheVariants as used
@@ -13,7 +13,7 @@ use Rattle.text_diagnostics.specs.declared.mistake.Kind.{Kind}
 use Rattle.text_diagnostics.specs.declared.mistake.Kind.TheVariants.{TaskTwice, NoLabel, DataLabel, Passes, CreatesZero, NoInstruction, SameEntry}
 
 -- a part of a text as a diagnostic has it, and as a line has it
-abbrev pub shown_span : TreeSpan → Span
+abbrev pub shown_span : SyntaxSpan → Span
 shown_span span = record { line = span.line; column = span.column; width = span.width }
 
 abbrev pub span_in : (n : ℕ) → Place → Span
@@ -23,20 +23,20 @@ abbrev pub place_in : Span → Place
 place_in span = record { column = span.column; len = span.width }
 
 -- the name of a task stands after its directive
-abbrev pub name_span : Parts → TreeSpan
+abbrev pub name_span : Parts → SyntaxSpan
 name_span d = between d 1 1
 
 -- the place of a number; of none, another
-abbrev pub span_or : TreeSpan → List TreeSpan → (k : ℕ) → TreeSpan
+abbrev pub span_or : SyntaxSpan → List SyntaxSpan → (k : ℕ) → SyntaxSpan
 span_or other spans k = unwrap_or (slice_get spans k) other
 
-abbrev pub used_span : Item → UsedAs → Parts → TreeSpan
+abbrev pub used_span : Item → UsedAs → Parts → SyntaxSpan
 used_span item used.Start d = name_span d
 used_span item used.Task d = name_span d
 used_span item (used.Target j) d = span_or (span_of item) (target_spans d) j
 used_span item used.Operand d = span_or (span_of item) (operand_spans d) (length (operand_spans d) - 1)
 
-unfoldable pub item_span : Kind → Item → Parts → TreeSpan
+unfoldable pub item_span : Kind → Item → Parts → SyntaxSpan
 item_span TaskTwice item d = name_span d
 item_span (NoLabel as_what) item d = used_span item as_what d
 item_span (DataLabel as_what) item d = used_span item as_what d

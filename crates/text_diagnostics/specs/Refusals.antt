@@ -1,4 +1,4 @@
--- What is said of a text that spells no program (own choice): all that is wrong with it, in the order of its lines.
+-- What is said of a text that spells no program: all that is wrong with it, in the order of its lines.
 use Rattle.std.specs.Prelude.{ℕ, ◌-◌, Bool, true, false, not, ◌&&◌, List, [], ◌∷◌, ◌++◌, codes, take, length, slice_get, nat_eq, nat_lt, Option, Some, None, Result, Ok, Err, if◌then◌else◌}
 use Rattle.std.specs.List.{flat_map, list_any}
 use Rattle.std.specs.Str.{bytes_eq}

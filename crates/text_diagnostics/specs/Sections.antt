@@ -1,4 +1,4 @@
--- In which section a line is meant to be read (own choice). A section line that cannot be read opens the section that it
+-- In which section a line is meant to be read. A section line that cannot be read opens the section that it
 -- names, and a line that can only stand in another section opens that one: so one mistake makes no others. It ends at the
 -- next statement that can be read where it stands, but for .start and .task, which may stand anywhere.
 use Rattle.std.specs.Prelude.{ℕ, List, [], ◌∷◌, Bool, false, ◌||◌, codes, drop, Option, Some, None, unwrap_or, is_some, Result, Ok, Err, if◌then◌else◌}
@@ -6,7 +6,7 @@ use Rattle.std.specs.Option.{option_or, option_map}
 use Rattle.std.specs.Str.{bytes_eq}
 use Rattle.program_tokens.specs.Grammar.{line_tokens}
 use Rattle.program_tokens.specs.Spans.{line_spans}
-use Rattle.program_tokens.specs.declared.span.Span.{Span}
+use Rattle.program_tokens.specs.declared.span.TokenSpan.{TokenSpan}
 use Rattle.program_tokens.specs.declared.token.Token.{Token}
 use Rattle.program_tokens.specs.declared.token.LineFault.{LineFault as TokenFault}
 use Rattle.program_statements.specs.Statements.{statement_of}
@@ -53,7 +53,7 @@ section_named word =
     else None
 
 -- by a line: the first that it names
-abbrev pub section_in : (line : List ℕ) → List Span → Option Section
+abbrev pub section_in : (line : List ℕ) → List TokenSpan → Option Section
 section_in line [] = None
 section_in line (at ∷ places) = option_or (section_named (bytes_at line at)) (section_in line places)
 

@@ -25,10 +25,10 @@ use operand_forms::line_place::{shape_named, word_in};
 use operand_forms::meant::{is_directive, mark_index, number_index, span_at};
 use operand_forms::own_words::own_words;
 use operand_forms::rows::{Reading, read};
-use operand_forms::shape::{Shape, form_text, range_text, shape_of};
+use operand_forms::shape::{OperandShape, form_text, range_text, shape_of};
 use operand_forms::slices::first;
 use program_statements::statement::{Instruction, Section, Statement};
-use program_tokens::span::Span as Place;
+use program_tokens::span::TokenSpan as Place;
 use program_tokens::token::{Mark, Token};
 use std::alloc::{AllocError, Global};
 use std::fmt::Write;
@@ -188,7 +188,7 @@ fn operand_words(alloc: Global, word: &[u8], meant: &[u8]) -> Result<Words, Allo
 }
 
 /// The range of a number.
-fn number_help(number: Option<&Token>, shape: Shape) -> &'static str
+fn number_help(number: Option<&Token>, shape: OperandShape) -> &'static str
     ensures { result.now ≡ number_help (option_copied number.entry) shape }
 {
     match number {

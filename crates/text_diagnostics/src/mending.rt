@@ -14,12 +14,17 @@ use operand_forms::meant::operand_span;
 use operand_forms::rows::read;
 use operand_forms::slices::{after, first};
 use program_statements::statement::Section;
-use program_tokens::span::Span;
+use program_tokens::span::TokenSpan;
 use std::alloc::{AllocError, Global};
 use syntax_tree::item::LineFaultKind;
 
 /// A line with a text in place of a part.
-fn replaced(alloc: Global, line: &[u8], place: Span, text: &[u8]) -> Result<Vec<u8>, AllocError>
+fn replaced(
+    alloc: Global,
+    line: &[u8],
+    place: TokenSpan,
+    text: &[u8],
+) -> Result<Vec<u8>, AllocError>
     ensures { IfOk result (λ bytes. bytes.items ≡ replaced line.now place text.now) }
 {
     let before = place.column.saturating_sub(1);
@@ -31,7 +36,7 @@ fn replaced(alloc: Global, line: &[u8], place: Span, text: &[u8]) -> Result<Vec<
 
 /// Whether the first token of a line that is no operand stands after a part of it.
 #[tactic(auto, unfolding(crate::specs::Mending::goes_further))]
-fn goes_further(alloc: Global, place: Span, line: &[u8]) -> Result<bool, AllocError>
+fn goes_further(alloc: Global, place: TokenSpan, line: &[u8]) -> Result<bool, AllocError>
     ensures { IfOk result (λ yes. yes ≡ goes_further place line.now) }
 {
     let reading = read(alloc, line)?;
@@ -41,10 +46,10 @@ fn goes_further(alloc: Global, place: Span, line: &[u8]) -> Result<bool, AllocEr
 }
 
 /// The place of a text that begins where another place does.
-fn taken_by(place: Span, text: &[u8]) -> Span
+fn taken_by(place: TokenSpan, text: &[u8]) -> TokenSpan
     ensures { result ≡ taken_by place text.now }
 {
-    Span {
+    TokenSpan {
         column: place.column,
         len: text.len(),
     }
@@ -56,7 +61,7 @@ fn mends(
     kind: LineFaultKind,
     section: Section,
     line: &[u8],
-    place: Span,
+    place: TokenSpan,
     text: &[u8],
 ) -> Result<bool, AllocError>
     ensures { IfOk result (λ yes. yes ≡ mends kind section line.now place text.now) }
@@ -79,7 +84,7 @@ fn mending(
     kind: LineFaultKind,
     section: Section,
     line: &[u8],
-    place: Span,
+    place: TokenSpan,
     texts: &[Vec<u8>],
 ) -> Result<Vec<Words>, AllocError>
     ensures { IfOk result (λ list. list.items
@@ -101,7 +106,7 @@ pub(crate) fn mended(
     kind: LineFaultKind,
     section: Section,
     line: &[u8],
-    place: Span,
+    place: TokenSpan,
 ) -> Result<Vec<Words>, AllocError>
     ensures { IfOk result (λ list. list.items ≡ mended kind section line.now place) }
 {
@@ -115,7 +120,7 @@ pub(crate) fn may_be_label(
     alloc: Global,
     section: Section,
     line: &[u8],
-    place: Span,
+    place: TokenSpan,
 ) -> Result<bool, AllocError>
     ensures { IfOk result (λ yes. yes ≡ may_be_label section line.now place) }
 {

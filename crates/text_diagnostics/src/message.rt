@@ -15,7 +15,7 @@ use operand_forms::meant::{is_directive, mark_index};
 use operand_forms::rows::Reading;
 use operand_forms::shape::shape_of;
 use program_statements::statement::Section;
-use program_tokens::span::Span;
+use program_tokens::span::TokenSpan;
 use program_tokens::token::{Mark, Token};
 use std::alloc::{AllocError, Global};
 use syntax_tree::item::LineFaultKind;
@@ -114,7 +114,7 @@ pub(crate) fn line_message(
     section: Section,
     line: &[u8],
     reading: &Reading,
-    place: Span,
+    place: TokenSpan,
 ) -> Result<Words, AllocError>
     ensures { IfOk result (λ words. words ≡ line_message kind section line.now reading.now place) }
 {

@@ -5,15 +5,15 @@ ghost use Rattle.text_diagnostics.specs.Places.{shown_span, span_in, place_in, n
 
 use crate::mistake::Kind;
 use diagnostics::diagnostic::Span;
-use program_tokens::span::Span as Place;
+use program_tokens::span::TokenSpan as Place;
 use std::alloc::{AllocError, Global};
 use syntax_tree::detail::Detail;
-use syntax_tree::item::{Item, Span as TreeSpan};
+use syntax_tree::item::{Item, SyntaxSpan};
 use syntax_tree::unknown_names::UsedAs;
 use syntax_tree::whole_faults::Limit;
 
 /// A part of a text as a diagnostic has it.
-pub(crate) fn shown_span(span: TreeSpan) -> Span
+pub(crate) fn shown_span(span: SyntaxSpan) -> Span
     ensures { result ≡ shown_span span }
 {
     Span {
@@ -45,14 +45,14 @@ pub(crate) fn place_in(span: Span) -> Place
 }
 
 /// Where the name of a task stands, or that of the start.
-fn name_span(detail: &Detail) -> TreeSpan
+fn name_span(detail: &Detail) -> SyntaxSpan
     ensures { result ≡ name_span detail.now }
 {
     detail.token(1)
 }
 
 /// The place of a number; of none, another.
-fn span_or(other: TreeSpan, spans: &[TreeSpan], number: usize) -> TreeSpan
+fn span_or(other: SyntaxSpan, spans: &[SyntaxSpan], number: usize) -> SyntaxSpan
     ensures { result ≡ span_or other spans.now number }
 {
     spans.get(number).copied().unwrap_or(other)
@@ -64,7 +64,7 @@ fn used_span(
     item: &Item,
     used_as: UsedAs,
     detail: &Detail,
-) -> Result<TreeSpan, AllocError>
+) -> Result<SyntaxSpan, AllocError>
     ensures { IfOk result (λ span. span ≡ used_span item.now used_as detail.now) }
 {
     match used_as {
@@ -87,7 +87,7 @@ pub(crate) fn item_span(
     kind: Kind,
     item: &Item,
     detail: &Detail,
-) -> Result<TreeSpan, AllocError>
+) -> Result<SyntaxSpan, AllocError>
     ensures { IfOk result (λ span. span ≡ item_span kind item.now detail.now) }
 {
     match kind {

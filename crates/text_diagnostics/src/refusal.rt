@@ -34,7 +34,7 @@ use syntax_tree::reading::syntax_tree;
 use syntax_tree::tree::TreeFault;
 use task_descriptor::program::BuildFault;
 
-/// The most errors that are shown of a text; of any more it is said how many they are (own choice).
+/// The most errors that are shown of a text; of any more it is said how many they are.
 pub const MOST_SHOWN: usize = 1_000;
 
 /// The code of what is wrong with an item that can be read.

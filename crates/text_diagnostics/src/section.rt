@@ -15,7 +15,7 @@ use program_statements::fault::{StatementError, StatementFault};
 use program_statements::line::statement_of;
 use program_statements::statement::{Section, Statement};
 use program_tokens::line::line_tokens;
-use program_tokens::span::Span;
+use program_tokens::span::TokenSpan;
 use program_tokens::token::{Token, TokenFault};
 use std::alloc::{AllocError, Global};
 use syntax_tree::item::{Item, LineFaultKind, Said};
@@ -90,7 +90,7 @@ fn section_named(word: &[u8]) -> Option<Section>
 }
 
 /// The first section that a line names.
-fn section_in(line: &[u8], places: &[Span]) -> Option<Section>
+fn section_in(line: &[u8], places: &[TokenSpan]) -> Option<Section>
     ensures { result ≡ section_in line.now places.now }
 {
     for place in places {

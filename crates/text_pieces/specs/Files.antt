@@ -1,4 +1,4 @@
--- What is known of files by their names, and what stays of them (own choice).
+-- What is known of files by their names, and what stays of them.
 use Rattle.std.specs.Prelude.{◌≡◌, ◌≢◌, ◌++◌, ℕ, List, Option, codes}
 use Rattle.std.specs.Fmt.{decimal}
 

@@ -1,4 +1,4 @@
--- Why a file is not written, and how that is said (own choice).
+-- Why a file is not written, and how that is said.
 use Rattle.std.specs.Prelude.{ℕ, List, codes}
 use Rattle.std.specs.declared.io.ErrorKind.{ErrorKind}
 use Rattle.std.specs.declared.io.ErrorKind.TheVariants as kind

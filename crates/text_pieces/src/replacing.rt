@@ -9,7 +9,7 @@ use std::alloc::Global;
 use std::io::Write;
 
 /// Gives the file of this name these bytes and no others. They are written to a new file beside it, which then
-/// takes its name; so nobody sees a part of them under the name itself. (own choice)
+/// takes its name; so nobody sees a part of them under the name itself.
 ///
 /// # Errors
 ///

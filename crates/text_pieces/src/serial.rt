@@ -45,7 +45,7 @@ const MOST_INTERRUPTIONS: u32 = 1000;
 
 /// The reader's bytes up to its end, or its first `most + 1` bytes where it has more than `most`
 /// (so that the caller sees that it has). After an error it is not known how much of the reader was
-/// read. (own choice)
+/// read.
 pub fn fetch<R: Read>(alloc: Global, reader: &mut R, most: u64) -> Result<Vec<u8>, FetchFault>
     requires { most ≤ 134217728 }
     ensures bytes { IfOk result (λ v. (bytes : List ℕ) → R.remaining reader.old ≡ Some bytes →

@@ -18,7 +18,7 @@ const LEAST_SHARED: u64 = 262_144;
 const MOST_WORKERS: u32 = 16;
 
 /// What `fetch` answers, as a text in pieces, which so many workers fetch. Any number of them will do: 0
-/// counts as 1, and more than 16 count as 16. A short file is fetched by one. (own choice)
+/// counts as 1, and more than 16 count as 16. A short file is fetched by one.
 ///
 /// Each worker reads a part into memory of its own. Whatever goes wrong with a part, one thread then
 /// fetches the file from its beginning: nothing was taken from the reader until then, so the faults are

@@ -5,7 +5,7 @@ ghost use Rattle.text_pieces.specs.Refusals.{unwritten_of};
 use std::alloc::AllocError;
 use std::io::ErrorKind;
 
-/// Why a file is not written, as far as the system tells. (own choice)
+/// Why a file is not written, as far as the system tells.
 #[derive(Clone, Copy, Debug, PartialEq, Eq)]
 pub enum Unwritten {
     /// The folder that it is to stand in is not there.
@@ -55,7 +55,7 @@ impl From<AllocError> for Unwritten {
     }
 }
 
-/// Why a file is not written, for the kind of error that the system told. (own choice)
+/// Why a file is not written, for the kind of error that the system told.
 pub fn unwritten_of(kind: ErrorKind) -> Unwritten
     ensures { result ≡ unwritten_of kind }
 {

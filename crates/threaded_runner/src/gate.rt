@@ -1,6 +1,6 @@
 //! What is called around each burst.
 
-/// Is called by each worker around each of its bursts, while it does not hold the lock (own choice): to
+/// Is called by each worker around each of its bursts, while it does not hold the lock: to
 /// watch the workers, or to hold one up.
 pub trait RunGate: Sync {
     /// A worker is about to make a burst.

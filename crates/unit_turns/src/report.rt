@@ -17,9 +17,9 @@ pub enum StepsFault {
     OutOfMemory,
 }
 
-/// How a run ended.
+/// StepsEnd a run ended.
 #[derive(Clone, Copy, Debug, PartialEq, Eq)]
-pub enum How {
+pub enum StepsEnd {
     /// The machine ended: it halted, trapped or went on at an address that is not listed.
     Ended,
     /// The machine goes on, and its history has as many events as the budget.
@@ -31,8 +31,8 @@ pub enum How {
 pub struct StepsReport<'a> {
     /// The machine after the last step.
     pub machine: Machine<'a>,
-    /// How the run ended.
-    pub how: How,
-    /// How many steps the run took. The budget may have cut the last one short.
+    /// StepsEnd the run ended.
+    pub how: StepsEnd,
+    /// StepsEnd many steps the run took. The budget may have cut the last one short.
     pub steps: u32,
 }

@@ -11,7 +11,7 @@ ghost use Rattle.unit_turns.specs.Lockstep.{AreSteps};
 ghost use Rattle.unit_turns.specs.Courses.{course};
 
 use crate::predictor::Predictor;
-use crate::report::{How, StepsFault, StepsReport};
+use crate::report::{StepsEnd, StepsFault, StepsReport};
 use crate::turns::{goes_on, turn_behind, turn_of_head};
 use machine_model::event::{Refused, Standing};
 use machine_model::laws::{next_is_after, replays_join};
@@ -21,7 +21,7 @@ use std::alloc::Global;
 
 /// Runs the accepted program on a machine of so many units, 1 to 16, in steps, until the run has ended or
 /// the history has `budget` events, 1 to 1,000,000. In a step each unit does at most one event, which the
-/// machine allows already where the step begins (own choice). The same program, units, budget and predictor
+/// machine allows already where the step begins. The same program, units, budget and predictor
 /// give the same events, output and number of steps.
 ///
 /// # Errors
@@ -42,8 +42,8 @@ pub fn run_steps<'a>(
     ensures state { IfOk result (λ report. state report.machine ≡ (after_steps accepted.now.program units budget report.steps (beginning accepted.now.program predictor)).state) }
     ensures events { IfOk result (λ report. report.machine.history ≡ (after_steps accepted.now.program units budget report.steps (beginning accepted.now.program predictor)).events) }
     ensures lockstep { IfOk result (λ report. AreSteps accepted.now.program units budget predictor report.steps) }
-    ensures ended { IfOk result (λ report. (report.how ≡ How.Ended) ↔ ((state report.machine).outcome ≡ standing.Running → ⊥)) }
-    ensures spent { IfOk result (λ report. report.how ≡ How.OutOfBudget → budget ≤ length report.machine.history) }
+    ensures ended { IfOk result (λ report. (report.how ≡ StepsEnd.Ended) ↔ ((state report.machine).outcome ≡ standing.Running → ⊥)) }
+    ensures spent { IfOk result (λ report. report.how ≡ StepsEnd.OutOfBudget → budget ≤ length report.machine.history) }
     ensures within { IfOk result (λ report. length report.machine.history ≤ budget) }
 {
     if units == 0 || units > MOST_UNITS {
@@ -74,15 +74,15 @@ pub fn run_steps<'a>(
     })
 }
 
-/// How a run ended, by the machine that it left.
-fn how_of(machine: &Machine<'_>) -> How
-    ensures ended { (result ≡ How.Ended) ↔ ((state machine.now).outcome ≡ standing.Running → ⊥) }
-    ensures running { result ≡ How.OutOfBudget → (state machine.now).outcome ≡ standing.Running }
+/// StepsEnd a run ended, by the machine that it left.
+fn how_of(machine: &Machine<'_>) -> StepsEnd
+    ensures ended { (result ≡ StepsEnd.Ended) ↔ ((state machine.now).outcome ≡ standing.Running → ⊥) }
+    ensures running { result ≡ StepsEnd.OutOfBudget → (state machine.now).outcome ≡ standing.Running }
 {
     if machine.outcome() == Standing::Running {
-        How::OutOfBudget
+        StepsEnd::OutOfBudget
     } else {
-        How::Ended
+        StepsEnd::Ended
     }
 }
 

@@ -1,4 +1,4 @@
--- What the signals show in each step of a history (own choice), by the state with which the step begins; and at
+-- What the signals show in each step of a history, by the state with which the step begins; and at
 -- the end, by the state that the history leaves. A step that the history does not end is left out.
 use Rattle.std.specs.Prelude.{ℕ, List, [], ◌∷◌, ◌++◌, length, if◌then◌else◌}
 use Rattle.task_descriptor.specs.Listing.{Listing}

@@ -1,4 +1,4 @@
--- What the signals of a waveform show (own choice). A signal that shows no number has None.
+-- What the signals of a waveform show. A signal that shows no number has None.
 use Rattle.std.specs.Prelude.{ℕ, zero, suc, ◌+◌, ◌-◌, ◌*◌, ◌^◌, ◌%◌, Bool, nat_eq, if◌then◌else◌, List, [], ◌∷◌, ◌++◌, length, slice_get, flat_map, is_some, Option, Some, None}
 use Rattle.std.specs.List.{range_with_len}
 use Rattle.task_descriptor.specs.Listing.{Listing}

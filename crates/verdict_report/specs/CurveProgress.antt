@@ -1,4 +1,4 @@
--- What is said while the runs of `curve` go on, to whoever asks (own choice).
+-- What is said while the runs of `curve` go on, to whoever asks.
 use Rattle.std.specs.Prelude.{◌≡◌, ℕ, zero, suc, Bool, true, false, List, [], ◌∷◌, ◌++◌, codes, Option}
 use Rattle.std.specs.Fmt.{decimal}
 use Rattle.std.specs.Io.KnownBytes.{Appends, Keeps}

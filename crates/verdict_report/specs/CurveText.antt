@@ -1,4 +1,4 @@
--- The text of `curve`: what the runs of a program in steps come to, on 1, 2, 3 units and more (own choice).
+-- The text of `curve`: what the runs of a program in steps come to, on 1, 2, 3 units and more.
 use Rattle.std.specs.Prelude.{◌≡◌, ℕ, List, [], ◌∷◌, nat_eq, if◌then◌else◌}
 use Rattle.task_descriptor.specs.Listing.{Listing}
 use Rattle.machine_model.specs.declared.event.Standing.{Standing}

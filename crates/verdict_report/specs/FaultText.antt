@@ -1,4 +1,4 @@
--- The number and the name of why a job was not done (own choice).
+-- The number and the name of why a job was not done.
 use Rattle.std.specs.Prelude.{ℕ, List, codes}
 use Rattle.verdict_report.specs.declared.fault.ServeFault.{ServeFault}
 use Rattle.verdict_report.specs.declared.fault.ServeFault.TheVariants.{OutOfMemory, Write, Foreign}

@@ -1,4 +1,4 @@
--- What a job writes of its texts, and the status (own choice).
+-- What a job writes of its texts, and the status.
 use Rattle.std.specs.Prelude.{◌≡◌, ℕ, Bool, List, Option}
 use Rattle.std.specs.Io.KnownBytes.{Appends}
 use Rattle.std.specs.Option.{option_map}

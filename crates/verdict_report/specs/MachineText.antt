@@ -1,4 +1,4 @@
--- The last lines of `replay`, and of a `run` that ended: how the machine stands (own choice).
+-- The last lines of `replay`, and of a `run` that ended: how the machine stands.
 use Rattle.std.specs.Prelude.{ℕ, List, [], ◌∷◌, ◌++◌, ◌-◌, false, length, replicate, codes}
 use Rattle.std.specs.Fmt.{decimal, digits}
 use Rattle.machine_model.specs.Machine.{State}

@@ -1,5 +1,5 @@
 -- The text of `replay`: what a machine answers to each event of a script, and how it then stands; or what
--- the tasks came to that the script assigned (own choice).
+-- the tasks came to that the script assigned.
 use Rattle.std.specs.Prelude.{ℕ, List, [], ◌∷◌, ◌++◌, Option, None, Some, Result, Ok, Err, codes, flat_map, take}
 use Rattle.std.specs.List.{enumerate_from}
 use Rattle.std.specs.Fmt.{decimal}

@@ -1,4 +1,4 @@
--- The text of `run`: what a run by threads or in steps comes to (own choice). Which run by threads it is
+-- The text of `run`: what a run by threads or in steps comes to. Which run by threads it is
 -- depends on the threads; each is a list of allowed events. A run in steps is that of the schedule.
 use Rattle.std.specs.Prelude.{◌≡◌, ◌↔◌, ◌≤◌, ℕ, List, [], ◌∷◌, ◌++◌, Option, Some, None, Ok, length, codes}
 use Rattle.std.specs.Fmt.{decimal}

@@ -2,8 +2,8 @@
 use Rattle.sequencer.specs.Machines.{state}
 use Rattle.threaded_runner.specs.declared.report.How.{How}
 use Rattle.threaded_runner.specs.declared.report.How.TheVariants.{Ended, OutOfBudget}
-use Rattle.unit_turns.specs.declared.report.How.{How as StepsHow}
-use Rattle.unit_turns.specs.declared.report.How.TheVariants as steps
+use Rattle.unit_turns.specs.declared.report.StepsEnd.{StepsEnd}
+use Rattle.unit_turns.specs.declared.report.StepsEnd.TheVariants as steps
 use Rattle.std.specs.Prelude.{None}
 use Rattle.threaded_runner.specs.declared.report.Report.{Report}
 use Rattle.verdict_report.specs.declared.ran.Ran.{Ran}
@@ -18,6 +18,6 @@ abbrev pub run_by_threads : Report → Run
 run_by_threads report = record { history = report.machine.history; state = state report.machine; how = report.how; steps = None }
 
 -- how a run in steps ended
-abbrev pub ended_as : StepsHow → How
+abbrev pub ended_as : StepsEnd → How
 ended_as steps.Ended = Ended
 ended_as steps.OutOfBudget = OutOfBudget

@@ -1,4 +1,4 @@
--- What went out of a text where its writer may have failed (own choice).
+-- What went out of a text where its writer may have failed.
 use Rattle.std.specs.Prelude.{◌≡◌, ◌++◌, ℕ, List, Option}
 use Rattle.std.specs.Io.KnownBytes.{Appends}
 

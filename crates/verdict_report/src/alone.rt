@@ -11,7 +11,7 @@ use jobs::job::{CertificateSource, Prediction, RunEmit, Texts};
 use jobs::ranges::{Budget, Units};
 use mark_checker::accept::Accepted;
 use report_texts::judging::{Judged, judge};
-use report_texts::report::Report;
+use report_texts::report::JobReport;
 use report_texts::verdict_text::accepted_program;
 use std::alloc::{AllocError, Global};
 
@@ -24,7 +24,7 @@ pub fn check_alone(
     alloc: Global,
     source: CertificateSource,
     texts: &Texts,
-) -> Result<Report, AllocError>
+) -> Result<JobReport, AllocError>
     ensures { IfOk result (λ report. OfCertificate source texts.now.program.items texts.now.certificate (λ certificate.
         report ≡ check_text texts.now.program.items certificate)) }
 {
@@ -57,7 +57,7 @@ pub fn run_alone(
     steps: &StepsRun<'_>,
     source: CertificateSource,
     texts: &Texts,
-) -> Result<Report, AllocError>
+) -> Result<JobReport, AllocError>
     ensures { IfOk result (λ report. OfCertificate source texts.now.program.items texts.now.certificate (λ certificate.
         IsRunText Steps steps.now.units steps.now.budget steps.now.predict.now steps.now.emit texts.now.program.items certificate report)) }
 {
@@ -75,7 +75,7 @@ fn run_accepted(
     steps: &StepsRun<'_>,
     text: &[u8],
     accepted: &Accepted,
-) -> Result<Report, AllocError>
+) -> Result<JobReport, AllocError>
     ensures { IfOk result (λ report. IsRunReport Steps steps.now.units steps.now.budget steps.now.predict.now steps.now.emit text.now accepted.now.program report) }
 {
     let ran = run_in_steps(alloc, steps.units, steps.budget, steps.predict, accepted)?;

@@ -16,7 +16,7 @@ use jobs::ranges::{Budget, Units};
 use machine_model::event::Standing;
 use mark_checker::accept::Accepted;
 use report_texts::judging::{Judged, judge};
-use report_texts::report::Report;
+use report_texts::report::JobReport;
 use speed_curve::drawing::draw;
 use speed_curve::row::{Row, row_of};
 use speed_curve::table::write;
@@ -33,7 +33,7 @@ pub fn curve(
     emit: CurveEmit,
     source: CertificateSource,
     texts: &Texts,
-) -> Result<Report, AllocError>
+) -> Result<JobReport, AllocError>
     ensures { IfOk result (λ report. OfCertificate source texts.now.program.items texts.now.certificate (λ certificate.
         IsCurveText units budget predict.now emit texts.now.program.items certificate report)) }
 {
@@ -57,13 +57,13 @@ pub fn curve(
 #[derive(Debug, Drop)]
 pub struct ToldReport {
     /// What it writes.
-    pub report: Report,
+    pub report: JobReport,
     /// Whether all was said.
     pub is_told: bool,
 }
 
 /// What `curve` writes, as above; `errors` hears of each run when it is done, of the program of this name. Once that
-/// can't be said, it is not tried again, and the runs go on. (own choice)
+/// can't be said, it is not tried again, and the runs go on.
 pub fn curve_told<E: Write>(
     alloc: Global,
     units: Units,
@@ -138,7 +138,7 @@ fn curve_of_accepted<E: Write>(
     let told = rows_of(alloc, units, budget, predict, accepted, asked, name, errors)?;
     let bytes = rows_text(alloc, emit, &told.rows)?;
     Ok(ToldReport {
-        report: Report::new(bytes, rows_status(&told.rows)),
+        report: JobReport::new(bytes, rows_status(&told.rows)),
         is_told: told.is_told,
     })
 }

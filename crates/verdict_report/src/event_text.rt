@@ -5,16 +5,16 @@ ghost use Rattle.verdict_report.specs.ReplayText.{answer_line, answers_text, scr
 
 use event_script::fault::ScriptFault;
 use machine_model::event::Refused;
-use report_texts::report::Report;
+use report_texts::report::JobReport;
 use std::alloc::{AllocError, Global};
 
 /// What `replay` writes of a text that is no script.
-pub fn refused_script(alloc: Global, fault: ScriptFault) -> Result<Report, AllocError>
+pub fn refused_script(alloc: Global, fault: ScriptFault) -> Result<JobReport, AllocError>
     ensures { IfOk result (λ report. report ≡ script_refused fault) }
 {
     let mut text = String::new(alloc);
     writeln!(text, "script refused: {fault}")?;
-    Ok(Report::new(text.into_bytes(), 1))
+    Ok(JobReport::new(text.into_bytes(), 1))
 }
 
 /// Adds what a machine answers to each event of a script, the first first.

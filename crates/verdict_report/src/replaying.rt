@@ -28,7 +28,7 @@ use machine_model::event::{Event, Refused};
 use machine_model::laws::next_is_after;
 use mark_checker::accept::Accepted;
 use report_texts::judging::{Judged, judge};
-use report_texts::report::Report;
+use report_texts::report::JobReport;
 use sequencer::machine::{Machine, MachineFault};
 use std::alloc::{AllocError, Global};
 use strict_replay::stand::stand;
@@ -42,7 +42,7 @@ pub fn replay(
     emit: ReplayEmit,
     until: Option<Budget>,
     texts: &Texts,
-) -> Result<Report, AllocError>
+) -> Result<JobReport, AllocError>
     ensures { IfOk result (λ report. OfCertificate source texts.now.program.items texts.now.certificate (λ certificate.
         report ≡ replay_text emit units until texts.now.program.items certificate texts.now.script.items)) }
 {
@@ -64,7 +64,7 @@ fn replay_script(
     text: &[u8],
     accepted: &Accepted,
     script: &[u8],
-) -> Result<Report, AllocError>
+) -> Result<JobReport, AllocError>
     ensures { IfOk result (λ report. report ≡ script_report emit units until text.now script.now accepted.now.program) }
 {
     match read(alloc, script, accepted.program()) {
@@ -102,7 +102,7 @@ fn replay_events(
     text: &[u8],
     accepted: &Accepted,
     events: &[Event],
-) -> Result<Report, AllocError>
+) -> Result<JobReport, AllocError>
     ensures { IfOk result (λ report. report ≡ events_report emit units text.now accepted.now.program events.now) }
 {
     match form_of(emit) {
@@ -119,11 +119,11 @@ fn trace_report(
     text: &[u8],
     accepted: &Accepted,
     events: &[Event],
-) -> Result<Report, AllocError>
+) -> Result<JobReport, AllocError>
     ensures { IfOk result (λ report. report ≡ events_report emit.Trace units text.now accepted.now.program events.now) }
 {
     let (trace, standing) = trace_and_standing(alloc, accepted, units.get(), text, events)?;
-    Ok(Report::new(trace.into_bytes(), standing_status_of(standing)))
+    Ok(JobReport::new(trace.into_bytes(), standing_status_of(standing)))
 }
 
 // The trace of the events in JSON: an object on each line.
@@ -133,12 +133,12 @@ fn lines_report(
     text: &[u8],
     accepted: &Accepted,
     events: &[Event],
-) -> Result<Report, AllocError>
+) -> Result<JobReport, AllocError>
     ensures { IfOk result (λ report. report ≡ events_report emit.Json units text.now accepted.now.program events.now) }
 {
     let last = LastLine::AsItStands;
     let (lines, standing) = lines_and_standing(alloc, accepted, units.get(), text, events, last)?;
-    Ok(Report::new(lines.into_bytes(), standing_status_of(standing)))
+    Ok(JobReport::new(lines.into_bytes(), standing_status_of(standing)))
 }
 
 // What is written of the machine that the events leave.
@@ -149,13 +149,13 @@ fn machine_report(
     text: &[u8],
     accepted: &Accepted,
     events: &[Event],
-) -> Result<Report, AllocError>
+) -> Result<JobReport, AllocError>
     ensures { IfOk result (λ report. report ≡ events_report (machine_emit form) units text.now accepted.now.program events.now) }
 {
     let mut machine = machine_of(alloc, units, accepted)?;
     let answers = play_events(alloc, &mut machine, events)?;
     let bytes = bytes_of(alloc, units, form, text, accepted, &machine, &answers)?;
-    Ok(Report::new(bytes, standing_status_of(machine.outcome())))
+    Ok(JobReport::new(bytes, standing_status_of(machine.outcome())))
 }
 
 // What is written of a machine after the events of a script, to which it answered so.

@@ -29,7 +29,7 @@ use jobs::ranges::Units;
 use mark_checker::accept::Accepted;
 use report_texts::judging::{Judged, judge};
 use report_texts::plain_text::write_words;
-use report_texts::report::Report;
+use report_texts::report::JobReport;
 use run_picture::events::single_events;
 use std::alloc::{AllocError, Global};
 use std::sync::Wait;
@@ -54,7 +54,7 @@ pub fn run<R: Threads + Wait + Sync>(
     emit: RunEmit,
     source: CertificateSource,
     texts: &Texts,
-) -> Result<Report, ServeFault>
+) -> Result<JobReport, ServeFault>
     ensures report { IfOk result (λ report. OfCertificate source texts.now.program.items texts.now.certificate (λ certificate.
         IsRunText extent.schedule extent.units extent.budget predict.now emit texts.now.program.items certificate report)) }
     ensures fault { result ≢ Err ServeFault.Write }
@@ -78,7 +78,7 @@ fn run_accepted<R: Threads + Wait + Sync>(
     emit: RunEmit,
     text: &[u8],
     accepted: &Accepted,
-) -> Result<Report, ServeFault>
+) -> Result<JobReport, ServeFault>
     ensures report { IfOk result (λ report. IsRunReport extent.schedule extent.units extent.budget predict.now emit text.now accepted.now.program report) }
     ensures fault { result ≢ Err ServeFault.Write }
     ensures own { result ≢ Err ServeFault.Foreign }
@@ -96,7 +96,7 @@ pub(crate) fn report_of_run(
     ran: &Ran<'_>,
     text: &[u8],
     accepted: &Accepted,
-) -> Result<Report, AllocError>
+) -> Result<JobReport, AllocError>
     requires over { ran.now.machine.accepted ≡ accepted.now }
     requires units { (units_of ran.now.machine ≤ 16) × (units_of ran.now.machine ≡ units) }
     ensures bytes { IfOk result (λ report. IsWrittenOf emit units predict.now text.now accepted.now.program (run_of ran.now) report.bytes) }
@@ -124,7 +124,7 @@ pub(crate) fn report_of_run(
         RunEmit::Waveform => waveform_of(alloc, units, ran, accepted)?,
         RunEmit::Timeline => timeline(alloc, units, ran, accepted)?,
     };
-    Ok(Report::new(bytes, ending_status_of(ran)))
+    Ok(JobReport::new(bytes, ending_status_of(ran)))
 }
 
 // The output words, and how the run ended.

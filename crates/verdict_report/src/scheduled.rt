@@ -17,7 +17,7 @@ use threaded_runner::gate::Open;
 use threaded_runner::report::{How, Report, RunFault};
 use threaded_runner::runner::run_workers;
 use unit_turns::predictor::Predictor;
-use unit_turns::report::{How as StepsHow, StepsFault, StepsReport};
+use unit_turns::report::{StepsEnd, StepsFault, StepsReport};
 use unit_turns::runner::run_steps;
 
 /// Runs an accepted program as the schedule and the predictor say that are asked for.
@@ -158,12 +158,12 @@ pub(crate) fn run_in_steps<'a>(
 }
 
 // How a run in steps ended.
-fn ended_as(how: StepsHow) -> How
+fn ended_as(how: StepsEnd) -> How
     ensures { result ≡ ended_as how }
 {
     match how {
-        StepsHow::Ended => How::Ended,
-        StepsHow::OutOfBudget => How::OutOfBudget,
+        StepsEnd::Ended => How::Ended,
+        StepsEnd::OutOfBudget => How::OutOfBudget,
     }
 }
 

@@ -20,7 +20,7 @@ use jobs::job::{Colors, Format, Job, Texts};
 use report_texts::annotating::annotate;
 use report_texts::checking::check;
 use report_texts::printing::print;
-use report_texts::report::Report;
+use report_texts::report::JobReport;
 use report_texts::sequential::seq;
 use std::alloc::{AllocError, Global};
 use std::io::Write;
@@ -30,7 +30,7 @@ use strict_replay::replaying::replay_strictly;
 
 /// Does a job: builds its text whole, writes it, and answers the status of the program, 0 to 3. Want of
 /// memory may come at any point; nothing is written then. Where the writer fails, what went out is a
-/// beginning of the text. `check` and `run` make threads. (own choice)
+/// beginning of the text. `check` and `run` make threads.
 pub fn serve<W: Write, R: Threads + Wait + Sync>(
     rt: &R,
     alloc: Global,
@@ -52,7 +52,7 @@ pub fn serve<W: Write, R: Threads + Wait + Sync>(
 }
 
 /// What a job writes, as `serve` writes it; on the way `errors` hears how far it is: of `curve` of each run when it is
-/// done, of the program of this name. Once that can't be said, it is not tried again, and the job goes on. (own choice)
+/// done, of the program of this name. Once that can't be said, it is not tried again, and the job goes on.
 pub fn report_told<E: Write, R: Threads + Wait + Sync>(
     rt: &R,
     alloc: Global,
@@ -102,7 +102,7 @@ fn report_of<R: Threads + Wait + Sync>(
     alloc: Global,
     job: &Job,
     texts: &Texts,
-) -> Result<Report, ServeFault>
+) -> Result<JobReport, ServeFault>
     ensures report { IfOk result (λ report. IsReportOf job.now texts.now report) }
     ensures fault { result ≢ Err ServeFault.Write }
     ensures own { result ≢ Err ServeFault.Foreign }
@@ -190,7 +190,7 @@ pub fn explain_in(
     warnings: bool,
     colors: Colors,
     texts: &Texts,
-) -> Result<Report, AllocError>
+) -> Result<JobReport, AllocError>
     ensures { IfOk result (λ report. IsExplainedIn format name.now (option_map string_bytes certificate.now)
         (option_map string_bytes script.now) warnings colors
         texts.now.program.items texts.now.certificate texts.now.script.items report) }

@@ -1,4 +1,4 @@
--- The three kinds of reasons (own choice), and how many waits there are of each.
+-- The three kinds of reasons, and how many waits there are of each.
 use Rattle.std.specs.Prelude.{ℕ, ◌+◌, Bool, true, false, not, if◌then◌else◌, List, [], ◌∷◌}
 use Rattle.unit_waits.specs.declared.waiting.Reason.{Reason}
 use Rattle.unit_waits.specs.declared.waiting.Reason.TheVariants.{NeedsRegister, NeedsHead, HasToPass, HasFinished}

@@ -1,4 +1,4 @@
--- The table of waits (own choice): a heading, a row for the waits of one task, at one place and for one reason,
+-- The table of waits: a heading, a row for the waits of one task, at one place and for one reason,
 -- the most frequent first, a row for each kind of reason, and a row for all.
 use Rattle.std.specs.Prelude.{ℕ, List, [], ◌∷◌, ◌++◌, Bool, true, false, flat_map, slice_get, codes}
 use Rattle.std.specs.Fmt.{decimal}

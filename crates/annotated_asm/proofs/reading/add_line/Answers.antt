@@ -4,7 +4,7 @@ use Rattle.std.proofs.lemmas.List.Elements.{All-drop}
 use Rattle.std.proofs.Common.{◌<◌, ◌+◌, ◌^◌, subst, ◌≡◌, ◌∙◌, sym, ap, refl, List, drop, Result, Ok}
 use Rattle.program_tokens.specs.Grammar.{line_tokens}
 use Rattle.program_tokens.specs.declared.token.Token.{Token}
-use Rattle.program_tokens.specs.declared.span.Span.{Span}
+use Rattle.program_tokens.specs.declared.span.TokenSpan.{TokenSpan}
 use Rattle.program_statements.specs.declared.statement.Section.{Section}
 use Rattle.annotated_asm.specs.Items.{tokens_on_line}
 use Rattle.annotated_asm.specs.declared.fault.AsmFault.{AsmFault}
@@ -15,11 +15,11 @@ use Rattle.annotated_asm.proofs.reading.add_line.Goals as goal
 
 pub add_statement-requires : goal.add_statement-requires
 add_statement-requires c =
-    let ends : List Span → Type 0 = λ ss. All (λ (span : Span). span.column + span.len < 2 ^ 64) ss in
+    let ends : List TokenSpan → Type 0 = λ ss. All (λ (span : TokenSpan). span.column + span.len < 2 ^ 64) ss in
     let spans = c.read_places.new.spans.items in
     let number = c.in_ok-rest.number in
-    let is_own : c.behind-spans.result.now ≡ drop number spans = c.behind-spans.ensures ∙ ap (λ (ss : List Span). drop number ss) c.deref-3.ensures.value in
-    subst ends (sym is_own) (All-drop (λ (span : Span). span.column + span.len < 2 ^ 64) number spans c.in_ok-read_places.ensures.ends)
+    let is_own : c.behind-spans.result.now ≡ drop number spans = c.behind-spans.ensures ∙ ap (λ (ss : List TokenSpan). drop number ss) c.deref-3.ensures.value in
+    subst ends (sym is_own) (All-drop (λ (span : TokenSpan). span.column + span.len < 2 ^ 64) number spans c.in_ok-read_places.ensures.ends)
 
 pub returns : goal.returns
 returns c =
@@ -36,7 +36,7 @@ returns c =
     let labels = label_sources n spans 0 tokens in
     let read : tokens_on_line n (line_tokens c.args.text.now) ≡ Ok tokens =
     c.in_ok-tokens_of.ensures ∙ ap (λ (ts : List Token). let made : Result (List Token) AsmFault = Ok ts in made) (sym c.deref-2.ensures.value) in
-    let is_own : own ≡ drop number spans = c.behind-spans.ensures ∙ ap (λ (ss : List Span). drop number ss) (c.deref-3.ensures.value ∙ sym c.deref.ensures.value) in
+    let is_own : own ≡ drop number spans = c.behind-spans.ensures ∙ ap (λ (ss : List TokenSpan). drop number ss) (c.deref-3.ensures.value ∙ sym c.deref.ensures.value) in
     let added : last ≡ with_statement (with_labels front labels) n own rest here said =
     c.in_ok-add_statement.ensures
     ∙ ap (λ (ls : List LabelSource). let next : Sources = record front { labels = ls } in with_statement next n own rest here said) c.in_ok-rest.ensures.added in

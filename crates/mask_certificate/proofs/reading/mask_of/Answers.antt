@@ -3,7 +3,7 @@ use Rattle.std.proofs.Common.{◌≡◌, ◌^◌, ◌≤◌, ℕ, List, false, t
 use Rattle.std.specs.List.{list_all}
 use Rattle.std.specs.Str.Parse.{digits_value_after}
 use Rattle.std.proofs.lemmas.List.{take_all}
-use Rattle.mask_certificate.specs.declared.fault.Spelling.TheVariants.{Narrow}
+use Rattle.mask_certificate.specs.declared.fault.MaskSpelling.TheVariants.{Narrow}
 use Rattle.mask_certificate.specs.CertificateText.{mask_digits}
 use Rattle.mask_certificate.specs.CertificateReading.{is_mask_digit}
 use Rattle.mask_certificate.proofs.Digits.{mask_done, from_bits_is}

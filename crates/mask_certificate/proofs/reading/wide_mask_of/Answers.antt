@@ -3,7 +3,7 @@ use Rattle.std.proofs.Common.{◌≡◌, ◌-◌, ◌^◌, ◌≤◌, ℕ, List,
 use Rattle.std.specs.List.{list_all}
 use Rattle.std.specs.Str.Parse.{digits_value, digits_value_after}
 use Rattle.std.proofs.lemmas.List.{take_all, take_rest, length-drop}
-use Rattle.mask_certificate.specs.declared.fault.Spelling.TheVariants.{Wide}
+use Rattle.mask_certificate.specs.declared.fault.MaskSpelling.TheVariants.{Wide}
 use Rattle.mask_certificate.specs.CertificateReading.{is_mask_digit}
 use Rattle.mask_certificate.proofs.Digits.{mask_done, from_bits_is, wide_value, wide_none, wide_other}
 use Rattle.mask_certificate.proofs.reading.wide_mask_of.Goals as goal

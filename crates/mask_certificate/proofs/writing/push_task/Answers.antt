@@ -1,6 +1,6 @@
 -- One entry more is written.
 use Rattle.std.proofs.Common.{List, ℕ, ◌++◌, ap, ◌∙◌}
-use Rattle.mask_certificate.specs.declared.fault.Spelling.TheVariants.{Wide}
+use Rattle.mask_certificate.specs.declared.fault.MaskSpelling.TheVariants.{Wide}
 use Rattle.mask_certificate.specs.CertificateText.{entry_text}
 use Rattle.mask_certificate.proofs.WriteLemmas.{task_more}
 use Rattle.mask_certificate.proofs.writing.push_task.Goals as goal

@@ -1,6 +1,6 @@
 -- The entries written so far stand behind the `task` line.
 use Rattle.std.proofs.Common.{◌≡◌, ◌++◌, take}
-use Rattle.mask_certificate.specs.declared.fault.Spelling.TheVariants.{Wide}
+use Rattle.mask_certificate.specs.declared.fault.MaskSpelling.TheVariants.{Wide}
 use Rattle.mask_certificate.specs.CertificateText.{task_text}
 use Rattle.mask_certificate.proofs.writing.push_task.Given as goal
 

@@ -1,6 +1,6 @@
 -- What is written and the tasks to come are the text.
 use Rattle.std.proofs.Common.{◌≡◌, ◌++◌, drop}
-use Rattle.mask_certificate.specs.declared.fault.Spelling.TheVariants.{Wide}
+use Rattle.mask_certificate.specs.declared.fault.MaskSpelling.TheVariants.{Wide}
 use Rattle.mask_certificate.specs.CertificateText.{tasks_text, cert_text}
 use Rattle.mask_certificate.specs.CertificateReading.{names_in, names_of}
 use Rattle.mask_certificate.proofs.writing.write.Given as goal
