@@ -20,6 +20,8 @@ def run(words, files):
         paths.append(p)
     r = ending.run([PROG, words[0], *paths, *words[1:]], capture_output=True)
     return r.stdout.decode('latin-1'), r.returncode, r.stderr.decode('latin-1')
+# The name of the program that `run` runs.
+NAME = 'f0'
 def known(sub): return subprocess.run([PROG, sub, '--help'], capture_output=True).returncode == 0
 # A program whose help says so writes a trace as lines of JSON, too.
 TRACES = ['trace'] + ['json'] * ('json' in subprocess.run([PROG, 'replay', '--help'], capture_output=True, text=True).stdout)
@@ -50,11 +52,11 @@ def model(words, files, got):
     if w == 'annotate': return annotate_text(f[0], opt.get('--emit', 'text'))
     if w == 'replay':
         until = int(opt['--until']) if '--until' in opt else None
-        return replay_text(*f, int(opt.get('--units', 4)), opt.get('--emit', 'answers'), until)
+        return replay_text(*f, int(opt.get('--units', 4)), opt.get('--emit', 'answers'), until, NAME)
     if w == 'run' and opt.get('--schedule') == 'steps':
-        return steps_text(f[0], f[1], int(opt['--units']), int(opt['--budget']), opt['--predict'], opt['--emit'])
+        return steps_text(f[0], f[1], int(opt['--units']), int(opt['--budget']), opt['--predict'], opt['--emit'], NAME)
     if w == 'run' and opt.get('--emit') in TRACES:
-        said, statuses = traced_run(f[0], f[1], int(opt['--units']), got[0])
+        said, statuses = traced_run(f[0], f[1], int(opt['--units']), got[0], NAME)
         return said, got[1] if got[1] in statuses else max(statuses, default=-1)
     if w == 'run': return run_text(f[0], f[1])
 found = collections.Counter(); nfound = 0

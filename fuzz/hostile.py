@@ -239,9 +239,10 @@ def wanted(words, texts):
         return wanted(files, given, "no-warnings" in options)
     if name == "curve":
         return wanted_curve(options, given)
+    called = "" if files[0] == "-" else files[0]
     if name == "replay":
-        return wanted_replay(options, given)
-    return wanted_run(options, given)
+        return wanted_replay(options, given, called)
+    return wanted_run(options, given, called)
 
 
 def wanted_of_several(name, options, files, held):
@@ -354,12 +355,12 @@ def is_picture(out, script, units):
         return False
 
 
-def wanted_replay(options, given):
-    """What `replay` writes; a picture is that of the events that were allowed."""
+def wanted_replay(options, given, name):
+    """What `replay` writes of a program of this name; a picture is that of the events that were allowed."""
     units, emit = int(options.get("units", 4)), options.get("emit", "answers")
     program, _ = accepted_program(*given[:2])
     if emit != "svg" or not program:
-        return replay_text(*given, units, emit)
+        return replay_text(*given, units, emit, name=name)
     try:
         script, stands = allowed_script(program, given[2], units)
     except ScriptFault as fault:
@@ -367,19 +368,19 @@ def wanted_replay(options, given):
     return lambda out, status: status == stands and is_picture(out, script, units)
 
 
-def wanted_run(options, given):
-    """A run in steps is known; one of threads ends as one unit does, if its budget allows, and its script is replayed by the model."""
+def wanted_run(options, given, name):
+    """Of a program of this name a run in steps is known; one of threads ends as one unit does, if its budget allows, and its script is replayed by the model."""
     units, budget, emit = int(options.get("units", 4)), int(options.get("budget", 1000000)), options.get("emit", "report")
     program, said = accepted_program(*given)
     if not program:
         return said, 1
     if options.get("schedule") == "steps":
-        return wanted_steps(Steps(program, units, budget, options.get("predict", "first"), MODEL_EVENTS), units, emit)
+        return wanted_steps(Steps(program, units, budget, options.get("predict", "first"), MODEL_EVENTS), units, emit, name)
     one = run_text(*given, MODEL_EVENTS)
 
     def fits(out, status):
         if emit in ("trace", "json"):
-            told, statuses = traced_run(*given, units, out)
+            told, statuses = traced_run(*given, units, out, name)
             return out == told and status in statuses and (status == 3 or one[1] in (status, 3))
         if emit in ("summary", "svg"):
             return status in (one[1], 3) and (is_summary(out, one, status) if emit == "summary" else is_well_formed(out))
@@ -411,13 +412,13 @@ def is_well_formed(out):
         return False
 
 
-def wanted_steps(run, units, emit):
-    """What a run in steps writes, unless the model gave it up."""
+def wanted_steps(run, units, emit, name):
+    """What a run in steps of a program of this name writes, unless the model gave it up."""
     if not run.over():
         return lambda out, status: status in (0, 1, 3)
     if emit == "svg":
         return lambda out, status: status == run.status() and is_picture(out, run.script(), units)
-    return {"report": run.report, "script": run.script, "summary": run.summary, "trace": run.trace, "json": run.json}[emit](), run.status()
+    return {"report": run.report, "script": run.script, "summary": run.summary, "trace": run.trace, "json": lambda: run.json(name)}[emit](), run.status()
 
 
 def allowed_seconds(words, out):

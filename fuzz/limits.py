@@ -6,10 +6,12 @@
 A certificate of 134,217,728 bytes is judged and one of a byte more is not, by `check` with one worker and four, by
 `explain`, by `run` and by `replay`; so with an event script. Certificates and scripts without end are refused within the memory
 of the limit. The other texts are those that were found to take the most memory: as many labels, targets or numbers
-as a program text can name, and as many entries, events and answers as the longest files give; and the longest runs, by
+as a program text can name, and as many entries, events and answers as the longest files give; the most tasks that each go through the
+most instructions, with every register in their create masks, and in those of a certificate; and the longest runs, by
 threads and in steps, with each `--emit`, and traces whose events say as much as they can. Of each run the
 greatest memory is compared with BOUNDS, which README.md counts from the limits. The script ends with status 1 where
-an answer or the memory is another, and says the seconds, which depend on the machine. Needs python3, Linux, 400 MB
+an answer or the memory is another, and says the seconds, which depend on the machine; those of hostile masks may be a
+second of the processor, and one for each 30 MB that are read and written. Needs python3, Linux, 400 MB
 in the temporary folder and 3 GB of memory, 5 where the program writes JSON; it is no part of the tests.
 """
 import argparse
@@ -42,7 +44,11 @@ EMITS = ("report", "script", "summary", "svg", "trace")
 # How much more than the limit a file without end may take.
 ENDLESS = (FILE_LIMIT + 16_000_000) / 1e6
 
-Ended = collections.namedtuple("Ended", "status out told memory seconds")
+Ended = collections.namedtuple("Ended", "status out told memory seconds processor written")
+
+# The most tasks and instructions of a program, each register that a mask can name, and the mask of all of them.
+TASKS, INSTRUCTIONS = 1024, 4096
+EVERY, FULL = ",".join(f"${r}" for r in range(1, 34)), "00000003fffffffe"
 
 
 def bound_of(subcommand, emit):
@@ -66,7 +72,8 @@ def ran(program, words, folder):
     _, status, usage = os.wait4(process, 0)
     with open(out, "rb") as file:
         first = file.read(200)
-    return Ended(os.waitstatus_to_exitcode(status), first, told.read_bytes(), usage.ru_maxrss * 1024 / 1e6, time.monotonic() - begin)
+    return Ended(os.waitstatus_to_exitcode(status), first, told.read_bytes(), usage.ru_maxrss * 1024 / 1e6, time.monotonic() - begin,
+                 usage.ru_utime + usage.ru_stime, out.stat().st_size)
 
 
 def filled(path, head, line, longer, size):
@@ -136,6 +143,72 @@ def accepted_labels(folder, labels):
     yield kind, ["curve", "--least", "--budget", "10", path], 3, b"units ", BOUNDS["curve"]
 
 
+def writes(index):
+    """An instruction that writes one register; 33 in a row write every one."""
+    register = index % 33 + 1
+    return {32: "mthi $1", 33: "mtlo $1"}.get(register, f"addiu ${register},${register},1")
+
+
+def through(create, instruction, tasks=TASKS):
+    """A program of so many tasks with this create mask, of which each goes through all of the most instructions, over and over, and
+    may go on to the next task."""
+    marks = "".join(f".task T{k} create={create} targets=T{(k + 1) % tasks}\n" for k in range(tasks))
+    body = "".join((f"T{k // 4}: " if k % 4 == 0 and k < 4 * tasks else "") + f"{instruction(k)}\n" for k in range(INSTRUCTIONS - 2))
+    return f"{marks}{body}bne $8,$0,T0\njr $31 !s\n"
+
+
+def full(path, tasks=TASKS):
+    """A certificate of such a program, with every register in the mask of each instruction."""
+    entries = "".join(f"{k} {FULL}\n" for k in range(INSTRUCTIONS))
+    path.write_text("cert 2\n" + "".join(f"task T{k}\n{entries}" for k in range(tasks)))
+
+
+# Programs whose tasks go through each other: what their create masks are and their instructions, what is found, what `explain` says
+# first, the create masks that are right, and the masks of the least certificate.
+BUT_ONE = EVERY.removeprefix("$1,")
+EARLY = b":1025:5: error: task T0 forwards $1 here and may write it again "
+MASKS = {
+    "every register in each mask": (EVERY, writes, b"", b"", EVERY, FULL),
+    "every register in each mask, none of them written": (EVERY, lambda k: "nop", b"", b":1:10: warning: the create mask of task T0 has $1,", "-", "0" * 16),
+    "every register in each mask and release": (EVERY, lambda k: f"release {EVERY}", b"", b":1026:1: warning: $1,", EVERY, "0" * 16),
+    "every register in each mask, all but one in each release": (EVERY, lambda k: f"release {BUT_ONE}", b"", b":1:10: warning: the create mask of task T0 has $1, which ", BUT_ONE, "0" * 16),
+    "every register in each mask, forwarded too early": (EVERY, lambda k: f"{writes(k)} !f", b"T0 0 rule 6 $1\nT0 1 rule 6 $2\n", EARLY, EVERY, FULL),
+    "no register in any mask": ("-", writes, b"T0 0 rule 5 $1\nT0 0 rule 5 $2\n", b":1:10: error: the create mask of task T0 lacks $1,", EVERY, FULL),
+}
+
+
+def masks(folder):
+    """Programs with hostile create masks, and certificates with every register in each mask."""
+    path, cert = folder / "masks.s", folder / "masks.cert2"
+    full(cert)
+    accepted = f"accepted {TASKS} tasks {INSTRUCTIONS} instructions\n".encode()
+    for kind, (create, instruction, found, said, right, mask) in MASKS.items():
+        path.write_text(through(create, instruction))
+        status = 1 if found else 0
+        yield kind, ["check", "--least", path], status, found or accepted, BOUNDS["check"], path
+        said = said and bytes(path) + said
+        yield kind, ["explain", path], status, said, BOUNDS["explain"], path
+        yield kind, ["annotate", "--emit", "marks", path], 0, f".task T0 create={right} targets=T1\n".encode(), BOUNDS["annotate"], path
+        yield kind, ["annotate", "--emit", "keep", path], 0, f"cert 2\ntask T0\n0 {mask}\n1 {mask}\n".encode(), BOUNDS["annotate"], path
+        if "release" not in kind:
+            for workers in ("1", "4"):
+                yield kind, ["check", path, cert, "--workers", workers], status, found or accepted, BOUNDS["check"], path, cert
+            yield kind, ["explain", path, "--certificate", cert], status, said, BOUNDS["check"], path, cert
+    yield from large_masks(path, cert)
+    cert.unlink()
+
+
+def large_masks(path, cert):
+    """Right marks, and a certificate whose masks are too large: a finding for every register of every mask."""
+    kind, tasks = "every mask of a certificate too large", 32
+    path.write_text(through(EVERY, lambda k: f"release {EVERY}", tasks))
+    full(cert, tasks)
+    # 32 tasks of 4,094 releases, each of 33 registers: findings of 12 bytes
+    bound = BOUNDS["check"] + 12 * tasks * (INSTRUCTIONS - 2) * 33 / 1e6
+    yield kind, ["check", path, cert], 1, b"T0 0 rule 7 $1\nT0 0 rule 7 $2\n", bound, path, cert
+    yield kind, ["explain", path, "--no-warnings", "--certificate", cert], 1, bytes(cert) + b": error: the marks are right; a mask in this certificate is too large", bound, path, cert
+
+
 def certificates(folder):
     """Certificates at the limit and a byte above, and without end."""
     program, path = COUNT / "program.s", folder / "limit.cert2"
@@ -176,7 +249,7 @@ def scripts(folder, traces):
     yield "the script of the most events", [*words, "--emit", "summary"], 0, b"assigned  retired ", BOUNDS["replay"]
     yield "the script of the most events", [*words, "--emit", "svg"], 0, b"<svg ", BOUNDS["replay"]
     for emit in traces:
-        first = b"1 fault: refused 3 NoSuch\n" if emit == "trace" else b'{"format":"multiscalar-trace","version":1,"units":4,"instructions":6}\n{"event":1,"kind":"fault","answer":"refused","code":3,"name":"NoSuch","changes":[]}\n'
+        first = b"1 fault: refused 3 NoSuch\n" if emit == "trace" else b'{"format":"multiscalar-trace","version":1,"program_name":"program.s","units":4,"instructions":6}\n{"event":1,"kind":"fault","answer":"refused","code":3,"name":"NoSuch","changes":[]}\n'
         yield "the script of the most events", [*words, "--emit", emit], 0, first, bound_of("replay", emit)
     script(path, FILE_LIMIT + 1)
     yield "a script of one byte more", words, 2, path, ENDLESS
@@ -194,16 +267,16 @@ def scripts(folder, traces):
 
 
 # How a trace begins whose first task is S, and how one in JSON begins.
-FIRST_OF = {"trace": b"1 assign S: ok\n", "json": b'{"format":"multiscalar-trace","version":1,"units":4,"instructions":'}
+FIRST_OF = {"trace": b"1 assign S: ok\n", "json": b'{"format":"multiscalar-trace","version":1,"program_name":"sends.s",'}
 
 
 def sends(tasks, name):
     """A program of so many tasks, of which each sends all registers at once."""
-    every, names = ",".join(f"${r}" for r in range(1, 34)), [name.format(k) for k in range(tasks)]
-    marks = "".join(f".task {it} create={every} targets={names[(k + 1) % tasks]}\n" for k, it in enumerate(names))
+    names = [name.format(k) for k in range(tasks)]
+    marks = "".join(f".task {it} create={EVERY} targets={names[(k + 1) % tasks]}\n" for k, it in enumerate(names))
     first = "S: li $1,-1 !f\nmthi $1 !f\nmtlo $1 !f\n" + "".join(f"li ${r},-1 !f\n" for r in range(2, 32)) + f"j {names[0]} !s\n"
-    body = "".join(f"{it}: release {every} !s\n" for it in names[:-1]) + f"{names[-1]}: release {every}\nj {names[0]} !s\n"
-    return f".start S\n.task S create={every} targets={names[0]}\n{marks}{first}{body}"
+    body = "".join(f"{it}: release {EVERY} !s\n" for it in names[:-1]) + f"{names[-1]}: release {EVERY}\nj {names[0]} !s\n"
+    return f".start S\n.task S create={EVERY} targets={names[0]}\n{marks}{first}{body}"
 
 
 def events_of_sends(tasks):
@@ -220,9 +293,8 @@ def events_of_sends(tasks):
 
 def arrivals():
     """A program whose first task sends all registers; they arrive at each task after it."""
-    every = ",".join(f"${r}" for r in range(1, 34))
     first = "S: li $1,-1 !f\nmthi $1 !f\nmtlo $1 !f\n" + "".join(f"li ${r},-1 !f\n" for r in range(2, 32)) + "j T !s\n"
-    return f".start S\n.task S create={every} targets=T\n.task T create=- targets=T\n{first}T: j T !s\n"
+    return f".start S\n.task S create={EVERY} targets=T\n.task T create=- targets=T\n{first}T: j T !s\n"
 
 
 def events_of_arrivals():
@@ -266,16 +338,19 @@ def many_tasks(folder, traces):
         yield "the most tasks, in steps", ["run", program, "--least", "--schedule", "steps", "--units", "16", "--emit", emit], 3, None, bound
 
 
-def faults_of(ended, status, answer, bound, reason=""):
-    """What is wrong with a run. The answer is how standard output begins, or the file that is refused, or left open."""
+def faults_of(ended, status, answer, bound, reason="", timed=()):
+    """What is wrong with a run. The answer is how standard output begins, empty where it is, or the file that is refused, or left open; it may take
+    a second, and one for each 30 MB, if it is given the files that it reads."""
     if isinstance(answer, (str, pathlib.Path)):
         right = (ended.out, ended.told) == (b"", f"multiscalar: file {answer}{reason}\n".encode())
     else:
-        right = answer is None or (ended.out.startswith(answer) and ended.told == b"")
+        right = answer is None or (ended.out[:len(answer) or None] == answer and ended.told == b"")
     if ended.status != status or not right:
         yield f"status {ended.status}, {ended.out[:60]}, {ended.told[:60]}"
     if ended.memory > bound:
         yield f"{ended.memory:.0f} MB"
+    if timed and ended.processor > max(1, (ended.written + sum(path.stat().st_size for path in timed)) / 30e6):
+        yield f"{ended.processor:.1f} s of the processor"
 
 
 def measured(program, only=""):
@@ -283,13 +358,14 @@ def measured(program, only=""):
     rows, traces = {}, ("trace", "json") if writes_json(program) else ("trace",)
     with tempfile.TemporaryDirectory(prefix="multiscalar-limits-") as name:
         folder = pathlib.Path(name)
-        for kind, words, status, answer, bound in itertools.chain(programs(folder), certificates(folder), scripts(folder, traces), runs(folder, traces)):
+        every = itertools.chain(programs(folder), masks(folder), certificates(folder), scripts(folder, traces), runs(folder, traces))
+        for kind, words, status, answer, bound, *timed in every:
             if only not in f"{kind} {words[0]}":
                 continue
             ended = ran(program, [str(word) for word in words], folder)
             row = rows.setdefault((words[0], kind), [0, 0, 0, bound, []])
             row[0], row[1], row[2] = row[0] + 1, max(row[1], ended.memory), max(row[2], ended.seconds)
-            row[4] += [f"{' '.join(map(str, words))}: {fault}" for fault in faults_of(ended, status, answer, bound, ": longer than 134217728 bytes" if words[0] == "explain" else "")]
+            row[4] += [f"{' '.join(map(str, words))}: {fault}" for fault in faults_of(ended, status, answer, bound, ": longer than 134217728 bytes" if words[0] == "explain" else "", timed)]
     return rows
 
 

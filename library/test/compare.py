@@ -1,6 +1,9 @@
 """The library's bytes and statuses beside the program's: each job over all examples, and a few over random texts.
 
     compare.py PROGRAM TEXTS
+
+Where what is written may name the program, the program reads it from standard input, which has no name: so does the
+library, to which no file belongs.
 """
 
 import random
@@ -31,8 +34,8 @@ class Comparison:
     def __init__(self):
         self.same, self.differing = 0, 0
 
-    def compare(self, words, report):
-        done = subprocess.run([PROGRAM, *map(str, words)], capture_output=True)
+    def compare(self, words, report, text=b""):
+        done = subprocess.run([PROGRAM, *map(str, words)], input=text, capture_output=True)
         if (done.returncode, done.stdout) == (report.status, report.data):
             self.same += 1
         else:
@@ -57,8 +60,8 @@ class Comparison:
         for units in (1, 3, 16):
             for word, prediction in PREDICTIONS.items():
                 for emit, name in emits("run"):
-                    words = ["run", "--least", "--schedule", "steps", "--units", units, "--predict", word, "--budget", 2000, "--emit", *name.split(), file]
-                    self.compare(words, multiscalar.run_in_steps(text, units=units, budget=2000, prediction=prediction, emit=emit))
+                    words = ["run", "--least", "--schedule", "steps", "--units", units, "--predict", word, "--budget", 2000, "--emit", *name.split(), "-"]
+                    self.compare(words, multiscalar.run_in_steps(text, units=units, budget=2000, prediction=prediction, emit=emit), text)
         for emit, name in emits("curve"):
             self.compare(["curve", "--least", "--units", 6, "--budget", 2000, "--emit", name, file], multiscalar.curve(text, units=6, budget=2000, emit=emit))
 
@@ -66,11 +69,12 @@ class Comparison:
         """By a certificate, or by the least one."""
         text = None if certificate is None else certificate.read_bytes()
         given = ["--least"] if certificate is None else []
-        files = [file, script] if certificate is None else [file, certificate, script]
+        others = [script] if certificate is None else [certificate, script]
+        program = file.read_bytes()
         for emit, name in emits("replay"):
-            report = multiscalar.replay(file.read_bytes(), script.read_bytes(), text, emit=emit)
-            self.compare(["replay", *given, "--units", 4, "--emit", name, *files], report)
-        self.compare(["replay", "--strict", *given, *files], multiscalar.replay_strictly(file.read_bytes(), script.read_bytes(), text))
+            report = multiscalar.replay(program, script.read_bytes(), text, emit=emit)
+            self.compare(["replay", *given, "--units", 4, "--emit", name, "-", *others], report, program)
+        self.compare(["replay", "--strict", *given, file, *others], multiscalar.replay_strictly(program, script.read_bytes(), text))
 
     def certify(self, file, certificate):
         self.compare(["check", file, certificate], multiscalar.check(file.read_bytes(), certificate.read_bytes()))

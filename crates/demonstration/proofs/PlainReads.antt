@@ -19,7 +19,7 @@ at_most_one Running i s = omega arith
 at_most_one Halted i s = omega arith
 at_most_one (Trapped trap) i s = omega arith
 
--- so many steps read at most as often
+-- `n` steps read at most `n` times
 pub few_reads : (i : Input) (n : ℕ) → length (reads i n) ≤ n
 few_reads i zero = omega (arith, ap (λ (xs : List Read). length xs) (reads_zero i))
 few_reads i (suc n) =

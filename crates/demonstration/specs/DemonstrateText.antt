@@ -31,7 +31,7 @@ nothing_found_text units steps =
     codes "no run found on up to " ++ (decimal units ++ (codes " units, of up to " ++ (decimal steps
     ++ (codes " events; explain says which annotations are wrong" ++ 10 ∷ []))))
 
--- none of the runs that were tried shows anything: what is said names the checker's first finding
+-- none of the runs that were tried shows anything: the report names the checker's first finding
 pub record FindsNothing (units steps : ℕ) (p : Listing) (places : List Position) (report : Report) : Type 0 where
   pub first : List ShownFinding
   pub more : ℕ
@@ -55,9 +55,9 @@ shown_text p places units events it =
 -- the run in words, or as a picture
 abbrev pub run_text : DemonstrateEmit → Listing → List Position → (units : ℕ) → List Event → Evidence → List ℕ
 run_text Events p places units events it = shown_text p places units events it
-run_text Picture p places units events it = picture_text p units events
+run_text Picture p places units events it = picture_text [] p units events
 
--- it tells of events that show something
+-- the report has events that show something
 pub record TellsOfRun (emit : DemonstrateEmit) (p : Listing) (places : List Position) (report : Report) : Type 0 where
   pub units : ℕ
   pub events : List Event

@@ -28,7 +28,7 @@ unfoldable pub last_writer : Listing → (r steps : ℕ) → Option ℕ
 last_writer p r zero = None
 last_writer p r (suc n) = if writes_in_step p r n then Some (plain_of p n).pc else last_writer p r n
 
--- the word that a register has after so many steps was written in one of them, by the instruction at this address
+-- the word that a register has after `steps` steps was written in one of them, by the instruction at this address
 pub record IsFrom (p : Listing) (r steps at : ℕ) : Type 0 where
   pub step : ℕ
   pub earlier : step < steps

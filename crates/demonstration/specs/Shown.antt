@@ -35,7 +35,7 @@ AreRight p reads = reads ≡ reads_of p (length reads)
 abbrev pub plain_read : Listing → ℕ → Option Read
 plain_read p number = slice_get (reads_of p (suc number)) number
 
--- the first of these reads that is not the plain machine's of the same number
+-- the first of these reads that is not the plain machine's read of that number
 pub record IsFirstStale (p : Listing) (reads : List Read) (number : ℕ) (read : Read) (right : Option Read) : Type 0 where
   pub is_read : slice_get reads number ≡ Some read
   pub is_right : plain_read p number ≡ right
@@ -48,8 +48,8 @@ pub record NamesItsPlace (p : Listing) (pc : ℕ) : Type 0 where
   pub is_there : fetch (input p).code pc ≡ Some op
   pub is_direct : is_indirect op ≡ false
 
--- the run has ended as unlisted behind these reads, the last of which is of an instruction that names the place
--- to which it goes; and the plain machine goes on there
+-- the run has ended as unlisted after these reads, the last of which is of an instruction that names the place to
+-- which it goes; and the plain machine goes on there
 pub record IsCutAt (p : Listing) (how : Standing) (reads : List Read) (plain : PlainState) (from at : ℕ) : Type 0 where
   pub ends : how ≡ standing.Unlisted at
   pub count : ℕ
@@ -74,7 +74,8 @@ pub record HoldsWrong (s : State) (plain : PlainState) (r word right : ℕ) : Ty
   pub is_right : plain.regs r ≡ right
   pub differs : word ≡ right → ⊥
 
--- what was read is right, so many reads, and the head has a wrong word, the plain machine having made as many steps
+-- the `number` reads so far are right, and the head has a wrong word, compared with the plain machine after `number`
+-- steps
 pub record HasStale (p : Listing) (s : State) (number r word right : ℕ) : Type 0 where
   pub is_number : length (seen s) ≡ number
   pub right_so_far : AreRight p (seen s)

@@ -48,7 +48,7 @@ pub struct CutOff {
     pub at: u32,
 }
 
-/// A word of a register that the plain machine has not, after as many instructions.
+/// A word of a register that the plain machine has not, after that many instructions.
 #[derive(Clone, Copy, Debug, PartialEq, Eq)]
 pub struct WrongWord {
     /// How many instructions were executed before.
@@ -189,8 +189,8 @@ fn seen(alloc: Global, machine: &OpenMachine<'_>) -> Result<Vec<Read>, OutOfMemo
     Ok(reads)
 }
 
-/// The plain machine after as many steps as these are reads, where it reads the same; else the first read that is
-/// not its own.
+/// The plain machine after as many steps as there are reads, if they are its own reads; else the first read that is
+/// not.
 fn compare(
     alloc: Global,
     program: &Program,
@@ -232,7 +232,7 @@ fn names_its_place(program: &Program, pc: u32) -> bool
     }
 }
 
-/// Whether a run was cut off that stands so after these reads, the plain machine being there, too.
+/// Whether a run with this outcome after these reads ended too early, given the plain machine's state.
 fn cut_off(program: &Program, standing: Standing, reads: &[Read], plain: &Plain) -> Option<CutOff>
     ensures { IfSome result (λ cut. IsCutAt program.now standing reads.now (machine_state plain.now) cut.from cut.at) }
 {
@@ -250,7 +250,7 @@ fn cut_off(program: &Program, standing: Standing, reads: &[Read], plain: &Plain)
     }
 }
 
-/// The least register in which the head has not the word of the plain machine, which has made as many steps.
+/// The least register in which the head has not the word of the plain machine after `made` steps.
 fn wrong_word(machine: &OpenMachine<'_>, plain: &Plain, made: usize) -> Option<WrongWord>
     ensures number { IfSome result (λ held. held.number ≡ made) }
     ensures wrong { IfSome result (λ held. HoldsWrong (state machine.now) (machine_state plain.now) held.register held.word held.right) }
@@ -368,7 +368,7 @@ fn judge_allowed(
     }
 }
 
-/// Looks what a list of events shows of a program on so many units. Of more than 1,000,000 events the first one above
+/// Looks what a list of events shows of a program on `units` units. Of more than 1,000,000 events the first one above
 /// is not allowed.
 ///
 /// # Errors

@@ -1,6 +1,6 @@
 //! A run that shows something as a picture.
 
-ghost use Rattle.std.specs.Prelude.{◌≡◌, IfOk};
+ghost use Rattle.std.specs.Prelude.{◌≡◌, [], IfOk};
 ghost use Rattle.std.specs.String.{string_bytes};
 ghost use Rattle.machine_model.specs.Runs.{events_of};
 ghost use Rattle.run_picture.specs.Picture.{picture_text};
@@ -20,11 +20,11 @@ pub(crate) fn drawn(
     found: &Demonstration,
 ) -> Result<String, AllocError>
     requires { IsDemonstration program.now found.now }
-    ensures { IfOk result (λ text. string_bytes text ≡ picture_text program.now found.now.units found.now.events.items) }
+    ensures { IfOk result (λ text. string_bytes text ≡ picture_text [] program.now found.now.units found.now.events.items) }
 {
     histories_fit();
     let runs = single_runs(alloc, &found.events)?;
-    draw(alloc, program, found.units, &runs)
+    draw(alloc, program, "", found.units, &runs)
 }
 
 /// These events, each of them as a run of one.

@@ -13,7 +13,7 @@ use open_machine::machine::OpenMachine;
 use std::alloc::Global;
 use task_descriptor::program::Program;
 
-/// A list of events on a machine with so many units, and what it shows.
+/// A list of events on a machine with `units` units, and what it shows.
 #[derive(Debug, Drop)]
 pub struct Demonstration {
     /// How many units there are.
@@ -61,7 +61,7 @@ pub fn demonstrate(
     word_shown(alloc, program, steps)
 }
 
-/// A wrong read or end, on so many units, with guesses of one kind.
+/// A wrong read or end, on `units` units, with guesses of one kind.
 fn shown_on(
     alloc: Global,
     program: &Program,
@@ -122,7 +122,7 @@ fn of_events(
     }
 }
 
-/// The same demonstration without the events that it does not need, as far as they are found.
+/// A demonstration without the events that it does not need, as far as they are found.
 fn shortened(
     alloc: Global,
     program: &Program,
@@ -138,7 +138,7 @@ fn shortened(
     without_each(alloc, program, found, 1)
 }
 
-/// The same demonstration without the events after its harm.
+/// A demonstration without the events after its harm.
 fn without_rest(
     alloc: Global,
     program: &Program,
@@ -167,7 +167,7 @@ fn is_held(harm: Harm) -> bool {
     matches!(harm, Harm::Held(_))
 }
 
-/// The same demonstration without each group of so many events that can be left out, the last groups first.
+/// A demonstration without each group of `size` events that can be left out, the last groups first.
 fn without_each(
     alloc: Global,
     program: &Program,
@@ -195,7 +195,7 @@ fn without_each(
     Ok(found)
 }
 
-/// These events without so many from an index on.
+/// These events without `size` of them, from an index on.
 fn without(
     alloc: Global,
     events: &[Event],
@@ -269,7 +269,7 @@ fn until_held(
     Ok(few)
 }
 
-/// Makes steps until there were so many.
+/// Makes steps until `count` were made.
 fn catch_up(plain: &mut Plain, count: u64) -> Result<(), OutOfMemory> {
     if plain.count() < count {
         plain.run(count - plain.count())?;
@@ -299,7 +299,7 @@ fn tasks_in_order(alloc: Global, program: &Program, steps: u32) -> Result<Vec<u3
     Ok(tasks)
 }
 
-/// The events of a run on so many units.
+/// The events of a run on `units` units.
 fn drive(
     alloc: Global,
     program: &Program,

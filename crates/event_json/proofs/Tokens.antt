@@ -38,7 +38,7 @@ list_written old one two three name values begun written ended =
     ∙ ap (λ (ts : List Token). old ++ key name ∷ begin_array ∷ ts) (sym (items_listed values))
     ∙ ap (λ (ts : List Token). old ++ ts) (sym (append-nil (field_tokens (name, list_of values))))
 
--- members behind members
+-- members after members
 pub fields_behind : (old one two : List Token) (fields more : List Field)
     → one ≡ old ++ fields_tokens fields → two ≡ one ++ fields_tokens more → two ≡ old ++ fields_tokens (fields ++ more)
 fields_behind old one two fields more first second =

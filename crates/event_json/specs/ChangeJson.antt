@@ -24,7 +24,7 @@ unit_change_name unit_change.Dropped = codes "dropped"
 unit_change_name (unit_change.Retired exit) = codes "retired"
 unit_change_name unit_change.BecameHead = codes "became_head"
 
--- what else is said of a unit
+-- the further fields of a change of a unit
 abbrev pub unit_change_fields : Listing → List Position → UnitChange → List Field
 unit_change_fields p places (unit_change.Began index) = place_fields places index
 unit_change_fields p places (unit_change.Executed index) = place_fields places index

@@ -1,4 +1,4 @@
--- How a run stands behind some events, as an object of JSON: the registers of the head that are not
+-- How a run stands after some events, as an object of JSON: the registers of the head that are not
 -- 0, as all were at the start, and the words of data memory that are not what they were at the start.
 use Rattle.std.specs.Prelude.{ℕ, ◌+◌, ◌*◌, List, [], ◌∷◌, ◌++◌, flat_map, nat_eq, if◌then◌else◌, Option, Some, None, codes}
 use Rattle.std.specs.List.{range_with_len}

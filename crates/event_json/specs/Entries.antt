@@ -19,6 +19,6 @@ timed_fields name category kind unit time =
 abbrev pub timed_entry : (name category kind : List ℕ) → (unit time : ℕ) → List Field → Json
 timed_entry name category kind unit time fields = object_of (timed_fields name category kind unit time ++ fields)
 
--- what else is told of an entry
+-- the further fields of an entry
 abbrev pub told : List Field → Field
 told fields = (codes "args", object_of fields)

@@ -1,4 +1,5 @@
--- Worked examples, computed by the checker: times by both clocks, entries, and the timeline of a run without events.
+-- Worked examples, computed by the checker: a program's name, times by both clocks, entries, and the timeline of a run
+-- without events.
 use Rattle.std.specs.Prelude.{◌≡◌, ℕ, List, [], ◌∷◌, ◌++◌, codes}
 use Rattle.std.specs.Fmt.{digits}
 use Rattle.std.proofs.Common.{refl}
@@ -11,7 +12,8 @@ use Rattle.task_descriptor.specs.Listing.{Listing}
 use Rattle.task_lives.specs.declared.life.Ending.TheVariants.{Squashed}
 use Rattle.task_lives.specs.declared.life.Life.{Life}
 use Rattle.event_json.specs.declared.clock.Clock.TheVariants.{Events, Steps}
-use Rattle.event_json.specs.Fields.{list_of}
+use Rattle.event_json.specs.Fields.{list_of, object_of}
+use Rattle.event_json.specs.StartJson.{name_fields}
 use Rattle.event_json.specs.Times.{times_of}
 use Rattle.event_json.specs.Slices.{slice}
 use Rattle.event_json.specs.Marks.{marks_of}
@@ -19,6 +21,14 @@ use Rattle.event_json.specs.Timeline.{timeline_text}
 
 abbrev text_of : Json → List ℕ
 text_of value = print (json_tokens value)
+
+pub named_program : text_of (object_of (name_fields (codes "a\"b.s"))) ≡ codes "{\"program_name\":\"a\\\"b.s\"}"
+unfolding print_from escape_byte
+named_program = refl
+
+pub program_without_a_name : text_of (object_of (name_fields [])) ≡ codes "{}"
+unfolding print_from escape_byte
+program_without_a_name = refl
 
 -- six steps on two units: the task after the first one takes two registers, and is squashed in the last step
 abbrev six_steps : List Event

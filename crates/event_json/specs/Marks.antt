@@ -36,7 +36,7 @@ marks_at units number unit time (Transfer k r) = arrow units number unit time (c
 marks_at units number unit time (Squash k) = squash_of unit time ∷ []
 marks_at units number unit time _ = []
 
--- the marks of some events, of which the first has this number, and before which so many tasks have retired
+-- the marks of some events, of which the first has this number, and before which `retired` tasks have retired
 abbrev pub marks_from : (units : ℕ) → (times : List ℕ) → (retired number : ℕ) → List Event → List Json
 marks_from units times retired number [] = []
 marks_from units times retired number (e ∷ es) =

@@ -10,7 +10,7 @@ use Rattle.event_json.specs.Fields.{Field, number_field, text_field}
 use Rattle.event_json.specs.Entries.{timed_entry, told}
 use Rattle.event_json.specs.Times.{time_at}
 
--- what is told of a life: the task, how many instructions its unit executed for it, and how it ended
+-- the fields of a life: the task, how many instructions its unit executed for it, and how it ended
 abbrev pub life_fields : (name : List ℕ) → Life → List Field
 life_fields name life =
     text_field (codes "task") name ∷ number_field (codes "instructions") life.executed

@@ -23,7 +23,7 @@ abbrev pub timeline_json : List Json → Json
 timeline_json entries =
     object_of ((codes "traceEvents", list_of entries) ∷ text_field (codes "displayTimeUnit") (codes "ms") ∷ [])
 
--- the text, of a history of a program on so many units, by a clock
+-- the text, of a history of a program on `units` units, by a clock
 unfoldable pub timeline_text : Listing → (units : ℕ) → Clock → (history : List Event) → List ℕ
 timeline_text p units clock history =
     line_of (timeline_json (entries_of p units (times_of clock history) history (lives_of units history)))

@@ -60,7 +60,7 @@ fn write_unit_change(
     write_task(out, program, task)
 }
 
-/// Adds what else is said of a unit.
+/// Adds the further fields of a change of a unit.
 fn write_unit_rest(
     out: &mut JsonWriter,
     program: &Program,
@@ -81,7 +81,7 @@ fn write_unit_rest(
     }
 }
 
-/// Adds a change of a unit, and all that is said of it.
+/// Adds a change of a unit with all its fields.
 fn write_at_unit(
     out: &mut JsonWriter,
     program: &Program,
@@ -106,7 +106,7 @@ fn write_access(out: &mut JsonWriter, name: &str, address: u32, word: u32) -> Re
     write_address_word(out, address, word)
 }
 
-/// Adds a store of so many bytes.
+/// Adds a store of `size` bytes.
 fn write_store(out: &mut JsonWriter, address: u32, word: u32, size: u32) -> Result<(), AllocError>
     ensures { OnOk result (out.new ≡ out.old
         ++ fields_tokens (change_field (codes "stored") ∷ address_field address ∷ word_field word ∷ size_field size ∷ [])) }

@@ -1,4 +1,4 @@
-//! How a run stands behind some events, as an object of JSON.
+//! How a run stands after some events, as an object of JSON.
 
 ghost use Rattle.std.specs.Prelude.{◌≡◌, ◌++◌, [], ◌∷◌, ◌*◌, ◌<◌, ◌^◌, Some, flat_map, length, OnOk};
 ghost use Rattle.json.specs.Tree.{json_tokens};

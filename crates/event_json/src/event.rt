@@ -4,7 +4,7 @@ ghost use Rattle.std.specs.Prelude.{◌≡◌, ◌++◌, [], ◌∷◌, codes, O
 ghost use Rattle.json.specs.Tree.{json_tokens};
 ghost use Rattle.event_json.specs.Fields.{fields_tokens, register_field, task_field, unit_fields};
 ghost use Rattle.event_json.specs.ChangeJson.{changes_field};
-ghost use Rattle.event_json.specs.EventJson.{answer_field, awaited_fields, event_fields, kind_field, numbered_fields, refusal_fields, refused_json, taken_json};
+ghost use Rattle.event_json.specs.EventJson.{answer_field, awaited_fields, event_fields, kind_field, numbered_fields, refusal_fields, refused_json, step_fields, taken_json};
 
 use crate::change::write_changes;
 use crate::fields::{write_named, write_register, write_task, write_unit};
@@ -92,35 +92,49 @@ fn write_refusal(out: &mut JsonWriter, refusal: Refused) -> Result<(), AllocErro
     write_awaited(out, refusal)
 }
 
+/// Adds the step of an event, counted from 1.
+fn write_step(out: &mut JsonWriter, step: Option<u32>) -> Result<(), AllocError>
+    ensures { OnOk result (out.new ≡ out.old ++ fields_tokens (step_fields step)) }
+{
+    match step {
+        Some(step) => out.number("step", step as usize + 1),
+        None => Ok(()),
+    }
+}
+
 /// Adds the event of this number.
 fn write_numbered(
     out: &mut JsonWriter,
     program: &Program,
     number: usize,
+    step: Option<u32>,
     ring: &Ring,
     event: &Event,
 ) -> Result<(), AllocError>
-    ensures { OnOk result (out.new ≡ out.old ++ fields_tokens (numbered_fields program.now number ring.now event.now)) }
+    ensures { OnOk result (out.new ≡ out.old ++ fields_tokens (numbered_fields program.now number step ring.now event.now)) }
 {
     out.number("event", number)?;
-    write_event(out, program, ring, event)
+    write_step(out, step)?;
+    write_event(out, program, ring, event)?;
+    Ok(())
 }
 
-/// Adds the event of this number, which the machine took, and what it changed; `ring` is the ring before it. An
-/// error says that memory was refused.
+/// Adds the event of this number, which the machine took in this step, if the run went in steps, and what it
+/// changed; `ring` is the ring before it. An error says that memory was refused.
 pub(crate) fn write_taken(
     out: &mut JsonWriter,
     program: &Program,
     places: &[Position],
     number: usize,
+    step: Option<u32>,
     ring: &Ring,
     event: &Event,
     changes: &[Change],
 ) -> Result<(), AllocError>
-    ensures { OnOk result (out.new ≡ out.old ++ json_tokens (taken_json program.now places.now number ring.now event.now changes.now)) }
+    ensures { OnOk result (out.new ≡ out.old ++ json_tokens (taken_json program.now places.now number step ring.now event.now changes.now)) }
 {
     out.begin_object()?;
-    write_numbered(out, program, number, ring, event)?;
+    write_numbered(out, program, number, step, ring, event)?;
     out.text("answer", "ok")?;
     write_changes(out, program, places, ring, changes)?;
     out.end_object()?;
@@ -134,14 +148,15 @@ pub(crate) fn write_refused(
     program: &Program,
     places: &[Position],
     number: usize,
+    step: Option<u32>,
     ring: &Ring,
     event: &Event,
     refusal: Refused,
 ) -> Result<(), AllocError>
-    ensures { OnOk result (out.new ≡ out.old ++ json_tokens (refused_json program.now places.now number ring.now event.now refusal)) }
+    ensures { OnOk result (out.new ≡ out.old ++ json_tokens (refused_json program.now places.now number step ring.now event.now refusal)) }
 {
     out.begin_object()?;
-    write_numbered(out, program, number, ring, event)?;
+    write_numbered(out, program, number, step, ring, event)?;
     out.text("answer", "refused")?;
     write_refusal(out, refusal)?;
     write_changes(out, program, places, ring, &[])?;

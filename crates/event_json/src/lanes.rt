@@ -16,7 +16,7 @@ pub(crate) fn write_run_name(out: &mut JsonWriter) -> Result<(), AllocError>
     write_naming(out, "process_name", 0, "multiscalar run")
 }
 
-/// Adds the lanes of so many units.
+/// Adds the lanes of `units` units.
 pub(crate) fn write_lanes(alloc: Global, out: &mut JsonWriter, units: u32) -> Result<(), AllocError>
     ensures { OnOk result (out.new ≡ out.old ++ flat_map (λ unit. flat_map json_tokens (lane_of unit)) (range_with_len 0 units)) }
 {

@@ -13,6 +13,7 @@ pub mod last_line;
 pub mod lines;
 mod marks;
 mod slices;
+pub mod source;
 mod start;
 pub mod timeline;
 mod times;

@@ -1,12 +1,13 @@
 //! Some events as lines of JSON, an object a line.
 
-ghost use Rattle.std.specs.Prelude.{◌≡◌, [], ◌∷◌, ◌++◌, ◌<◌, ◌≤◌, IfOk, OnOk};
+ghost use Rattle.std.specs.Prelude.{◌≡◌, [], ◌∷◌, ◌++◌, ◌<◌, ◌≤◌, ◌^◌, length, IfOk, OnOk};
 ghost use Rattle.std.specs.String.{string_bytes};
 ghost use Rattle.json.specs.Print.{print};
 ghost use Rattle.machine_model.specs.Answer.{play};
 ghost use Rattle.sequencer.specs.Machines.{state};
 ghost use Rattle.event_trace.specs.Entries.{places_of};
 ghost use Rattle.event_json.specs.Fields.{line_of};
+ghost use Rattle.event_json.specs.EventJson.{step_at as step_of};
 ghost use Rattle.event_json.specs.StartJson.{start_json};
 ghost use Rattle.event_json.specs.EndJson.{end_json};
 ghost use Rattle.event_json.specs.Json.{json_text};
@@ -14,7 +15,9 @@ ghost use Rattle.event_json.specs.Json.{json_text};
 use crate::ending::write_end;
 use crate::event::{write_refused, write_taken};
 use crate::last_line::LastLine;
+use crate::source::EventSource;
 use crate::start::write_start;
+use crate::times::steps_of;
 use crate::writer::JsonWriter;
 use annotated_asm::position::Position;
 use event_trace::change::Change;
@@ -27,13 +30,16 @@ use sequencer::machine::Machine;
 use std::alloc::{AllocError, Global};
 use task_descriptor::program::Program;
 
-/// The trace of some events on a machine of so many units that is at the start of an accepted program, as lines
-/// of JSON: an object for what the lines are; one for each event, with its number, its answer and what it changed;
-/// and one for how the machine then stands, or that the run was out of budget. `program_text` is the text of the
-/// program: instructions are told by their index and by its lines. An error says that memory was refused.
+/// The trace of some events on a machine of `units` units that is at the start of an accepted program, as lines of
+/// JSON: an object for what the lines are, with this name of the program, which may be empty; one for each event, with its number, its step if the run
+/// went in steps, its answer and what it changed; and one for how the machine then stands, or that the run was out
+/// of budget. `program_text` is the text of the program: instructions are told by their index and by its lines. An
+/// error says that memory was refused.
 pub fn lines(
     alloc: Global,
     accepted: &Accepted,
+    name: &str,
+    source: EventSource,
     units: u32,
     program_text: &[u8],
     events: &[Event],
@@ -41,10 +47,20 @@ pub fn lines(
 ) -> Result<String, AllocError>
     requires some { 0 < units }
     requires few { units ≤ 16 }
+    requires room { source ≡ EventSource.Steps → length events.now < 2 ^ 31 }
     ensures { IfOk result (λ text. string_bytes text
-        ≡ json_text accepted.now.program (places_of program_text.now) units events.now last) }
+        ≡ json_text name.now source accepted.now.program (places_of program_text.now) units events.now last) }
 {
-    let (text, _) = lines_and_standing(alloc, accepted, units, program_text, events, last)?;
+    let (text, _) = lines_and_standing(
+        alloc,
+        accepted,
+        name,
+        source,
+        units,
+        program_text,
+        events,
+        last,
+    )?;
     Ok(text)
 }
 
@@ -53,6 +69,8 @@ pub fn lines(
 pub fn lines_and_standing(
     alloc: Global,
     accepted: &Accepted,
+    name: &str,
+    source: EventSource,
     units: u32,
     program_text: &[u8],
     events: &[Event],
@@ -60,38 +78,42 @@ pub fn lines_and_standing(
 ) -> Result<(String, Standing), AllocError>
     requires some { 0 < units }
     requires few { units ≤ 16 }
+    requires room { source ≡ EventSource.Steps → length events.now < 2 ^ 31 }
     ensures text { IfOk result (λ told. string_bytes told.0
-        ≡ json_text accepted.now.program (places_of program_text.now) units events.now last) }
+        ≡ json_text name.now source accepted.now.program (places_of program_text.now) units events.now last) }
     ensures standing { IfOk result (λ told. told.1 ≡ (play accepted.now.program units events.now).state.outcome) }
 {
     let program = accepted.program();
     let places = places(alloc, program_text)?;
+    let steps = steps_of(alloc, source, events)?;
     let telling = InObjects {
         alloc,
         program,
         places: &places,
+        steps: &steps,
     };
     let mut text = String::new(alloc);
-    write_first_line(alloc, &mut text, program, units)?;
+    write_first_line(alloc, &mut text, name, source, program, units)?;
     let machine = add_entries(alloc, &mut text, accepted, units, events, &telling)?;
     write_last_line(alloc, &mut text, program, &machine, last)?;
     Ok((text, machine.outcome()))
 }
 
-/// An object of JSON on a line. An instruction is told by its index and by its line in the program text.
+/// An object of JSON on a line. An instruction is named by its index and by its line in the program text.
 #[derive(Drop)]
 struct InObjects<'p, 't> {
     alloc: Global,
     program: &'p Program,
     places: &'t [Position],
+    steps: &'t [u32],
 }
 
 impl Telling for InObjects<'_, '_> {
     ghost use Rattle.event_json.specs.EventJson.{taken_line, refused_line};
 
-    ghost taken = { λ told. taken_line told.program.now told.places.now };
+    ghost taken = { λ told. taken_line told.program.now told.places.now told.steps.now };
 
-    ghost refused = { λ told. refused_line told.program.now told.places.now };
+    ghost refused = { λ told. refused_line told.program.now told.places.now told.steps.now };
 
     fn write_taken(
         &self,
@@ -104,7 +126,10 @@ impl Telling for InObjects<'_, '_> {
         let mut out = JsonWriter::new(self.alloc);
         let program = self.program;
         let places = self.places;
-        write_taken(&mut out, program, places, number, ring, &event, changes)?;
+        let step = step_at(self.steps, number);
+        write_taken(
+            &mut out, program, places, number, step, ring, &event, changes,
+        )?;
         write_line(text, out)
     }
 
@@ -119,22 +144,34 @@ impl Telling for InObjects<'_, '_> {
         let mut out = JsonWriter::new(self.alloc);
         let program = self.program;
         let places = self.places;
-        write_refused(&mut out, program, places, number, ring, &event, refusal)?;
+        let step = step_at(self.steps, number);
+        write_refused(
+            &mut out, program, places, number, step, ring, &event, refusal,
+        )?;
         write_line(text, out)
     }
+}
+
+/// The step in which the event of this number, from 1, took place; none unless the run went in steps.
+fn step_at(steps: &[u32], number: usize) -> Option<u32>
+    ensures { result ≡ step_of steps.now number }
+{
+    steps.get(number.saturating_sub(1)).copied()
 }
 
 /// Adds a line for what the lines are.
 fn write_first_line(
     alloc: Global,
     text: &mut String,
+    name: &str,
+    source: EventSource,
     program: &Program,
     units: u32,
 ) -> Result<(), AllocError>
-    ensures { OnOk result (string_bytes text.new ≡ string_bytes text.old ++ line_of (start_json program.now units)) }
+    ensures { OnOk result (string_bytes text.new ≡ string_bytes text.old ++ line_of (start_json name.now source program.now units)) }
 {
     let mut out = JsonWriter::new(alloc);
-    write_start(&mut out, program, units)?;
+    write_start(&mut out, name, source, program, units)?;
     write_line(text, out)
 }
 

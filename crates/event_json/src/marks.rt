@@ -13,7 +13,7 @@ use crate::writer::JsonWriter;
 use machine_model::event::Event;
 use std::alloc::{AllocError, Global};
 
-/// Adds the marks of the events of a history of so many units, at least one.
+/// Adds the marks of the events of a history of `units` units, at least one.
 pub(crate) fn write_marks(
     alloc: Global,
     out: &mut JsonWriter,
@@ -47,7 +47,7 @@ fn retired_with(retired: u32, event: Event) -> u32
     }
 }
 
-/// Adds the marks of an event of this number and time, before which so many tasks retired.
+/// Adds the marks of an event of this number and time, before which `retired` tasks retired.
 fn write_mark(
     alloc: Global,
     out: &mut JsonWriter,
@@ -75,7 +75,7 @@ fn write_mark(
     }
 }
 
-/// The number of the unit at a position, after so many tasks have retired.
+/// The number of the unit at a position, after `retired` tasks have retired.
 fn unit_at(units: u32, retired: u32, position: u32) -> u32
     requires { 0 < units }
     ensures value { result ≡ (retired + position) % units }

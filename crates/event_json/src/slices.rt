@@ -56,7 +56,7 @@ fn duration(times: &[u32], life: &Life) -> usize
     end.saturating_sub(begin).max(1)
 }
 
-/// Adds what is told of a life of a task of this name.
+/// Adds the fields of a life of a task of this name.
 fn write_told(out: &mut JsonWriter, name: &str, life: &Life) -> Result<(), AllocError>
     ensures { OnOk result (out.new ≡ out.old ++ fields_tokens (told (life_fields name.now life.now) ∷ [])) }
 {

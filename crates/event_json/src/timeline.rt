@@ -22,9 +22,9 @@ use task_descriptor::program::Program;
 use task_lives::life::Life;
 use task_lives::lives::lives_of_runs;
 
-/// The history of a run of a program on so many units, at least one, as a timeline whose time is what the clock
-/// counts: one object of JSON in the Trace Event Format, on a line. The history has at most 1,000,000 events, and
-/// no event of it is at a position where there is no unit; so it is with every history of a machine
+/// The history of a run of a program on `units` units, at least one, as a timeline whose time is what the clock
+/// counts: one object of JSON in the Trace Event Format, on a line. The history has at most 1,000,000 events, and no
+/// event of it is at a position where there is no unit; so it is with every history of a machine
 /// (`task_lives::laws::histories_fit`). The error says that memory was refused.
 pub fn timeline(
     alloc: Global,

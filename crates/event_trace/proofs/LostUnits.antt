@@ -17,7 +17,7 @@ past_by change k q (inr past) none =
     ap (λ (us : List Active). lost change (k + 1) us) (drop_all (k + 1) q (omega (arith, past.0)))
     ∙ sym (ap (λ (us : List Active). lost change k us) (drop_all k q past.0))
 
--- behind the last unit there is none
+-- after the last unit there is none
 pub lost_past : (change : UnitChange) (k : ℕ) (q : List Active) (front : List Change) → slice_get q k ≡ None
     → front ++ lost change (k + 1) (drop (k + 1) q) ≡ front ++ lost change k (drop k q)
 lost_past change k q front none = ap (λ (cs : List Change). front ++ cs) (past_by change k q (slice_get_cases q k).1 none)

@@ -1,4 +1,4 @@
--- Parts of a list, one behind the other.
+-- Parts of a list, one after the other.
 use Rattle.std.proofs.Common.{◌≡◌, ℕ, zero, suc, ◌+◌, List, [], ◌∷◌, ◌++◌, ap, ◌∙◌, sym, append_assoc, append-nil, add-one, arith}
 use Rattle.std.specs.List.{range_with_len}
 use Rattle.std.specs.Prelude.{flat_map, Bool}
@@ -41,7 +41,7 @@ for_each_word f before now n all is = is ∙ ap (λ k. before ++ flat_map f (ran
 pub same_registers : (set wanted : ℕ → Bool) (change : ℕ → Change) → ((r : ℕ) → set r ≡ wanted r) → for_registers set change ≡ for_registers wanted change
 same_registers set wanted change same = λ j. for_registers (λ r. same r j) change
 
--- four parts, told one after the other
+-- four parts, written one after the other
 pub four_parts : (old one two three four p q r s : List Change) → one ≡ old ++ p → two ≡ one ++ q → three ≡ two ++ r → four ≡ three ++ s → four ≡ old ++ (p ++ (q ++ (r ++ s)))
 four_parts old one two three four p q r s first second third fourth =
     fourth

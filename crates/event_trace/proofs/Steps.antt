@@ -62,7 +62,7 @@ state_on p units i m m' all events e over ring on within there before =
     state_more p units i (length m.history) (length m'.history) (state m) (state m') all events e (answer_to m e)
     within there (answers_by p units m e over ring) behind on.count before
 
--- behind the last event the state is there
+-- after the last event the state is there
 pub state_left : (p : Listing) (units n i : ℕ) (s all : State) (events : List Event) → length events ≤ i → state_from p units n s (drop i events) ≡ all → s ≡ all
 state_left p units n i s all events behind is =
     ap (λ (es : List Event). state_from p units n s es) (sym (drop_all i events behind)) ∙ is
@@ -81,7 +81,7 @@ played_from p units n s answers (e ∷ es) =
 pub played : (p : Listing) (units : ℕ) (es : List Event) → state_from p units 0 (opening p) es ≡ (play p units es).state
 played p units es = sym (played_from p units 0 (opening p) [] es)
 
--- what is told and what is left give what there was to tell
+-- what is written and what is left give the whole
 pub entries_more : (tell : ℕ → State → Event → Result (Unit {0}) Refused → List ℕ) (p : Listing) (units i n n' : ℕ) (s s' : State) (events : List Event) (e : Event) (a : Result (Unit {0}) Refused) (told told' all : List ℕ)
     → i < length events → e ≡ get_or events i e → a ≡ answer p units s n e
     → told' ≡ told ++ tell (i + 1) s e a → s' ≡ state_behind p s e a → n' ≡ count_behind n a
@@ -100,7 +100,7 @@ entries_more tell p units i n n' s s' events e a told told' all within there ans
     ∙ ap (λ (es : List Event). told ++ entries_from tell p units (i + 1) n s es) (sym cut)
     ∙ before
 
--- the same of a machine that goes on
+-- `entries_more` of a machine that goes on
 pub entries_on : (tell : ℕ → State → Event → Result (Unit {0}) Refused → List ℕ) (p : Listing) (units i : ℕ) (m m' : MachineView) (events : List Event) (e : Event) (told told' all : List ℕ)
     → m.accepted.program ≡ p → units_of m ≡ units → GoesOn m e m' → i < length events → e ≡ get_or events i e
     → told' ≡ told ++ tell (i + 1) (state m) e (answer_to m e)
@@ -111,7 +111,7 @@ entries_on tell p units i m m' events e told told' all over ring on within there
     entries_more tell p units i (length m.history) (length m'.history) (state m) (state m') events e (answer_to m e) told told' all
     within there (answers_by p units m e over ring) entry behind on.count before
 
--- behind the last event nothing is left
+-- after the last event nothing is left
 pub all_told : (tell : ℕ → State → Event → Result (Unit {0}) Refused → List ℕ) (p : Listing) (units number n i : ℕ) (s : State) (events : List Event) (told all : List ℕ)
     → length events ≤ i → told ++ entries_from tell p units number n s (drop i events) ≡ all → told ≡ all
 all_told tell p units number n i s events told all behind is =

@@ -1,4 +1,4 @@
--- What an event changed, read off the state before it, s, and the state behind it, s'.
+-- What an event changed, read off the state before it, s, and the state after it, s'.
 use Rattle.std.specs.Prelude.{ℕ, suc, List, [], ◌∷◌, ◌++◌, Bool, false, nat_eq, not, ◌&&◌, ◌%◌, ◌^◌, if◌then◌else◌, flat_map, length, drop, slice_get, is_some, unwrap_or, Option, Some, None}
 use Rattle.std.specs.List.{range_with_len}
 use Rattle.mips_plain.specs.MemoryMap.{byte_of, effective}
@@ -89,7 +89,7 @@ takes before v r = not (before r) && not (nat_eq (unwrap_or (v.arrived r) 0) 0)
 abbrev pub taken : (before : ℕ → Bool) → (v : Active) → List Change
 taken before v = for_registers (takes before v) (λ r. Took r (unwrap_or (v.arrived r) 0))
 
--- ---- the other events: what is said of the unit at a position, if there is one
+-- ---- the other events: the change of the unit at a position, if there is one
 
 abbrev pub began : (k : ℕ) → Option Active → List Change
 began k None = []

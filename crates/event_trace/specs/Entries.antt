@@ -1,5 +1,5 @@
 -- Events one after the other: the model's answer to each, and what it changed between the states
--- before and behind it.
+-- before and after it.
 use Rattle.std.specs.Prelude.{◌≡◌, ℕ, suc, List, [], ◌++◌, ◌∷◌, Result, Ok, Err}
 use Rattle.task_descriptor.specs.Listing.{Listing}
 use Rattle.machine_model.specs.Machine.{State}
@@ -15,7 +15,7 @@ use Rattle.event_trace.specs.declared.told.Told.TheVariants as told
 use Rattle.event_trace.specs.Changes.{changes_of}
 use Rattle.event_trace.specs.Ring.{RingView, ring_in}
 
--- where a program text has its instructions; nowhere if it is none
+-- the positions of the instructions in a program text; empty if the text is not a program
 abbrev pub places_in : Result Sources AsmFault → List Position
 places_in (Ok sources) = sources.code
 places_in (Err fault) = []
@@ -23,7 +23,7 @@ places_in (Err fault) = []
 abbrev pub places_of : List ℕ → List Position
 places_of text = places_in (sources_of text)
 
--- the state behind an event, and the number of events that were allowed: one that is refused changes neither
+-- the state after an event, and the number of events that were allowed: one that is refused changes neither
 abbrev pub state_behind : Listing → State → Event → Result (Unit {0}) Refused → State
 state_behind p s e (Ok done) = after p s e
 state_behind p s e (Err why) = s
@@ -32,24 +32,25 @@ abbrev pub count_behind : ℕ → Result (Unit {0}) Refused → ℕ
 count_behind n (Ok done) = suc n
 count_behind n (Err why) = n
 
--- what is told of an event in a state: by its answer, what it changed or why it was refused
+-- what a walk reports of an event in a state: by its answer, what it changed or why it was refused
 abbrev pub Tells : Listing → State → Event → Result (Unit {0}) Refused → Told → Type 0
 Tells p s e (Ok done) (told.Taken changes) = changes.items ≡ changes_of p s e (after p s e)
 Tells p s e (Err why) (told.Refused refusal) = refusal ≡ why
 Tells p s e answer other = ⊥
 
--- the same in a form that says this of an event that was taken, and of one that was refused, by the ring before it
+-- the text of that report in a form: `taken` is the form's text for an event that was allowed, `refused` for one that
+-- was refused
 abbrev pub told_of : (taken : ℕ → RingView → Event → List Change → List ℕ) (refused : ℕ → RingView → Event → Refused → List ℕ) → (number : ℕ) → RingView → Event → Told → List ℕ
 told_of taken refused number ring e (told.Taken changes) = taken number ring e changes.items
 told_of taken refused number ring e (told.Refused refusal) = refused number ring e refusal
 
--- and by its answer in a state of so many units
+-- and by its answer in a state of `units` units
 abbrev pub entry_of : (taken : ℕ → RingView → Event → List Change → List ℕ) (refused : ℕ → RingView → Event → Refused → List ℕ) → Listing → (units number : ℕ) → State → Event → Result (Unit {0}) Refused → List ℕ
 entry_of taken refused p units number s e (Ok done) = taken number (ring_in units s) e (changes_of p s e (after p s e))
 entry_of taken refused p units number s e (Err why) = refused number (ring_in units s) e why
 
--- What is told of events from a state on, with n events allowed before them; the first has this number. `tell`
--- says it of one event, by its number, the state before it and its answer.
+-- The text for events from a state on, with n events allowed before them; the first has this number. `tell` is the
+-- text for one event, by its number, the state before it and its answer.
 abbrev pub entries_from : (tell : ℕ → State → Event → Result (Unit {0}) Refused → List ℕ) → Listing → (units number n : ℕ) → State → List Event → List ℕ
 entries_from tell p units number n s [] = []
 entries_from tell p units number n s (e ∷ es) =

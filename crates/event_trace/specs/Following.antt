@@ -7,7 +7,7 @@ use Rattle.machine_model.specs.declared.event.Event.{Event}
 use Rattle.sequencer.specs.Machines.{MachineView, SameRing, answer_to, state}
 use Rattle.event_trace.specs.Entries.{count_behind, state_behind}
 
--- a machine before an event, and the same machine behind it, whatever its answer was
+-- a machine before an event, and the machine after it, whatever its answer was
 pub record GoesOn (m : MachineView) (e : Event) (m' : MachineView) : Type 0 where
   pub state : state m' ≡ state_behind m.accepted.program (state m) e (answer_to m e)
   pub count : length m'.history ≡ count_behind (length m.history) (answer_to m e)

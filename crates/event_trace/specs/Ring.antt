@@ -8,7 +8,7 @@ pub record RingView : Type 0 where
   pub head : ℕ
   pub units : ℕ
 
--- the ring of so many units in a state
+-- the ring of `units` units in a state
 abbrev pub ring_in : (units : ℕ) → State → RingView
 ring_in units s = record { head = length s.commits % units; units = units }
 

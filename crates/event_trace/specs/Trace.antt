@@ -12,10 +12,10 @@ use Rattle.event_trace.specs.TraceText.{taken_text, refused_text}
 
 -- the event of a number, with its answer in a state
 abbrev pub entry_text : Listing → List Position → (units number : ℕ) → State → Event → Result (Unit {0}) Refused → List ℕ
-entry_text p places = entry_of (λ number ring. taken_text p places number) (λ number ring. refused_text p number) p
+entry_text p places = entry_of (taken_text p places) (λ number ring. refused_text p number) p
 
--- the trace of some events on a machine of so many units at the start of a program, whose instructions stand at
--- these places; and how the machine then stands
+-- the trace of some events on a machine of `units` units at the start of a program, whose instructions stand at these
+-- places; and how the machine then stands
 unfoldable pub trace_text : Listing → List Position → (units : ℕ) → List Event → List ℕ
 trace_text p places units events =
     entries_from (entry_text p places units) p units 1 0 (opening p) events ++ end_text p (play p units events).state

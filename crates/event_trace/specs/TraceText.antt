@@ -1,4 +1,4 @@
--- The text of a trace: each event, as a script says it, behind its number and with its answer;
+-- The text of a trace: each event, as a script says it, after its number and with its answer;
 -- and under it what it changed, one change on a line, with the lines of the program text.
 use Rattle.std.specs.Prelude.{ℕ, List, [], ◌∷◌, ◌++◌, false, flat_map, slice_get, Option, Some, None, codes}
 use Rattle.std.specs.Fmt.{decimal, digits}
@@ -11,6 +11,7 @@ use Rattle.machine_model.specs.declared.event.Standing.TheVariants.{Running, Hal
 use Rattle.machine_model.specs.RefusedText.{refusal_text}
 use Rattle.event_script.specs.ScriptText.{event_text, name_at}
 use Rattle.annotated_asm.specs.declared.position.Position.{Position}
+use Rattle.event_trace.specs.Ring.{RingView, number_at}
 use Rattle.event_trace.specs.declared.change.Change.{Change}
 use Rattle.event_trace.specs.declared.change.Change.TheVariants as change
 use Rattle.event_trace.specs.declared.unit_change.UnitChange.{UnitChange}
@@ -46,7 +47,7 @@ ending_text Halted = codes "the run has halted"
 ending_text (Trapped trap) = codes "the run is trapped: " ++ trap_text trap
 ending_text (Unlisted at) = codes "the run is unlisted: " ++ address_text at
 
--- what is said of a unit
+-- what changed at a unit
 abbrev pub unit_text : Listing → List Position → UnitChange → List ℕ
 unit_text p places (unit_change.Began index) = codes "begins at " ++ place_text places index
 unit_text p places (unit_change.Executed index) = codes "executes " ++ place_text places index
@@ -57,33 +58,34 @@ unit_text p places unit_change.Dropped = codes "is dropped"
 unit_text p places (unit_change.Retired exit) = codes "retires; its exit is " ++ exit_text p places exit
 unit_text p places unit_change.BecameHead = codes "becomes the head"
 
--- a unit, by its position and by the name of its task
-abbrev pub unit_name : Listing → (position task : ℕ) → List ℕ
-unit_name p position task = codes "unit " ++ (decimal position ++ (codes ", task " ++ name_at (slice_get p.tasks task)))
+-- a unit, by its number round the ring and by the name of its task
+abbrev pub unit_name : Listing → (unit task : ℕ) → List ℕ
+unit_name p unit task = codes "unit " ++ (decimal unit ++ (codes ", task " ++ name_at (slice_get p.tasks task)))
 
-abbrev pub change_text : Listing → List Position → Change → List ℕ
-change_text p places (change.AtUnit position task c) = unit_name p position task ++ (codes ": " ++ unit_text p places c)
-change_text p places (change.Took r word) = codes "takes " ++ register_text r word
-change_text p places (change.Loaded at word) = codes "loads " ++ (decimal word ++ (codes " from " ++ address_text at))
-change_text p places (change.Stored at word size) = codes "stores " ++ (decimal word ++ (codes " at " ++ address_text at))
-change_text p places (change.Wrote r word) = codes "writes " ++ register_text r word
-change_text p places (change.Sent r word) = codes "sends " ++ register_text r word
-change_text p places (change.PutOut word) = codes "puts out " ++ decimal word
-change_text p places (change.MovedTo index) = codes "goes on at " ++ place_text places index
-change_text p places (change.StoppedAt at) = codes "stops; its exit is " ++ exit_text p places at
-change_text p places (change.Ended standing) = ending_text standing
+-- a change; the ring is the one before the event
+abbrev pub change_text : Listing → List Position → RingView → Change → List ℕ
+change_text p places ring (change.AtUnit position task c) = unit_name p (number_at ring position) task ++ (codes ": " ++ unit_text p places c)
+change_text p places ring (change.Took r word) = codes "takes " ++ register_text r word
+change_text p places ring (change.Loaded at word) = codes "loads " ++ (decimal word ++ (codes " from " ++ address_text at))
+change_text p places ring (change.Stored at word size) = codes "stores " ++ (decimal word ++ (codes " at " ++ address_text at))
+change_text p places ring (change.Wrote r word) = codes "writes " ++ register_text r word
+change_text p places ring (change.Sent r word) = codes "sends " ++ register_text r word
+change_text p places ring (change.PutOut word) = codes "puts out " ++ decimal word
+change_text p places ring (change.MovedTo index) = codes "goes on at " ++ place_text places index
+change_text p places ring (change.StoppedAt at) = codes "stops; its exit is " ++ exit_text p places at
+change_text p places ring (change.Ended standing) = ending_text standing
 
-abbrev pub change_line : Listing → List Position → Change → List ℕ
-change_line p places c = codes "    " ++ (change_text p places c ++ 10 ∷ [])
+abbrev pub change_line : Listing → List Position → RingView → Change → List ℕ
+change_line p places ring c = codes "    " ++ (change_text p places ring c ++ 10 ∷ [])
 
 -- the event of a number, in the words of a script
 abbrev pub numbered_event : Listing → (number : ℕ) → Event → List ℕ
 numbered_event p number event = decimal number ++ (codes " " ++ event_text p event)
 
 -- an event that was taken, with what it changed
-abbrev pub taken_text : Listing → List Position → (number : ℕ) → Event → List Change → List ℕ
-taken_text p places number event changes =
-    numbered_event p number event ++ (codes ": ok" ++ (10 ∷ flat_map (change_line p places) changes))
+abbrev pub taken_text : Listing → List Position → (number : ℕ) → RingView → Event → List Change → List ℕ
+taken_text p places number ring event changes =
+    numbered_event p number event ++ (codes ": ok" ++ (10 ∷ flat_map (change_line p places ring) changes))
 
 -- an event that was refused, with the reason
 abbrev pub refused_text : Listing → (number : ℕ) → Event → Refused → List ℕ

@@ -13,8 +13,8 @@ use std::alloc::{AllocError, Global};
 /// are unsigned.
 #[derive(Clone, Copy, Debug, PartialEq, Eq)]
 pub enum Change {
-    /// A unit changed. What an instruction did stands behind the change of the unit that executed it, and which
-    /// registers arrived behind that of the unit that took its task or became the head.
+    /// A unit changed. What an instruction did stands after the change of the unit that executed it, and which
+    /// registers arrived after that of the unit that took its task or became the head.
     AtUnit {
         position: u32,
         task: u32,
@@ -31,7 +31,7 @@ pub enum Change {
         address: u32,
         word: u32,
     },
-    /// The instruction stored so many bytes at this address; the word has them, and zeros above them.
+    /// The instruction stored `size` bytes at this address; the word has them, and zeros above them.
     Stored {
         address: u32,
         word: u32,
@@ -55,7 +55,7 @@ pub enum Change {
     MovedTo {
         index: u32,
     },
-    /// The unit stopped, behind an exit of its task that leads to this address.
+    /// The unit stopped, after an exit of its task that leads to this address.
     StoppedAt {
         address: u32,
     },

@@ -1,4 +1,4 @@
-//! The end of a trace: how the run stands, and what registers and memory have come to.
+//! The end of a trace: how the run stands, and what registers and memory hold.
 
 ghost use Rattle.std.specs.Prelude.{◌≡◌, ◌++◌, [], ◌∷◌, ◌+◌, ◌*◌, ◌<◌, ◌≤◌, ◌^◌, Some, length, codes, slice_index, OnOk};
 ghost use Rattle.std.specs.String.{string_bytes};
@@ -108,7 +108,7 @@ fn write_change(
     writeln!(text, " = {word}")
 }
 
-/// The word at an offset of some bytes, little-endian, with zeros behind the bytes.
+/// The word at an offset of some bytes, little-endian, with zeros after the bytes.
 pub fn word_at(bytes: &[u8], at: usize) -> u32
     requires { at < 2 ^ 32 }
     ensures { result ≡ number_at 4 (byte_of bytes.now) at }
@@ -121,7 +121,7 @@ pub fn word_at(bytes: &[u8], at: usize) -> u32
     ])
 }
 
-/// The byte at an offset, 0 behind the bytes.
+/// The byte at an offset, 0 past the end of the bytes.
 fn byte_at(bytes: &[u8], at: usize) -> u8
     ensures { result ≡ slice_index bytes.now at }
 {

@@ -70,7 +70,7 @@ fn foresee_execution(
     Foreseen::Executes(execution(position, unit, &marked.op))
 }
 
-/// The same change of each unit from a position on.
+/// Change `change` of each unit from a position on.
 fn lost(
     alloc: Global,
     machine: &Machine<'_>,

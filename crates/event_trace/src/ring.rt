@@ -1,5 +1,6 @@
 //! The units round the ring.
 
+use sequencer::machine::Machine;
 use std::marker::Model;
 
 /// The units round the ring: the number of the head there, and how many units there are.
@@ -21,15 +22,26 @@ impl Model for Ring {
 }
 
 ghost use Rattle.std.specs.Prelude.{◌≡◌, ◌<◌};
-ghost use Rattle.event_trace.specs.Ring.{number_at};
+ghost use Rattle.sequencer.specs.Machines.{state};
+ghost use Rattle.event_trace.specs.Ring.{number_at, ring_in};
 
 impl Ring {
-    /// A ring of so many units, where the head has this number.
+    /// A ring of `units` units, where the head has this number.
     pub(crate) fn new(head: u32, units: u32) -> Ring
         requires { 0 < units }
         ensures { result ≡ record { head = head; units = units } }
     {
         Ring { head, units }
+    }
+
+    /// The ring of a machine of this many units, as its events so far leave it.
+    pub fn of(machine: &Machine<'_>, units: u32) -> Ring
+        requires { 0 < units }
+        ensures { result ≡ ring_in units (state machine.now) }
+    {
+        let retired = machine.commits().len();
+        let head = (retired % units as usize) as u32;
+        Ring::new(head, units)
     }
 
     /// The number round the ring of the unit at a position from the head.

@@ -1,4 +1,4 @@
-//! Events on a walk, told in some form.
+//! The text of events on a walk, in some form.
 
 use crate::change::Change;
 use crate::ring::Ring;
@@ -9,7 +9,7 @@ use mark_checker::accept::Accepted;
 use sequencer::machine::Machine;
 use std::alloc::{AllocError, Global};
 
-/// A form in which a trace tells of each event.
+/// A form of the text for each event of a trace.
 pub trait Telling {
     ghost use Rattle.std.specs.Prelude.{ℕ, List, ◌≡◌, ◌++◌, OnOk};
     ghost use Rattle.std.specs.String.{string_bytes};
@@ -18,10 +18,10 @@ pub trait Telling {
     ghost use Rattle.event_trace.specs.declared.change.Change.{Change};
     ghost use Rattle.event_trace.specs.Ring.{RingView};
 
-    // What is told of the event of a number, before which the ring was this, that was taken, and changed this.
+    // The text for event `n`, which was allowed: `ring` is the ring before it, `changes` what it changed.
     ghost taken: { Self → ℕ → RingView → Event → List Change → List ℕ };
 
-    // What is told of the event of a number, before which the ring was this, that was refused for this reason.
+    // The text for event `n`, which was refused: `ring` is the ring before it, `refusal` the reason.
     ghost refused: { Self → ℕ → RingView → Event → Refused → List ℕ };
 
     /// Adds the event of this number, which the machine took, and what it changed. `ring` is the ring before it.
@@ -57,8 +57,8 @@ ghost use Rattle.sequencer.specs.Machines.{answer_to, state, units_of};
 ghost use Rattle.event_trace.specs.Entries.{entries_from, entry_of, told_of};
 ghost use Rattle.event_trace.specs.Following.{GoesOn, state_from};
 
-/// What is told of each of some events on a machine of so many units that is at the start of an accepted
-/// program, and the machine as the events leave it. An error says that memory was refused.
+/// The text for each of some events on a machine of `units` units that is at the start of an accepted program, and
+/// the machine as the events leave it. An error says that memory was refused.
 pub fn entries<'a, T: Telling>(
     alloc: Global,
     accepted: &'a Accepted,
@@ -77,8 +77,8 @@ pub fn entries<'a, T: Telling>(
     Ok((text, machine))
 }
 
-/// Adds what is told of each of some events on a machine of so many units that is at the start of an accepted
-/// program. The machine as the events leave it. An error says that memory was refused.
+/// Adds the text for each of some events on a machine of `units` units that is at the start of an accepted program.
+/// Answers the machine as the events leave it. An error says that memory was refused.
 pub fn add_entries<'a, T: Telling>(
     alloc: Global,
     text: &mut String,
@@ -98,7 +98,7 @@ pub fn add_entries<'a, T: Telling>(
     Ok(walk.into_machine())
 }
 
-/// Adds what is told of some events on a walk, and goes on behind them.
+/// Adds the text for some events on a walk, and answers the walk after them.
 fn write_entries<'a, T: Telling>(
     alloc: Global,
     text: &mut String,
@@ -117,7 +117,7 @@ fn write_entries<'a, T: Telling>(
     Ok(walk)
 }
 
-/// Adds what is told of the next event on a walk.
+/// Adds the text for the next event on a walk.
 fn write_entry<'a, T: Telling>(
     alloc: Global,
     text: &mut String,
@@ -136,7 +136,7 @@ fn write_entry<'a, T: Telling>(
     Ok(next)
 }
 
-/// Adds the event of this number, with what is told of it; `ring` is the ring before it.
+/// Adds the text for the event of this number; `ring` is the ring before it.
 fn write_told<T: Telling>(
     text: &mut String,
     number: usize,

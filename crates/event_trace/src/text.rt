@@ -6,6 +6,7 @@ ghost use Rattle.std.specs.String.{string_bytes};
 ghost use Rattle.event_trace.specs.TraceText.{address_text, place_text, exit_text, register_text, ending_text, unit_text, unit_name, change_text, change_line, numbered_event, taken_text, refused_text};
 
 use crate::change::Change;
+use crate::ring::Ring;
 use crate::unit_change::UnitChange;
 use annotated_asm::position::Position;
 use event_script::writing::{task_name, write_event};
@@ -72,20 +73,20 @@ pub fn write_ending(text: &mut String, standing: Standing) -> Result<(), AllocEr
     }
 }
 
-/// Adds a unit, by its position and by the name of its task.
+/// Adds a unit, by its number round the ring and by the name of its task.
 pub fn write_unit(
     text: &mut String,
     program: &Program,
-    position: u32,
+    unit: usize,
     task: u32,
 ) -> Result<(), AllocError>
-    ensures { OnOk result (string_bytes text.new ≡ string_bytes text.old ++ unit_name program.now position task) }
+    ensures { OnOk result (string_bytes text.new ≡ string_bytes text.old ++ unit_name program.now unit task) }
 {
     let name = task_name(program, task);
-    write!(text, "unit {position}, task {name}")
+    write!(text, "unit {unit}, task {name}")
 }
 
-/// Adds what is said of a unit.
+/// Adds what changed at a unit.
 fn write_unit_change(
     text: &mut String,
     program: &Program,
@@ -140,9 +141,10 @@ fn write_change(
     text: &mut String,
     program: &Program,
     places: &[Position],
+    ring: &Ring,
     change: Change,
 ) -> Result<(), AllocError>
-    ensures { OnOk result (string_bytes text.new ≡ string_bytes text.old ++ change_text program.now places.now change) }
+    ensures { OnOk result (string_bytes text.new ≡ string_bytes text.old ++ change_text program.now places.now ring.now change) }
 {
     match change {
         Change::AtUnit {
@@ -150,7 +152,7 @@ fn write_change(
             task,
             change,
         } => {
-            write_unit(text, program, position, task)?;
+            write_unit(text, program, ring.number_at(position), task)?;
             write!(text, ": ")?;
             write_unit_change(text, program, places, change)
         }
@@ -186,12 +188,13 @@ fn write_changes(
     text: &mut String,
     program: &Program,
     places: &[Position],
+    ring: &Ring,
     changes: &[Change],
 ) -> Result<(), AllocError>
-    ensures { OnOk result (string_bytes text.new ≡ string_bytes text.old ++ flat_map (change_line program.now places.now) changes.now) }
+    ensures { OnOk result (string_bytes text.new ≡ string_bytes text.old ++ flat_map (change_line program.now places.now ring.now) changes.now) }
 {
     for change in changes {
-        write_line(text, program, places, *change)?;
+        write_line(text, program, places, ring, *change)?;
     }
     Ok(())
 }
@@ -201,12 +204,13 @@ fn write_line(
     text: &mut String,
     program: &Program,
     places: &[Position],
+    ring: &Ring,
     change: Change,
 ) -> Result<(), AllocError>
-    ensures { OnOk result (string_bytes text.new ≡ string_bytes text.old ++ change_line program.now places.now change) }
+    ensures { OnOk result (string_bytes text.new ≡ string_bytes text.old ++ change_line program.now places.now ring.now change) }
 {
     write!(text, "    ")?;
-    write_change(text, program, places, change)?;
+    write_change(text, program, places, ring, change)?;
     writeln!(text, "")
 }
 
@@ -225,20 +229,21 @@ fn write_numbered(
 
 /// Adds the event of this number, which the machine took, in the words of a script, and under it what it
 /// changed. `places` has for each instruction of the program where it stands in the program text; one that
-/// it lacks is told by its index. An error says that memory was refused.
+/// it lacks is told by its index. `ring` is the ring before the event. An error says that memory was refused.
 pub fn write_taken(
     text: &mut String,
     program: &Program,
     places: &[Position],
     number: usize,
+    ring: &Ring,
     event: Event,
     changes: &[Change],
 ) -> Result<(), AllocError>
-    ensures { OnOk result (string_bytes text.new ≡ string_bytes text.old ++ taken_text program.now places.now number event changes.now) }
+    ensures { OnOk result (string_bytes text.new ≡ string_bytes text.old ++ taken_text program.now places.now number ring.now event changes.now) }
 {
     write_numbered(text, program, number, event)?;
     writeln!(text, ": ok")?;
-    write_changes(text, program, places, changes)
+    write_changes(text, program, places, ring, changes)
 }
 
 /// Adds the event of this number, which the machine refused, in the words of a script, and the reason. An

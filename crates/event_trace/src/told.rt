@@ -1,9 +1,9 @@
-//! What is told of an event.
+//! What a walk reports of an event.
 
 use crate::change::Change;
 use machine_model::event::Refused;
 
-/// What a walk tells of an event.
+/// What a walk reports of an event.
 #[derive(Debug, Drop)]
 pub enum Told {
     /// The event was allowed, and changed this.

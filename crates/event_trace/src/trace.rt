@@ -18,10 +18,10 @@ use mark_checker::accept::Accepted;
 use std::alloc::{AllocError, Global};
 use task_descriptor::program::Program;
 
-/// The trace of some events on a machine of so many units that is at the start of an accepted program: each
-/// event in the words of a script, behind its number and with its answer, and under one that was allowed what
-/// it changed, as `changes_of` lists it; and behind them how the machine then stands. `program_text` is the text of
-/// the program: instructions are told by its lines. An error says that memory was refused.
+/// The trace of some events on a machine of `units` units that is at the start of an accepted program: each event in
+/// the words of a script, after its number and with its answer, and under one that was allowed what it changed, as
+/// `changes_of` lists it; and after them how the machine then stands. `program_text` is the text of the program:
+/// instructions are named by its lines. An error says that memory was refused.
 pub fn trace(
     alloc: Global,
     accepted: &Accepted,
@@ -64,7 +64,7 @@ pub fn trace_and_standing(
     Ok((text, machine.outcome()))
 }
 
-/// The words of a script, and lines for a reader. An instruction is told by its line in the program text.
+/// The words of a script, and lines for a reader. An instruction is named by its line in the program text.
 #[derive(Drop)]
 struct InWords<'p, 't> {
     program: &'p Program,
@@ -74,7 +74,7 @@ struct InWords<'p, 't> {
 impl Telling for InWords<'_, '_> {
     ghost use Rattle.event_trace.specs.TraceText.{taken_text, refused_text};
 
-    ghost taken = { λ told number ring. taken_text told.program.now told.places.now number };
+    ghost taken = { λ told. taken_text told.program.now told.places.now };
 
     ghost refused = { λ told number ring. refused_text told.program.now number };
 
@@ -82,11 +82,13 @@ impl Telling for InWords<'_, '_> {
         &self,
         text: &mut String,
         number: usize,
-        _ring: &Ring,
+        ring: &Ring,
         event: Event,
         changes: &[Change],
     ) -> Result<(), AllocError> {
-        write_taken(text, self.program, self.places, number, event, changes)
+        let program = self.program;
+        let places = self.places;
+        write_taken(text, program, places, number, ring, event, changes)
     }
 
     fn write_refused(

@@ -39,8 +39,8 @@ ghost use Rattle.event_trace.specs.Following.{GoesOn};
 ghost use Rattle.event_trace.specs.Ring.{ring_in};
 
 impl<'a> Walk<'a> {
-    /// A walk that begins at the start of an accepted program, on so many units. An error says that memory
-    /// was refused.
+    /// A walk that begins at the start of an accepted program, on `units` units. An error says that memory was
+    /// refused.
     pub fn new(alloc: Global, accepted: &'a Accepted, units: u32) -> Result<Walk<'a>, AllocError>
         requires some { 0 < units }
         requires few { units ≤ 16 }
@@ -60,7 +60,7 @@ impl<'a> Walk<'a> {
         }
     }
 
-    /// Takes an event, and tells what the machine answers to it and what it changes. An error says that
+    /// Takes an event, and reports what the machine answers to it and what it changes. An error says that
     /// memory was refused; the walk ends there.
     pub fn step(self, alloc: Global, event: &Event) -> Result<(Walk<'a>, Told), AllocError>
         ensures on { IfOk result (λ stepped. GoesOn self.entry event.now stepped.0) }
@@ -84,9 +84,7 @@ impl<'a> Walk<'a> {
     pub fn ring(&self) -> Ring
         ensures { result ≡ ring_in (units_of self.now) (state self.now) }
     {
-        let retired = self.machine.commits().len();
-        let head = (retired % self.units as usize) as u32;
-        Ring::new(head, self.units)
+        Ring::of(&self.machine, self.units)
     }
 
     /// The machine as the events so far leave it.
@@ -97,7 +95,7 @@ impl<'a> Walk<'a> {
     }
 }
 
-/// Applies an event, and tells what the machine answers to it and what it changes.
+/// Applies an event, and reports what the machine answers to it and what it changes.
 fn advance(
     alloc: Global,
     program: &Program,

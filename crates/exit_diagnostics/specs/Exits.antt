@@ -65,7 +65,7 @@ abbrev pub why_not : (begins : Bool) → List ℕ
 why_not true = codes ", which is not one of its targets"
 why_not false = codes ", where no task begins"
 
--- what is said of an exit to one place, and of exits to two
+-- the message about an exit to one place, and about exits to two
 abbrev pub exit_text : (edge task place why : List ℕ) → List ℕ
 exit_text edge task place why =
     edge ++ (codes "task " ++ (task ++ (codes " ends here and goes on to " ++ (place ++ why))))

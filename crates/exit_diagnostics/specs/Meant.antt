@@ -63,7 +63,7 @@ halts s j = halts_in (slice_get s.program.code j)
 abbrev pub later_meant : Judged → (task j : ℕ) → MeantStop
 later_meant s task j = if halts s j then AtHalt j else if may_end s task j then Next j else This
 
--- of the instruction at i, which ends the task and goes on to j; where no instruction is at j, this is told instead
+-- of the instruction at i, which ends the task and goes on to j; where no instruction is at j, that is reported instead
 abbrev pub meant : Judged → (task i j : ℕ) → MeantStop
 meant s task i j =
     if is_branch s i && nat_lt j (length s.program.code) then edge_meant (to_target s task i false) (to_target s task i true)

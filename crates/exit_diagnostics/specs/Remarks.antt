@@ -1,4 +1,4 @@
--- What may be forgotten: a way to a task; or a stop, where a task comes to no exit, a target is taken by no exit, or a
+-- What may be forgotten: a way to a task; or a stop, where a task reaches no exit, a target is taken by no exit, or a
 -- task goes on into the first instruction of a task.
 use Rattle.std.specs.Prelude.{ℕ, Bool, true, false, not, ◌&&◌, ◌||◌, ◌==◌, List, [], ◌∷◌, ◌++◌, codes, filter, flat_map, length, slice_get, is_some, position, unwrap_or, option_map, Option, Some, None, if◌then◌else◌}
 use Rattle.std.specs.List.{find, list_any, range_with_len}

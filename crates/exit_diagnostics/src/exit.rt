@@ -126,21 +126,21 @@ fn why_not(begins: bool) -> &'static str
     }
 }
 
-/// What is said of an exit to a place.
+/// The message about an exit to a place.
 fn exit_words(alloc: Global, edge: &str, task: &str, place: &str, why: &str) -> Made<Words>
     ensures { IfOk result (λ words. words ≡ exit_text edge.now task.now place.now why.now) }
 {
     words!(in alloc; "{edge}task {task} ends here and goes on to {place}{why}")
 }
 
-/// What is said of exits to two places.
+/// The message about exits to two places.
 fn exits_words(alloc: Global, task: &str, place: &str, second: &str) -> Made<Words>
     ensures { IfOk result (λ words. words ≡ exits_text task.now place.now second.now) }
 {
     words!(in alloc; "task {task} ends here and goes on to {place}, or to {second} if the branch is taken; neither is one of its targets")
 }
 
-/// What is said of an exit by an edge.
+/// The message about an exit by an edge.
 fn one_said(subject: &Subject, edge: &str, task: u32, index: u32) -> Made<Words>
     ensures { IfOk result (λ words. words ≡ exit_to subject.now task edge.now index) }
 {
@@ -150,7 +150,7 @@ fn one_said(subject: &Subject, edge: &str, task: u32, index: u32) -> Made<Words>
     exit_words(subject.alloc(), edge, name, place.as_str(), why)
 }
 
-/// What is said of exits by both edges.
+/// The message about exits by both edges.
 fn both_said(subject: &Subject, task: u32, index: u32, other: u32) -> Made<Words>
     ensures { IfOk result (λ words. words ≡ exits_text (task_name subject.now task) (place_text subject.now index) (place_text subject.now other)) }
 {
@@ -164,7 +164,7 @@ fn both_said(subject: &Subject, task: u32, index: u32, other: u32) -> Made<Words
     )
 }
 
-/// What is said of exits to these places.
+/// The message about exits to these places.
 fn exit_said(
     subject: &Subject,
     finding: &Finding,
@@ -188,7 +188,7 @@ fn exit_said(
     }
 }
 
-/// What is said of a finding's exits to places that are no targets.
+/// The message about a finding's exits to places that are no targets.
 pub fn exit_message(subject: &Subject, finding: &Finding) -> Made<Words>
     ensures { IfOk result (λ words. words ≡ exit_message subject.now finding.now) }
 {

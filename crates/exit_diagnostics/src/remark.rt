@@ -7,7 +7,7 @@ use finding_paths::mark::CostlyMark;
 pub enum StopRemark {
     /// This task never runs: the program starts elsewhere, and no other task has it as a target.
     NeverRuns(u32),
-    /// This task has targets, and comes to no exit.
+    /// This task has targets, and reaches no exit.
     NoExit(u32),
     /// This task has targets, some of which no exit takes.
     NotTaken(u32),

@@ -79,7 +79,7 @@ fn may_return(subject: &Subject, entry: u32, task: u32) -> bool
         && (subject.targets(task).len() < 16 && leaves_by_jr(subject, task))
 }
 
-/// A task, if it does so.
+/// A task, if `may_return` holds of it.
 fn returning_by(subject: &Subject, entry: u32, task: Option<u32>) -> Option<u32>
     ensures { result ≡ returning_by subject.now entry task }
 {
@@ -115,7 +115,7 @@ fn but_lists(alloc: Global, targets: &[Place], name: &str) -> Made<Words>
     }
 }
 
-/// What is said of a task that leaves through jr.
+/// The message about a task that leaves through jr.
 fn leaves_words(alloc: Global, task: &str, lists: &str) -> Made<Words>
     ensures { IfOk result (λ words. words ≡ leaves_text task.now lists.now) }
 {

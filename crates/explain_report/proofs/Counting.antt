@@ -1,4 +1,4 @@
--- A list of the first no findings is empty, so all are behind it.
+-- A list of the first no findings is empty, so all are after it.
 use Rattle.std.proofs.Common.{◌≡◌, ◌+◌, ℕ, List, [], ◌∷◌, length, map, sym, ◌∙◌, ap, refl, zero-add}
 use Rattle.task_descriptor.specs.Listing.{Listing}
 use Rattle.finding_paths.specs.declared.shown.ShownFinding.{ShownFinding}

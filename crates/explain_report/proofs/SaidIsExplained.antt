@@ -1,4 +1,5 @@
--- What `explain` says is what is said of the marks, since nothing is said of warnings, of a certificate or of a script.
+-- What `explain` writes are the diagnostics for the marks, since there are none for warnings, a certificate or a
+-- script.
 use Rattle.std.proofs.Common.{◌≡◌, ◌++◌, ℕ, List, [], None, Ok, false, not, refl, sym, ap, append-nil}
 use Rattle.task_descriptor.specs.Listing.{Listing}
 use Rattle.annotated_asm.specs.ProgramText.{parse}

@@ -17,12 +17,12 @@ use Rattle.diagnostics.specs.Helps.{in_words}
 use Rattle.input_diagnostics.specs.CertificateErrors.{certificate_errors}
 use Rattle.explain_report.specs.Inputs.{ArePlaces}
 
--- nothing is said
+-- there are no diagnostics
 abbrev pub is_silent : List Diagnostic → Bool
 is_silent [] = true
 is_silent (d ∷ ds) = false
 
--- the checker has more findings with a certificate than with the least one: so many, and so many
+-- the checker has more findings with a certificate, `found`, than with the least one, `least`
 abbrev pub more_message : (found least : ℕ) → List ℕ
 more_message found least =
     codes "a mask in this certificate is too large: check finds " ++ (decimal found ++ (codes " faults with it, " ++ (decimal least ++ codes " with the least one")))
@@ -52,12 +52,12 @@ IsFitSaid p (Ok cert) said =
     (least : List (List (ℕ × ℕ))) × IsLeast p least × (said ≡ unfit_errors (length (all_rules p cert)) (length (all_rules p least)))
 IsFitSaid p (Err fault) said = said ≡ []
 
--- what is said of it beside the program's marks, where nothing is wrong with it alone
+-- the diagnostics for it beside the program's marks, where nothing is wrong with it alone
 abbrev pub IsFurtherSaid : (silent : Bool) → Listing → (certificate : List ℕ) → List Diagnostic → Type 0
 IsFurtherSaid false p certificate said = said ≡ []
 IsFurtherSaid true p certificate said = IsFitSaid p (cert_parse certificate (names_of p)) said
 
--- what is said of the text of a certificate
+-- the diagnostics for the text of a certificate
 pub record IsFileSaid (text : List ℕ) (p : Listing) (certificate : List ℕ) (said : List Diagnostic) : Type 0 where
   pub code : List Span
   pub places : ArePlaces text code

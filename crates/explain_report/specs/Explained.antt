@@ -31,8 +31,8 @@ abbrev pub script_said : (file : Option (List ℕ)) → Listing → (script : Li
 script_said None p script = []
 script_said (Some name) p script = script_errors p script
 
--- What is said of a program: of its marks, of the certificate, and of the script. What could be better about marks is said
--- only where none is wrong, and leaves the status as it is.
+-- The diagnostics for a program: for its marks, the certificate, and the script. What could be better about marks is
+-- reported only where none is wrong, and leaves the status as it is.
 pub record IsProgramExplained (cert_file script_file : Option (List ℕ)) (warnings : Bool) (text certificate script : List ℕ) (p : Listing) (e : Explanation) : Type 0 where
   pub errors : List Diagnostic
   pub wrong : AreMarkErrors text errors
@@ -44,7 +44,8 @@ pub record IsProgramExplained (cert_file script_file : Option (List ℕ)) (warni
   pub marked : e.has_wrong_marks ≡ not (is_silent errors)
   pub status : e.status ≡ said_status (errors ++ (beside ++ script_said script_file p script))
 
--- what is said of a text that spells no program: only what it is, if it begins as a certificate or a script of events does
+-- the diagnostics for a text that spells no program: only what it is, if it begins as a certificate or a script of
+-- events does
 abbrev pub refused_by : Option Mistaken → (text : List ℕ) → AsmFault → List Diagnostic
 refused_by None text fault = refusal text fault
 refused_by (Some kind) text fault = mistaken_error kind text ∷ []
@@ -57,7 +58,8 @@ IsReadExplained cert_file script_file warnings text certificate script (Ok p) e 
     IsProgramExplained cert_file script_file warnings text certificate script p e
 IsReadExplained cert_file script_file warnings text certificate script (Err fault) e = e ≡ record { said = in_order (refused_said text fault); has_wrong_marks = false; status = 1 }
 
--- what is said of a program text, with warnings or without, and of a certificate and of a script, if a file of one is named
+-- the diagnostics for a program text, with warnings or without, and for a certificate and a script, if a file of one
+-- is named
 abbrev pub IsExplained : (cert_file script_file : Option (List ℕ)) → (warnings : Bool) → (text certificate script : List ℕ) → Explanation → Type 0
 IsExplained cert_file script_file warnings text certificate script e =
     IsReadExplained cert_file script_file warnings text certificate script (parse text) e

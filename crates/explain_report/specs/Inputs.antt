@@ -6,7 +6,7 @@ use Rattle.annotated_asm.specs.declared.position.Position.{Position}
 use Rattle.annotated_asm.specs.Sources.{Sources, sources_of}
 use Rattle.diagnostics.specs.declared.diagnostic.Span.{Span}
 
--- where an instruction stands that begins at a place and has so many bytes
+-- where an instruction stands that begins at a place and has `width` bytes
 abbrev pub span_of : Position × ℕ → Span
 span_of at = record { line = at.0.line; column = at.0.column; width = at.1 }
 

@@ -1,4 +1,4 @@
--- What is left to mend by hand in the text that `annotate` proposes, as it is said on standard error.
+-- What is left to mend by hand in the text that `annotate` proposes, as standard error gets it.
 use Rattle.std.specs.Prelude.{◌≡◌, ◌≢◌, ℕ, nat_eq, if◌then◌else◌, List, [], ◌∷◌, ◌++◌, length, codes, Option, None, Result, Ok, Err, IsSomeAnd}
 use Rattle.std.specs.Fmt.{decimal}
 use Rattle.task_descriptor.specs.Listing.{Listing}
@@ -25,7 +25,7 @@ closing_line name count =
     if nat_eq count 0 then codes "multiscalar: " ++ (name ++ (codes ": all marks are right" ++ 10 ∷ []))
     else codes "multiscalar: " ++ (name ++ (codes ": " ++ (decimal count ++ (codes " left to mend by hand" ++ 10 ∷ []))))
 
--- the checker has so many findings of the program with a least certificate
+-- the checker has `count` findings of the program with a least certificate
 pub record IsFindingCount (p : Listing) (count : ℕ) : Type 0 where
   pub cert : List (List (ℕ × ℕ))
   pub least : IsLeast p cert
@@ -43,7 +43,7 @@ abbrev pub IsLeftRead : (name text : List ℕ) → Result Listing AsmFault → O
 IsLeftRead name text (Ok p) left = IsSomeAnd left (IsLeftIn name text p)
 IsLeftRead name text (Err fault) left = left ≡ None
 
--- what is left in a text that was written with this status; nothing is said of a refusal
+-- what is left in a text that was written with this status; nothing is written about a refusal
 abbrev pub IsLeftOf : (name : List ℕ) → Report → Option LeftOver → Type 0
 IsLeftOf name report left =
     (report.status ≢ 0 → left ≡ None) × (report.status ≡ 0 → IsLeftRead name report.bytes (parse report.bytes) left)

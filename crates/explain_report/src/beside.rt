@@ -27,7 +27,7 @@ use mask_certificate::reading::read;
 use std::alloc::{AllocError, Global};
 use task_descriptor::program::Program;
 
-/// What is said of a certificate, if a file of one is named.
+/// The diagnostics for a certificate, if a file of one is named.
 pub(crate) fn certificate_said(
     alloc: Global,
     file: &Option<String>,
@@ -47,7 +47,7 @@ pub(crate) fn certificate_said(
     }
 }
 
-/// Whether nothing is said.
+/// Whether there are no diagnostics.
 pub(crate) fn is_silent(list: &[Diagnostic]) -> bool
     ensures { result ≡ is_silent list.now }
 {
@@ -68,7 +68,7 @@ pub(crate) fn both(
     Ok(first)
 }
 
-// What is said of the text of a certificate.
+// The diagnostics for the text of a certificate.
 fn file_said(
     alloc: Global,
     text: &[u8],
@@ -105,7 +105,7 @@ fn alone_said(
     certificate_errors(alloc, certificate, program, &lines, least)
 }
 
-// What is said of a certificate beside the program's marks, where nothing is wrong with it alone.
+// The diagnostics for a certificate beside the program's marks, where nothing is wrong with it alone.
 fn further_said(
     alloc: Global,
     silent: bool,
@@ -141,7 +141,7 @@ fn fit_said(
     }
 }
 
-// What is said of a certificate beside the least one.
+// The diagnostics for a certificate beside the least one.
 fn compared(
     alloc: Global,
     program: &Program,

@@ -27,8 +27,8 @@ use std::alloc::{AllocError, Global};
 use task_descriptor::program::Program;
 use text_diagnostics::refusal::refusal;
 
-/// What is said of a program text, with warnings or without, and of the texts of a certificate and of an event script, if
-/// a file of one is named.
+/// The diagnostics for a program text, with warnings or without, and for the texts of a certificate and of an event
+/// script, if a file of one is named.
 ///
 /// # Errors
 ///
@@ -73,7 +73,7 @@ fn refused_said(alloc: Global, text: &[u8], fault: AsmFault) -> Result<Vec<Diagn
     }
 }
 
-// What is said of a certificate or a script of events.
+// The diagnostic for a certificate or a script of events, as the only one.
 fn mistaken_said(alloc: Global, kind: Mistaken, text: &[u8]) -> Result<Vec<Diagnostic>, AllocError>
     ensures { IfOk result (λ list. list.items ≡ mistaken_error kind text.now ∷ []) }
 {
@@ -82,7 +82,7 @@ fn mistaken_said(alloc: Global, kind: Mistaken, text: &[u8]) -> Result<Vec<Diagn
     Ok(list)
 }
 
-// What is said of a text that spells no program.
+// The diagnostics for a text that spells no program.
 fn refusal_explained(alloc: Global, text: &[u8], fault: AsmFault) -> Result<Explanation, AllocError>
     ensures { IfOk result (λ explained. explained ≡ record { said = in_order (refused_said text.now fault); has_wrong_marks = false; status = 1 }) }
 {
@@ -94,7 +94,7 @@ fn refusal_explained(alloc: Global, text: &[u8], fault: AsmFault) -> Result<Expl
     })
 }
 
-// What is said of the program that a text spells: of its marks, of the certificate, and of the script.
+// The diagnostics for the program that a text spells: for its marks, the certificate, and the script.
 fn program_explained(
     alloc: Global,
     cert_file: &Option<String>,
@@ -191,7 +191,7 @@ fn all_warnings(
     Ok(list)
 }
 
-// Whether warnings are to be told: they are asked for, and nothing is wrong with the marks.
+// Whether warnings are to be reported: they are asked for, and nothing is wrong with the marks.
 fn is_asked(warnings: bool, errors: &[Diagnostic]) -> bool
     ensures { result ≡ (warnings && is_silent errors.now) }
 {

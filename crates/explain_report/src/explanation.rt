@@ -1,12 +1,12 @@
-//! What is said of the texts of `explain`.
+//! The diagnostics for the texts of `explain`.
 
 use diagnostics::diagnostic::Diagnostic;
 use diagnostics::listed::Listed;
 
-/// What is said of the texts of `explain`, whether marks are wrong, and the status of the program.
+/// The diagnostics for the texts of `explain`, whether marks are wrong, and the status of the program.
 #[derive(Debug, Drop)]
 pub struct Explanation {
-    /// What is said.
+    /// The diagnostics.
     pub said: Listed<Diagnostic>,
     /// Whether a mark of the program is wrong, so that a run may show its harm.
     pub has_wrong_marks: bool,

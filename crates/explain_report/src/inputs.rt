@@ -79,7 +79,7 @@ fn bytes_of(alloc: Global, pieces: &[&[u8]]) -> Result<Vec<u8>, AllocError>
     Ok(bytes)
 }
 
-/// Where an instruction stands that begins here and has so many bytes.
+/// Where an instruction stands that begins here and has `width` bytes.
 fn span_of(at: Position, width: usize) -> Span
     ensures { result ≡ span_of (at, width) }
 {

@@ -3,7 +3,7 @@
 /// What is left to mend by hand in a text.
 #[derive(Debug, Drop)]
 pub struct LeftOver {
-    /// What is said of it on standard error: what `explain` says, and a line that says how much is left.
+    /// The text for standard error: that of `explain`, and a line that says how much is left.
     pub said: Vec<u8>,
     /// How many findings are left; 0 where all marks are right.
     pub count: usize,

@@ -9,8 +9,9 @@ ghost use Rattle.explain_report.specs.ExplainText.{explained_text};
 ghost use Rattle.explain_report.specs.LeftOvers.{IsLeftIn, closing_line};
 ghost use Rattle.explain_report.specs.declared.left.LeftOver.{LeftOver};
 
-/// What is said of a text in which something may be left is what `explain` says of it, without colours, without warnings,
-/// and without a certificate and a script, and a line that says how much is left in place of its own last line.
+/// What standard error gets about a text in which something may be left is what `explain` writes of it, without
+/// colours, without warnings, and without a certificate and a script, and a line that says how much is left in place
+/// of its own last line.
 pub fn said_is_explained()
     ensures { (name text certificate script : List ℕ) (p : Listing) (left : LeftOver) → parse text ≡ Ok p
         → IsLeftIn name text p left

@@ -1,5 +1,5 @@
-//! What `explain` writes: what is said of a program text, of a certificate and of an event script, as one list of
-//! diagnostics, in text form, as a log in SARIF, or as lines of JSON; and what `annotate` could not mend.
+//! What `explain` writes: the diagnostics for a program text, a certificate and an event script, as one list, in text
+//! form, as a log in SARIF, or as lines of JSON; and what `annotate` could not mend.
 #![tactic(auto)]
 
 mod beside;

@@ -52,7 +52,7 @@ fn tells_what_is_left(rt: HostRuntime) {
     }
 }
 
-// `print` mends nothing, and of a text that is refused nothing is said.
+// `print` mends nothing, and for a text that is refused there is no line.
 #[test]
 fn tells_nothing_else(rt: HostRuntime) {
     let text = ASTRAY.as_bytes();

@@ -1,4 +1,4 @@
--- Nothing is said exactly where there is nothing to say: the first line or finding is always told.
+-- There is no diagnostic exactly where nothing is wrong: the first line or finding is always reported.
 use Rattle.std.proofs.Common.{◌≡◌, ℕ, ◌-◌, Bool, true, false, List, [], ◌∷◌, ◌++◌, length, take, Option, None, Some, Result, Ok, Err, refl, sym, ◌∙◌, ap, subst, ◌↔◌, arith}
 use Rattle.std.specs.Prelude.{codes, ◌==◌, if◌then◌else◌}
 use Rattle.std.specs.Result.{result_err}

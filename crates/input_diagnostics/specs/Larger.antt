@@ -1,5 +1,4 @@
--- What the masks of a certificate lack, and which are too large, beside those of the program's least certificate (own
--- choice).
+-- What the masks of a certificate lack, and which are too large, beside those of the program's least certificate.
 use Rattle.std.specs.Prelude.{ℕ, Bool, not, ◌&&◌, List, map, position, slice_index_or, bit_and, unwrap_or, is_some, if◌then◌else◌, Option, Some, None}
 use Rattle.std.specs.Int.{bit_not, w64}
 use Rattle.mips_instructions.specs.Words.{has}

@@ -1,4 +1,5 @@
--- What is said of a certificate that does not fit its program: of the findings of the rules 1 to 4, which judge it alone.
+-- Diagnostics for a certificate that does not fit its program: for findings of the rules 1 to 4, which judge it
+-- alone.
 use Rattle.std.specs.Prelude.{ℕ, zero, suc, ◌+◌, ◌-◌, ◌^◌, min, Bool, true, false, ◌&&◌, ◌||◌, ◌==◌, nat_lt, nat_le, if◌then◌else◌, List, [], ◌∷◌, ◌++◌, length, take, drop, filter, slice_get, position, bit_or, codes, unwrap_or, Option, Some, None}
 use Rattle.std.specs.Fmt.{decimal}
 use Rattle.std.specs.List.{take_while}
@@ -35,11 +36,11 @@ own_findings p cert = filter is_own (all_rules p cert)
 
 -- ---- where it is
 
--- so many lines or columns further on (no number of one is greater than the greatest `usize`)
+-- `count` lines or columns further on (no number of one is greater than the greatest `usize`)
 abbrev pub further : (line count : ℕ) → ℕ
 further line count = min (line + count) 18446744073709551615
 
--- the line that begins a task: behind the first line stand the lines of the tasks before it, and their entries
+-- the line that begins a task: after the first line stand the lines of the tasks before it, and their entries
 abbrev pub task_line : (cert : List (List (ℕ × ℕ))) → (task : ℕ) → ℕ
 task_line cert zero = 2
 task_line cert (suc task) = further (further (task_line cert task) 1) (length (list_of cert task))
@@ -55,7 +56,7 @@ index_width index = length (decimal index)
 abbrev pub task_name : Listing → (task : ℕ) → List ℕ
 task_name p task = name_at (slice_get p.tasks task)
 
--- the line of a task; the index of an entry; the mask of an entry, which has so many digits
+-- the line of a task; the index of an entry; the mask of an entry, which has `digits` digits
 abbrev pub span_by : Rule → Listing → (cert : List (List (ℕ × ℕ))) → (digits : ℕ) → Finding → Span
 span_by rule.EntryWithoutMask p cert digits f = span (task_line cert f.task) 0 (5 + length (task_name p f.task))
 span_by rule.NextWithoutMask p cert digits f = span (entry_line cert f.task f.index) 0 (index_width f.index)
@@ -81,7 +82,7 @@ note_by rows index (Some s) = record {
 abbrev pub instruction_note : ProgramView → (index : ℕ) → List Note
 instruction_note lines index = note_by lines.rows index (slice_get lines.code index)
 
--- ---- findings of one mask, which are told together
+-- ---- findings of one mask, which are reported together
 
 -- a finding that says which register a mask lacks
 abbrev pub lacks : Rule → Bool
@@ -105,7 +106,7 @@ with_missing mask (f ∷ fs) = with_missing (bit_or mask (2 ^ register_in f.reg)
 abbrev pub missing_text : List Finding → List ℕ
 missing_text group = registers_text (with_missing 0 group)
 
--- ---- what is said
+-- ---- the messages
 
 abbrev pub code_by : Rule → Code
 code_by rule.EntryWithoutMask = EntryWithoutMask
@@ -143,7 +144,7 @@ message_by rule.NextWithoutMask cert least name f group =
     codes "task " ++ (name ++ (codes " goes on from index " ++ (decimal f.index ++ codes " to an instruction without a mask")))
 message_by _ cert least name f group = lacking_message cert least name f group
 
--- whether a mask can be written in so many digits: 8 digits are those of registers 0 to 31
+-- whether a mask can be written in `digits` digits: 8 digits are those of registers 0 to 31
 abbrev pub is_short : (digits mask : ℕ) → Bool
 is_short digits mask = digits == 16 || nat_lt mask (2 ^ 32)
 
@@ -188,20 +189,20 @@ misfit_error p cert least digits lines f group =
     error Certificate (code_by f.rule) at (message_by f.rule cert least (task_name p f.task) f group)
     (instruction_note lines f.index) (help_by f.rule cert least digits at f)
 
--- a finding that is told with the one before it
+-- a finding that is reported together with the one before it
 abbrev pub goes_on : (before : Option Finding) → Finding → Bool
 goes_on None f = false
 goes_on (Some g) f = is_same_mask g f
 
--- what is said of some findings
+-- the diagnostics for some findings
 abbrev pub told_from : Listing → (cert least : List (List (ℕ × ℕ))) → (digits : ℕ) → ProgramView → (before : Option Finding) → List Finding → List Diagnostic
 told_from p cert least digits lines before [] = []
 told_from p cert least digits lines before (f ∷ fs) =
     (if goes_on before f then [] else misfit_error p cert least digits lines f (take_while (is_same_mask f) (f ∷ fs)) ∷ [])
     ++ told_from p cert least digits lines (Some f) fs
 
--- an error for each mask that is missing or lacks registers, in a certificate of masks with so many digits, beside the
--- program's least one
+-- an error for each mask that is missing or lacks registers, in a certificate of masks with `digits` digits, beside
+-- the program's least one
 abbrev pub misfit_errors : Listing → (cert least : List (List (ℕ × ℕ))) → (digits : ℕ) → ProgramView → List Diagnostic
 misfit_errors p cert least digits lines =
     let told = told_from p cert least digits lines None (own_findings p cert) in

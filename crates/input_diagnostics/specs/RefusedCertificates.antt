@@ -1,4 +1,4 @@
--- What is said of the text of a certificate that is refused.
+-- Diagnostics for the text of a certificate that is refused.
 use Rattle.std.specs.Prelude.{ℕ, ◌+◌, ◌-◌, Bool, true, false, not, ◌&&◌, ◌||◌, ◌==◌, nat_eq, nat_lt, nat_le, if◌then◌else◌, List, [], ◌∷◌, ◌++◌, length, take, drop, replicate, slice_get, slice_index, position, codes, unwrap_or, is_some, Option, Some, None}
 use Rattle.std.specs.Fmt.{decimal}
 use Rattle.std.specs.List.{list_all, list_any, count_by, starts_with}
@@ -50,8 +50,8 @@ bare_mask mask = bare (str_to_ascii_lowercase mask)
 abbrev pub is_zero : ℕ → Bool
 is_zero b = b == 48
 
--- digits that are a mask of so many digits once there are zeros in front of them: those before the last eight are zeros, since
--- the last eight are the registers 0 to 31
+-- digits that are a mask of `digits` digits once there are zeros in front of them: those before the last eight are
+-- zeros, since the last eight are the registers 0 to 31
 abbrev pub is_incomplete : (digits : ℕ) → (bare : List ℕ) → Bool
 is_incomplete digits bare =
     nat_lt 0 (length bare) && (nat_le (length bare) digits && (list_all is_mask_digit bare && list_all is_zero (take (length bare - 8) bare)))
@@ -60,8 +60,9 @@ is_incomplete digits bare =
 abbrev pub completed : (digits : ℕ) → (bare : List ℕ) → List ℕ
 completed digits bare = replicate (digits - length bare) 48 ++ bare
 
--- What is wrong with a mask behind the first `k` bytes of a row, where masks have so many digits. Of so many digits, it has a
--- bit above 33, or capital letters; else only zeros in front are missing, or there is a `0x`; or it is no mask at all.
+-- What is wrong with a mask after the first `k` bytes of a row and a space, where masks have `digits` digits. With
+-- `digits` digits it has a bit above 33, or capital letters; else only zeros in front are missing, or there is a
+-- `0x`; or it is no mask at all.
 abbrev pub mask_slip : (digits k : ℕ) → (mask : List ℕ) → LineSlip
 mask_slip digits k mask =
     if length mask == digits && list_all is_mask_digit (str_to_ascii_lowercase mask)
@@ -72,8 +73,8 @@ abbrev pub slip_by : (digits : ℕ) → (space : Option ℕ) → (row : List ℕ
 slip_by digits None row = Form
 slip_by digits (Some k) row = if is_some (index_in (take k row)) then mask_slip digits k (drop (k + 1) row) else Index k
 
--- a line without LF; a `task` line, whose name is none; an empty line; a line that has to be the first `task` line; else what
--- an entry lacks
+-- a line without LF; a `task` line whose name is no name of a task; an empty line; a line that has to be the first
+-- `task` line; else what an entry lacks
 abbrev pub line_slip : (ended : Bool) → (n digits : ℕ) → (row : List ℕ) → LineSlip
 line_slip ended n digits row =
     if not ended then Unended
@@ -146,7 +147,7 @@ slip_help digits at next row (Capitals k) = small_help at (drop (k + 1) row)
 slip_help digits at next row (Incomplete k) = completed_help digits at (drop (k + 1) row)
 slip_help digits at next row slip = in_words (slip_words digits slip)
 
--- ---- what is said of each fault
+-- ---- the diagnostic for each fault
 
 -- how many digits a mask has: the first line says which
 abbrev pub digits_in : (text : List ℕ) → ℕ
@@ -173,7 +174,7 @@ abbrev pub is_incomplete_slip : LineSlip → Bool
 is_incomplete_slip (Incomplete k) = true
 is_incomplete_slip _ = false
 
--- what is said of line n, where the mask behind the first `k` bytes lacks zeros in front
+-- the diagnostic for line n, where the mask after the first `k` bytes and a space lacks zeros in front
 abbrev pub incomplete_error : (digits n : ℕ) → (row : List ℕ) → (k : ℕ) → Diagnostic
 incomplete_error digits n row k =
     let at = mask_span n row k in
@@ -193,7 +194,7 @@ incomplete_from digits last n [] = []
 incomplete_from digits last n (row ∷ rows) =
     incomplete_after digits last n row ++ incomplete_from digits last (n + 1) rows
 
--- what is said of line n; if its mask lacks zeros in front, then also of the masks after it that do, up to 1,000 in all
+-- the diagnostics for line n; if its mask lacks zeros in front, then also for the masks after it that do, up to 1,000
 abbrev pub line_errors : Listing → (text : List ℕ) → (n : ℕ) → List Diagnostic
 line_errors p text n =
     line_error p text n
@@ -260,7 +261,7 @@ shape_error rows =
     let row = row_at rows n in
     error Certificate Shape (span n 0 (length (first_word row))) (shape_message (index_of row)) [] anew
 
--- what is said of a text that is refused
+-- the diagnostics for a text that is refused
 abbrev pub refused_error : Listing → (text : List ℕ) → CertFault → List Diagnostic
 refused_error p text fault.Header = header_error text (row_at (lines text) 1) ∷ []
 refused_error p text (fault.Line n) = line_errors p text n

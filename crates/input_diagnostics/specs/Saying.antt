@@ -24,7 +24,7 @@ error source code span message notes help = record {
 abbrev pub row_at : (rows : List (List ℕ)) → (n : ℕ) → List ℕ
 row_at rows n = unwrap_or (slice_get rows (n - 1)) []
 
--- a part of line n with so many bytes in front of it (no line is greater than the greatest `u32`, no column than the
+-- a part of line n with `before` bytes in front of it (no line is greater than the greatest `u32`, no column than the
 -- greatest `usize`)
 abbrev pub span : (n before width : ℕ) → Span
 span n before width = record { line = min n 4294967295; column = min (before + 1) 18446744073709551615; width = width }

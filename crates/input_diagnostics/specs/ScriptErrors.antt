@@ -65,8 +65,8 @@ is_tab b = b == 9
 abbrev pub is_comma : ℕ → Bool
 is_comma b = b == 44
 
--- How many bytes stand in front of the first space that separates no two words: one at the line's end, at its beginning, or
--- behind another; the first byte here has `index` in front of it, and `word` says that a word ends there.
+-- How many bytes stand in front of the first space that separates no two words: one at the line's end, at its
+-- beginning, or after another; the first byte here has `index` in front of it, and `word` says that a word ends there.
 abbrev pub stray_space : (word : Bool) → (index : ℕ) → (line : List ℕ) → Option ℕ
 stray_space word index [] = None
 stray_space word index (b ∷ bs) =
@@ -172,7 +172,7 @@ abbrev pub is_in_word : Option ℕ → Bool
 is_in_word None = false
 is_in_word (Some b) = not (is_space b || (is_tab b || is_comma b))
 
--- a tab or a comma with so many bytes in front of it separates two words
+-- a tab or a comma with `before` bytes in front of it separates two words
 abbrev pub is_between : (line : List ℕ) → (before : ℕ) → Bool
 is_between line before = is_in_word (slice_get line (before - 1)) && is_in_word (slice_get line (before + 1))
 
@@ -220,8 +220,8 @@ abbrev pub is_strict : Slip → Bool
 is_strict (Strict before) = true
 is_strict _ = false
 
--- What is said of some lines that spell no event: an error for each, but only one for all that end with CR, and one for all
--- that have what only `replay --strict` reads.
+-- The diagnostics for some lines that spell no event: an error for each, but only one for all that end with CR, and one
+-- for all that have what only `replay --strict` reads.
 abbrev pub said_of : Listing → (rows : List (List ℕ)) → (return strict : Bool) → List BadLine → List Diagnostic
 said_of p rows return strict [] = []
 said_of p rows return strict (bad ∷ more) =
@@ -239,7 +239,7 @@ abbrev pub trace_error : (line : List ℕ) → Diagnostic
 trace_error line = error Script ScriptLine (span 1 0 (length line)) (codes "this is a trace, not a script of events") []
     (in_words (codes "run --emit script writes one; add --with-values to judge it with replay --strict"))
 
--- what is said of the lines that are shown, and how many more there are of so many
+-- the diagnostics for the lines that are shown, and how many more there are of `count`
 abbrev pub lines_errors : Listing → (rows : List (List ℕ)) → (shown : List BadLine) → (count : ℕ) → List Diagnostic
 lines_errors p rows shown count =
     said_of p rows false false shown
@@ -249,7 +249,7 @@ abbrev pub told_in : Listing → (rows : List (List ℕ)) → (shown : List BadL
 told_in p rows shown count =
     if is_trace (row_at rows 1) then trace_error (row_at rows 1) ∷ [] else lines_errors p rows shown count
 
--- what is said of a text with these lines that spell no event
+-- the diagnostics for a text with these lines that spell no event
 abbrev pub errors_in : Listing → (rows : List (List ℕ)) → List BadLine → List Diagnostic
 errors_in p rows list = if length list == 0 then [] else told_in p rows (take most_shown list) (length list)
 

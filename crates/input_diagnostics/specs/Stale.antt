@@ -1,5 +1,5 @@
--- What is said of a certificate that can be read: where a task has another number of instructions in it than in the program,
--- it is of another text.
+-- Diagnostics for a certificate that can be read: where a task has another number of instructions in it than in the
+-- program, it is of another text.
 use Rattle.std.specs.Prelude.{ℕ, zero, suc, ◌+◌, ◌==◌, if◌then◌else◌, List, [], ◌∷◌, ◌++◌, length, codes, Option, Some, None}
 use Rattle.std.specs.Fmt.{decimal}
 use Rattle.std.specs.Option.{option_or}

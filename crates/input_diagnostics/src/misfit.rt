@@ -1,4 +1,4 @@
-//! What is said of a certificate that does not fit its program.
+//! Diagnostics for a certificate that does not fit its program.
 
 ghost use Rattle.std.specs.Prelude.{◌≡◌, ◌++◌, ◌∷◌, [], ◌<◌, ◌≤◌, ◌^◌, ◌==◌, length, map as each, filter, position, slice_get, take, IfOk, OnOk};
 ghost use Rattle.std.specs.Fmt.{decimal};
@@ -385,7 +385,7 @@ fn write_digits(text: &mut String, digits: usize, number: u64) -> Result<(), All
     Ok(())
 }
 
-/// Whether a mask can be written in so many digits.
+/// Whether a mask can be written in `digits` digits.
 fn is_short(digits: usize, mask: u64) -> bool
     ensures { result ≡ is_short digits mask }
 {
@@ -401,7 +401,7 @@ fn digits_of(alloc: Global, digits: usize, mask: u64) -> Result<Words, AllocErro
     Ok(Words::new(text))
 }
 
-/// What to do about a mask: the one to write, if it can be written in so many digits.
+/// What to do about a mask: the one to write, if it can be written in `digits` digits.
 fn mask_help(alloc: Global, digits: usize, mask: u64, at: Span) -> Result<Help, AllocError>
     ensures { IfOk result (λ help. help ≡ mask_help digits mask at) }
 {
@@ -429,7 +429,7 @@ fn entry_span(
     Ok(span(line, width.saturating_add(1), digits))
 }
 
-/// What to do about the mask at another index: the one to write there, if it can be written in so many digits.
+/// What to do about the mask at another index: the one to write there, if it can be written in `digits` digits.
 fn least_help(
     alloc: Global,
     index: u32,
@@ -509,7 +509,7 @@ fn help_of(
     }
 }
 
-/// What is said of a finding, and of those that are told with it.
+/// The diagnostic for a finding, and for those that are reported together with it.
 fn misfit_error(
     alloc: Global,
     program: &Program,
@@ -531,7 +531,7 @@ fn misfit_error(
     Ok(error(Source::Certificate, code, at, message, notes, help))
 }
 
-/// Whether a finding is told with the one before it.
+/// Whether a finding is reported together with the one before it.
 fn goes_on(before: Option<Finding>, finding: &Finding) -> bool
     ensures { result ≡ goes_on before finding.now }
 {
@@ -541,7 +541,7 @@ fn goes_on(before: Option<Finding>, finding: &Finding) -> bool
     }
 }
 
-/// Adds what is said of the first of some findings, and of those that are told with it, if there is room.
+/// Adds the diagnostic for the first of some findings, and for those reported together with it, if there is room.
 fn add_error(
     alloc: Global,
     list: &mut Vec<Diagnostic>,
@@ -567,7 +567,7 @@ fn add_error(
     Ok(())
 }
 
-/// What is said of some findings, at most `most` errors, and how many errors there are.
+/// The diagnostics for some findings, at most `most` errors, and how many errors there are.
 fn told_of(
     alloc: Global,
     program: &Program,
@@ -598,7 +598,7 @@ fn told_of(
     Ok((list, count))
 }
 
-/// An error for each mask that is missing or lacks registers, in a certificate whose masks have so many digits.
+/// An error for each mask that is missing or lacks registers, in a certificate whose masks have `digits` digits.
 pub(crate) fn misfit_errors(
     alloc: Global,
     program: &Program,

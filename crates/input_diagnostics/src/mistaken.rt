@@ -80,7 +80,7 @@ fn mistaken_help(kind: Mistaken) -> &'static str
     }
 }
 
-/// What is said of a text that is no program, but a certificate or a script of events.
+/// The diagnostic for a text that is no program, but a certificate or a script of events.
 ///
 /// # Errors
 ///

@@ -1,4 +1,4 @@
-//! What is said of the text of a certificate that is refused.
+//! Diagnostics for the text of a certificate that is refused.
 
 ghost use Rattle.std.specs.Prelude.{◌≡◌, ◌+◌, ◌-◌, ◌≤◌, ◌++◌, ◌∷◌, [], map as each, position, take, drop, length, if◌then◌else◌, IfOk, OnOk};
 ghost use Rattle.std.specs.List.{count_by, list_all};
@@ -29,7 +29,7 @@ use task_descriptor::program::Program;
 pub enum LineSlip {
     /// It does not end with LF.
     Unended,
-    /// It is a `task` line, and its name is none.
+    /// It is a `task` line whose name is no name of a task.
     Name,
     /// It is empty.
     Empty,
@@ -37,7 +37,7 @@ pub enum LineSlip {
     First,
     /// It is neither a `task` line, nor has it a space.
     Form,
-    /// Before its first space, which has so many bytes before it, stands no index.
+    /// Before its first space, which has this many bytes before it, stands no index.
     Index(usize),
     /// After its first space stands a mask with capital letters.
     Capitals(usize),
@@ -164,14 +164,14 @@ fn is_low(bare: &[u8]) -> bool
         .all(|digit| *digit == b'0')
 }
 
-/// Whether digits are a mask of so many digits once there are zeros in front of them.
+/// Whether digits are a mask of `digits` digits once there are zeros in front of them.
 fn is_incomplete(digits: usize, bare: &[u8]) -> bool
     ensures { result ≡ is_incomplete digits bare.now }
 {
     0 < bare.len() && bare.len() <= digits && is_all_digits(bare) && is_low(bare)
 }
 
-/// Digits with zeros in front of them, so many in all.
+/// Digits with zeros in front of them, `digits` digits in all.
 fn completed(alloc: Global, digits: usize, bare: &[u8]) -> Result<Vec<u8>, AllocError>
     ensures { IfOk result (λ whole. whole.items ≡ completed digits bare.now) }
 {
@@ -181,8 +181,7 @@ fn completed(alloc: Global, digits: usize, bare: &[u8]) -> Result<Vec<u8>, Alloc
     Ok(whole)
 }
 
-/// What is wrong with a mask after so many bytes that has digits alone, though letters may be capital, and no more or fewer
-/// than it should.
+/// What is wrong with a mask at offset `space` that has the right number of digits, perhaps in upper case.
 fn whole_slip(space: usize, mask: &[u8]) -> LineSlip
     ensures { result ≡ (if list_all is_mask_digit mask.now then High space else Capitals space) }
 {
@@ -193,7 +192,7 @@ fn whole_slip(space: usize, mask: &[u8]) -> LineSlip
     }
 }
 
-/// What is wrong with a mask after so many bytes, where masks have so many digits.
+/// What is wrong with a mask after a space at offset `space`, where masks have `digits` digits.
 fn mask_slip(
     alloc: Global,
     digits: usize,
@@ -213,14 +212,14 @@ fn mask_slip(
     }
 }
 
-/// What stands after so many bytes and one more.
+/// What stands after the first `count` bytes and one more.
 fn after(row: &[u8], count: usize) -> &[u8]
     ensures { result.now ≡ drop (count + 1) row.now }
 {
     &row[count.saturating_add(1).min(row.len())..]
 }
 
-/// Why a line that begins no task is no entry, where masks have so many digits.
+/// Why a line that begins no task is no entry, where masks have `digits` digits.
 fn slip_by(alloc: Global, digits: usize, row: &[u8]) -> Result<LineSlip, AllocError>
     ensures { IfOk result (λ slip. slip ≡ slip_by digits (position is_space row.now) row.now) }
 {
@@ -256,7 +255,7 @@ fn line_slip(
     }
 }
 
-/// The mask after so many bytes and a space.
+/// The mask after the space at offset `space`.
 fn mask_span(number: usize, row: &[u8], space: usize) -> Span
     ensures { result ≡ mask_span number row.now space }
 {
@@ -291,21 +290,21 @@ fn front(row: &[u8], count: usize) -> &[u8]
     &row[..count.min(row.len())]
 }
 
-/// What stands behind `task ` in a line.
+/// What stands after `task ` in a line.
 fn name_of(row: &[u8]) -> &[u8]
     ensures { result.now ≡ drop 5 row.now }
 {
     &row[5.min(row.len())..]
 }
 
-/// That there is no mask of so many digits.
+/// That there is no mask of `digits` digits.
 fn no_mask_message(alloc: Global, digits: usize) -> Result<Words, AllocError>
     ensures { IfOk result (λ words. words ≡ no_mask_message digits) }
 {
     words!(in alloc; "this is not a mask of {digits} digits")
 }
 
-/// What is wrong with a line, where masks have so many digits.
+/// What is wrong with a line, where masks have `digits` digits.
 fn slip_message(
     alloc: Global,
     digits: usize,
@@ -444,7 +443,7 @@ fn is_ended(text: &[u8], rows: &[&[u8]], number: usize) -> bool
     number < rows.len() || matches!(text, [.., b'\n'])
 }
 
-/// What is said of a line that has no form that a line may have.
+/// The diagnostic for a line that has no form that a line may have.
 fn line_error(
     alloc: Global,
     program: &Program,
@@ -482,7 +481,7 @@ fn is_incomplete_slip(slip: LineSlip) -> bool
     matches!(slip, LineSlip::Incomplete(_))
 }
 
-/// What is said of a line whose mask, after so many bytes and a space, lacks zeros in front.
+/// The diagnostic for a line whose mask, after the space at offset `space`, lacks zeros in front.
 fn incomplete_error(
     alloc: Global,
     digits: usize,
@@ -498,7 +497,7 @@ fn incomplete_error(
     Ok(plain_error(alloc, Source::Certificate, Code::Line, at, message, help))
 }
 
-/// Adds what is said of a line whose mask, after so many bytes and a space, lacks zeros in front, if there is room.
+/// Adds the error for a line whose mask, after the space at offset `space`, lacks zeros in front, if there is room.
 fn add_error(
     alloc: Global,
     list: &mut Vec<Diagnostic>,
@@ -519,7 +518,7 @@ fn add_error(
     Ok(())
 }
 
-/// Adds what is said of a line with this slip, if its mask lacks zeros in front, and if there is room.
+/// Adds the diagnostic for a line with this slip, if its mask lacks zeros in front, and if there is room.
 fn add_incomplete(
     alloc: Global,
     list: &mut Vec<Diagnostic>,
@@ -539,7 +538,7 @@ fn add_incomplete(
     }
 }
 
-/// Adds what is said of a line after a line, if its mask lacks zeros in front, and if there is room.
+/// Adds the diagnostic for a line after line `last`, if its mask lacks zeros in front, and if there is room.
 fn add_after(
     alloc: Global,
     list: &mut Vec<Diagnostic>,
@@ -560,7 +559,7 @@ fn add_after(
     Ok(())
 }
 
-/// What is said of the lines after a line whose masks lack zeros in front, of the first of them, so many.
+/// Errors for the first `most` lines after line `last` whose mask lacks leading zeros.
 fn incomplete_from(
     alloc: Global,
     digits: usize,
@@ -581,7 +580,7 @@ fn incomplete_from(
     Ok(list)
 }
 
-/// What is said of further lines where line `number` has no form that a line may have.
+/// The diagnostics for further lines where line `number` has no form that a line may have.
 fn further_errors(
     alloc: Global,
     text: &[u8],
@@ -600,7 +599,7 @@ fn further_errors(
     incomplete_from(alloc, digits, number, rows, MOST_SHOWN - 1)
 }
 
-/// What is said of a line that has no form that a line may have, and of further ones.
+/// The diagnostics for a line that has no form that a line may have, and for further ones.
 fn line_errors(
     alloc: Global,
     program: &Program,
@@ -628,7 +627,7 @@ fn header_message(row: &[u8]) -> &'static str
     }
 }
 
-/// What is said of a text without a byte.
+/// The diagnostic for a text without a byte.
 fn empty_error(alloc: Global) -> Result<Diagnostic, AllocError>
     ensures { IfOk result (λ said. said ≡ empty_error) }
 {
@@ -638,7 +637,7 @@ fn empty_error(alloc: Global) -> Result<Diagnostic, AllocError>
     Ok(plain_error(alloc, Source::Certificate, Code::Header, at, message, help))
 }
 
-/// What is said of a first line that begins no certificate.
+/// The diagnostic for a first line that begins no certificate.
 fn header_error(alloc: Global, text: &[u8], row: &[u8]) -> Result<Diagnostic, AllocError>
     ensures { IfOk result (λ said. said ≡ header_error text.now row.now) }
 {
@@ -672,7 +671,7 @@ fn task_message(alloc: Global, next: Option<&str>) -> Result<Words, AllocError>
     }
 }
 
-/// What is said of a line of another task than the next one.
+/// The diagnostic for a line of another task than the next one.
 fn task_error(
     alloc: Global,
     program: &Program,
@@ -699,7 +698,7 @@ fn task_error(
     ))
 }
 
-/// What is said of a certificate that ends before a task.
+/// The diagnostic for a certificate that ends before a task.
 fn missing_error(alloc: Global, program: &Program, rows: &[&[u8]]) -> Result<Diagnostic, AllocError>
     ensures { IfOk result (λ said. said ≡ missing_error program.now (each (λ row. row.now) rows.now)) }
 {
@@ -754,7 +753,7 @@ fn shape_message(index: u32) -> &'static str
     }
 }
 
-/// What is said of lists that do not rise.
+/// The diagnostic for lists that do not rise.
 fn shape_error(alloc: Global, rows: &[&[u8]]) -> Result<Diagnostic, AllocError>
     ensures { IfOk result (λ said. said ≡ shape_error (each (λ row. row.now) rows.now)) }
 {
@@ -766,7 +765,7 @@ fn shape_error(alloc: Global, rows: &[&[u8]]) -> Result<Diagnostic, AllocError>
     Ok(plain_error(alloc, Source::Certificate, Code::Shape, at, message, help))
 }
 
-/// What is said of the text of a certificate that is refused with this fault.
+/// The diagnostics for the text of a certificate that is refused with this fault.
 pub(crate) fn refused_error(
     alloc: Global,
     program: &Program,

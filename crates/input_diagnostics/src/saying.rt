@@ -10,7 +10,7 @@ use diagnostics::listed::Listed;
 use diagnostics::words::Words;
 use std::alloc::{AllocError, Global};
 
-/// The most diagnostics that are shown of one text; of any more it is said how many they are.
+/// The most diagnostics that are shown of one text; of the rest only the number is shown.
 pub(crate) const MOST_SHOWN: usize = 1_000;
 
 /// An error.
@@ -49,7 +49,7 @@ pub(crate) fn plain_error(
     error(source, code, span, message, Vec::new(alloc), help)
 }
 
-/// A part of a line with so many bytes in front of it.
+/// A part of a line with `before` bytes in front of it.
 pub(crate) fn span(line: usize, before: usize, width: usize) -> Span
     ensures { result ≡ span line before width }
 {
@@ -60,7 +60,7 @@ pub(crate) fn span(line: usize, before: usize, width: usize) -> Span
     }
 }
 
-/// What is said of a line that ends with CR.
+/// The diagnostic for a line that ends with CR.
 pub(crate) fn return_error(
     alloc: Global,
     source: Source,

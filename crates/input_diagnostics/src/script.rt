@@ -201,7 +201,7 @@ fn is_in_word(byte: Option<u8>) -> bool
     }
 }
 
-/// Whether a tab or a comma with so many bytes in front of it separates two words.
+/// Whether a tab or a comma with `before` bytes in front of it separates two words.
 fn is_between(line: &[u8], before: usize) -> bool
     ensures { result ≡ is_between line.now before }
 {
@@ -288,7 +288,7 @@ fn code_of(fault: EventFault) -> Code
     }
 }
 
-/// What is said of a line that spells no event.
+/// The diagnostic for a line that spells no event.
 fn line_error(
     alloc: Global,
     program: &Program,
@@ -312,7 +312,7 @@ pub(crate) fn ends_with_return(line: &[u8]) -> bool
     matches!(line, [.., b'\r'])
 }
 
-/// What is said of some lines that spell no event.
+/// The diagnostics for some lines that spell no event.
 fn said_of(
     alloc: Global,
     program: &Program,
@@ -338,7 +338,7 @@ fn said_of(
     Ok(said)
 }
 
-/// Adds what is said of a line that ends with CR, unless it was told.
+/// Adds the diagnostic for a line that ends with CR, unless one was added before.
 fn add_return(
     alloc: Global,
     said: &mut Vec<Diagnostic>,
@@ -356,7 +356,7 @@ fn add_return(
     Ok(())
 }
 
-/// Adds what is said of another line that spells no event, unless it was told.
+/// Adds the diagnostic for another line that spells no event, unless one was added before that covers it.
 fn add_line(
     alloc: Global,
     said: &mut Vec<Diagnostic>,
@@ -381,7 +381,7 @@ fn is_trace(line: &[u8]) -> bool
     line.starts_with(b"1 ") && event_end(line).is_some()
 }
 
-/// What is said of a trace that begins with this line.
+/// The diagnostic for a trace that begins with this line.
 fn trace_error(alloc: Global, line: &[u8]) -> Result<Diagnostic, AllocError>
     ensures { IfOk result (λ said. said ≡ trace_error line.now) }
 {
@@ -392,7 +392,7 @@ fn trace_error(alloc: Global, line: &[u8]) -> Result<Diagnostic, AllocError>
     Ok(plain_error(alloc, Source::Script, Code::ScriptLine, at, message, help))
 }
 
-/// What is said of a trace that begins with this line, alone.
+/// The diagnostic for a trace that begins with this line, as the only one.
 fn trace_alone(alloc: Global, line: &[u8]) -> Result<Vec<Diagnostic>, AllocError>
     ensures { IfOk result (λ list. list.items ≡ trace_error line.now ∷ []) }
 {
@@ -401,7 +401,7 @@ fn trace_alone(alloc: Global, line: &[u8]) -> Result<Vec<Diagnostic>, AllocError
     Ok(list)
 }
 
-/// What is said of the lines that are shown, and how many more there are of so many.
+/// The diagnostics for the lines that are shown, and how many more there are of `count`.
 fn lines_errors(
     alloc: Global,
     program: &Program,
@@ -418,7 +418,7 @@ fn lines_errors(
     Ok(list)
 }
 
-/// What is said of a text of these lines, of which so many spell no event.
+/// The diagnostics for a text of these lines, of which `count` spell no event.
 fn told_in(
     alloc: Global,
     program: &Program,
@@ -449,9 +449,10 @@ fn errors_of(alloc: Global, text: &[u8], program: &Program) -> Result<Vec<Diagno
     Ok(list)
 }
 
-/// What is wrong with the text of an event script for a program: an error for each line that spells no event, but only one
-/// for all lines that end with CR, and one for all that have what only `replay --strict` reads; of the first 1,000 such
-/// lines, and how many more there are. Of a trace only that is said. There is none exactly where the script can be read.
+/// What is wrong with the text of an event script for a program: an error for each line that spells no event, but only
+/// one for all lines that end with CR, and one for all that have what only `replay --strict` reads; of the first 1,000
+/// such lines, and how many more there are. Of a trace, that it is one. There is none exactly where the script can be
+/// read.
 ///
 /// # Errors
 ///

@@ -19,13 +19,13 @@ pub enum Slip {
     Empty,
     /// It begins with a byte order mark.
     ByteOrderMark,
-    /// With so many bytes in front of it, it has what only `replay --strict` reads: an expectation, a comment or a step.
+    /// After this many bytes it has what only `replay --strict` reads: an expectation, a comment or a step.
     Strict(usize),
-    /// It has a tab, with so many bytes in front of it.
+    /// It has a tab, with this many bytes in front of it.
     Tab(usize),
-    /// It has a comma, with so many bytes in front of it.
+    /// It has a comma, with this many bytes in front of it.
     Comma(usize),
-    /// A space in it, with so many bytes in front of it, separates no two words.
+    /// A space in it, with this many bytes in front of it, separates no two words.
     Space(usize),
     /// Its third word is the register of this number, by its name.
     Named(u8),

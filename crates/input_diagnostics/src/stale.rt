@@ -1,4 +1,4 @@
-//! What is said of a certificate that can be read: that it is of another text, or what is wrong with its masks.
+//! Diagnostics for a certificate that can be read: it is of another text, or some masks are wrong.
 
 ghost use Rattle.std.specs.Prelude.{◌≡◌, ◌==◌, if◌then◌else◌, None, Some, IfOk};
 ghost use Rattle.input_diagnostics.specs.Misfits.{own_findings};
@@ -29,7 +29,7 @@ fn if_other(cert: &Cert, least: &Cert, task: u32) -> Option<u32>
     }
 }
 
-/// The first of so many tasks that has another number of instructions in a certificate than in the least one.
+/// The first of `count` tasks that has another number of instructions in a certificate than in the least one.
 fn other_task(cert: &Cert, least: &Cert, count: u32) -> Option<u32>
     ensures { result ≡ other_task cert.now least.now count }
 {
@@ -50,7 +50,7 @@ fn stale_task(program: &Program, cert: &Cert, least: &Cert, findings: &[Finding]
     other_task(cert, least, program.tasks().len() as u32)
 }
 
-/// So many instructions.
+/// A number of instructions, as words.
 fn instructions_text(alloc: Global, count: usize) -> Result<Words, AllocError>
     ensures { IfOk result (λ words. words ≡ instructions_text count) }
 {
@@ -61,7 +61,7 @@ fn instructions_text(alloc: Global, count: usize) -> Result<Words, AllocError>
     }
 }
 
-/// That a task has so many instructions in the program, and so many in the certificate.
+/// That a task has `here` instructions in the program, and `there` in the certificate.
 fn stale_message(alloc: Global, name: &str, here: usize, there: usize) -> Result<Words, AllocError>
     ensures { IfOk result (λ words. words ≡ stale_message name.now here there) }
 {
@@ -69,7 +69,7 @@ fn stale_message(alloc: Global, name: &str, here: usize, there: usize) -> Result
     words!(in alloc; "this certificate is of another text: task {name} has {instructions} here, {there} there")
 }
 
-/// What is said of a certificate of another text, where this task has another number of instructions.
+/// The diagnostic for a certificate of another text, where this task has another number of instructions.
 fn stale_error(
     alloc: Global,
     program: &Program,
@@ -110,7 +110,7 @@ fn stale_or_misfit(
     }
 }
 
-/// What is said of a certificate that can be read, whose masks have so many digits.
+/// The diagnostics for a certificate that can be read, whose masks have `digits` digits.
 pub(crate) fn fit_errors(
     alloc: Global,
     program: &Program,

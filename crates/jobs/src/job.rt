@@ -254,6 +254,8 @@ pub struct Paths {
 /// The bytes of the job's files; a file that the job does not use is empty.
 #[derive(Debug, Drop)]
 pub struct Texts {
+    /// The name that pictures and lines of JSON give the program; they give none where it is empty.
+    pub name: String,
     /// The program text.
     pub program: Vec<u8>,
     /// The certificate: of `explain`, `check`, `replay`, `run` and `curve`, where it is in a file.

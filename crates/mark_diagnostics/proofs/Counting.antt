@@ -78,7 +78,7 @@ places_few : (entry : ℕ) (es : List (ℕ × ℕ)) → length (places entry es)
 places_few entry [] = omega arith
 places_few entry (e ∷ es) = places_step entry e es (nat_lt e.0 entry) (nat_eq e.0 entry) (places_few entry es)
 
--- the last index is below 4,096, and so many indices stand before it
+-- the last index is below 4,096, and no position is greater than its index
 list_few : (es : List (ℕ × ℕ)) → Rises es → length es ≤ 4096
 list_few [] rises = omega arith
 list_few (e ∷ es) rises =

@@ -24,7 +24,7 @@ take_room (suc n) (x ∷ xs) ys =
     let e : n - length (take n xs) ≡ suc n - suc (length (take n xs)) = omega arith in
     ap (λ rest. x ∷ rest) (take_room n xs ys) ∙ ap (λ m. x ∷ (take n xs ++ take m ys)) e
 
--- the list with the first of what is behind it
+-- the list with the first of what comes after it
 pub list_more : {X : Type 0} (most : ℕ) (xs ys all list new : List X) → list ≡ take most xs → xs ++ ys ≡ all → new ≡ list ++ take (most - length list) ys → new ≡ take most all
 list_more {X} most xs ys all list new first both appended =
     appended ∙ ap (λ (zs : List X). zs ++ take (most - length zs) ys) first ∙ sym (take_room most xs ys) ∙ ap (take most) both

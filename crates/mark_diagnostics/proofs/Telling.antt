@@ -1,4 +1,4 @@
--- What is told is found in the program, and nothing is told exactly where nothing is found.
+-- What is reported is found in the program, and nothing is reported exactly where nothing is found.
 use Rattle.std.proofs.Common.{◌≡◌, ℕ, zero, suc, ◌+◌, ◌-◌, ◌≤◌, ◌<◌, Bool, true, false, cond, if◌then◌else◌, List, [], ◌∷◌, ◌++◌, Option, Some, None, IfSome, length, take, filter, refl, sym, ◌∙◌, ap, subst, arith, length-append}
 use Rattle.std.specs.Prelude.{Contains, codes, not, slice_get}
 use Rattle.std.specs.List.{find, flat_map, range_with_len, All, AllZip}
@@ -71,7 +71,7 @@ all_found p cert least =
     All-weaker (Contains (all_rules p cert)) (IsFinding p) (λ f h. record { cert = cert; least = least; found = h }) (all_rules p cert)
     (All-contains_itself (all_rules p cert))
 
--- what is told is what the checker finds with a least certificate
+-- what is reported is what the checker finds with a least certificate
 pub found_told : (p : Listing) (cert : List (List (ℕ × ℕ))) (n : ℕ) → IsLeast p cert → All (IsFinding p) (take n (all_told p cert))
 found_told p cert n least =
     All-take (IsFinding p) n (all_told p cert) (tasks_all (IsFinding p) p cert (range_with_len 0 (length p.tasks)) (all_found p cert least))
@@ -90,11 +90,11 @@ about_by s f true least h =
     leaders_all (IsFinding s.program) (rules s.program s.least f.task) (rules_by s.program s.least f.task (slice_get s.program.tasks f.task) least refl)
 about_by s f false least h = All-cons (IsFinding s.program) f [] h (All-nil (IsFinding s.program))
 
--- what is told with it, too
+-- what is reported with it, too
 pub found_about : (s : Judged) (f : Finding) (n : ℕ) → IsLeast s.program s.least → IsFinding s.program f → All (IsFinding s.program) (take n (about s f))
 found_about s f n least h = All-take (IsFinding s.program) n (about s f) (about_by s f (is_of_mask f.rule) least h)
 
--- Nothing told, nothing found.
+-- Nothing reported, nothing found.
 
 no_head : {X : Type 0} (x : X) (xs : List X) → x ∷ xs ≡ [] → ⊥
 no_head x xs e = cc
@@ -162,7 +162,7 @@ pub zip_more : {A B : Type 0} (R : A → B → Type 0) (xs : List A) (ys : List 
     → AllZip R (take (i + 1) xs) (ys ++ y ∷ [])
 zip_more {A} R xs ys i x y e h k = subst (λ (zs : List A). AllZip R zs (ys ++ y ∷ [])) (sym e) (more_zip R (take i xs) ys x y h k)
 
--- the marks are accepted, and nothing is said
+-- the marks are accepted, and there is no diagnostic
 pub nothing_wrong : (text : List ℕ) (list : List Diagnostic) (s : Judged) → IsJudged text s → IsLeast s.program s.least
     → Sound s.program → all_rules s.program s.least ≡ [] → list ≡ [] → AreMarkErrors text list
 nothing_wrong text list s judged least sound nothing none =
@@ -182,7 +182,7 @@ nothing_wrong text list s judged least sound nothing none =
 pub of_judged : (P : Listing → List (List (ℕ × ℕ)) → Type 0) (s : Judged) (p : Listing) (cert : List (List (ℕ × ℕ))) → s.program ≡ p → s.least ≡ cert → P p cert → P s.program s.least
 of_judged P s p cert a b h = subst (λ (q : Listing). P q s.least) (sym a) (subst (λ (d : List (List (ℕ × ℕ))). P p d) (sym b) h)
 
--- the marks are refused, and something is said
+-- the marks are refused, and there is a diagnostic
 pub something_wrong : (text : List ℕ) (list first : List Diagnostic) (s : Judged) → IsJudged text s → IsLeast s.program s.least
     → (Sound s.program → all_rules s.program s.least ≡ []) → (all_rules s.program s.least ≡ [] → ⊥)
     → AllZip (Says s) (take most_shown (all_told s.program s.least)) first
@@ -205,7 +205,7 @@ something_wrong text list first s judged least sound refused said is =
       );
     }
 
--- How much is told.
+-- How much is reported.
 
 one_few : (o : Option Finding) → length (option_to_list o) ≤ 1
 one_few None = omega arith

@@ -54,7 +54,7 @@ judged = record { program = unstopped; rows = []; sources = no_sources; labels =
 abbrev pub finding : (index register : ℕ) → Finding
 finding i r = record { task = 0; index = i; rule = ExceedsCreate; reg = Some r }
 
--- The loop forwards $8 and comes back to where it begins: the step that does so is told first.
+-- The loop forwards $8 and comes back to where it begins: the step that does so is reported first.
 
 pub comes_back : entered judged (0 ∷ 1 ∷ 2 ∷ 3 ∷ 0 ∷ []) ≡ Some (3, 0)
 comes_back = refl
@@ -115,7 +115,7 @@ pub mends_three : widened (Some (record { name = 65 ∷ []; entry = 0; create = 
 unfolding which
 mends_three = refl
 
--- the findings of two registers, one of which is also sent, are told once
+-- the findings of two registers, one of which is also sent, are reported once
 abbrev pub sent : Finding
 sent = record { task = 0; index = 0; rule = SentNotCreated; reg = Some 9 }
 

@@ -28,7 +28,7 @@ written_from s task None r = false
 written_from s task (Some j) r = nat_lt j (length s.program.code) && in_mask (mask_at (entries_of s task) j) r
 
 -- a destination of the instruction that a forward bit must not send, since it may be written again (one that the create
--- mask lacks is told by itself)
+-- mask lacks is reported by itself)
 abbrev pub must_wait : Judged → (task : ℕ) → Marked → (index register : ℕ) → Bool
 must_wait s task m i r = dests m.op r && (written_from s task (inner_end s i false) r || written_from s task (inner_end s i true) r)
 

@@ -1,4 +1,4 @@
--- The findings that are told: of those of a create mask one, which stands for all of them; of the others each.
+-- The findings that are reported: of those of a create mask one, which stands for all of them; of the others each.
 use Rattle.std.specs.Prelude.{ℕ, Bool, true, false, not, ◌&&◌, ◌==◌, if◌then◌else◌, List, [], ◌∷◌, ◌++◌, filter, flat_map, length, Option, Some, None}
 use Rattle.std.specs.Option.{option_to_list}
 use Rattle.std.specs.List.{find, range_with_len}
@@ -15,11 +15,11 @@ is_of_mask ExceedsCreate = true
 is_of_mask SentNotCreated = true
 is_of_mask _ = false
 
--- what is told of a task with these findings
+-- the findings to report, of a task with these findings
 abbrev pub told : List Finding → List Finding
 told fs = option_to_list (find (λ f. is_of_mask f.rule) fs) ++ filter (λ f. not (is_of_mask f.rule)) fs
 
--- what is told of a program, one task after another, and at most so much
+-- the findings to report, of a program, one task after another; and how many are shown at most
 abbrev pub told_of : Listing → (cert : List (List (ℕ × ℕ))) → (task : ℕ) → List Finding
 told_of p cert task = told (rules p cert task)
 
@@ -40,7 +40,7 @@ leader fs r = find (λ f. is_of_mask f.rule && is_register f.reg r) fs
 unfoldable pub leaders : List Finding → List Finding
 leaders fs = flat_map (λ r. option_to_list (leader fs r)) registers
 
--- the findings that are told with this one
+-- the findings that are reported together with this one
 abbrev pub about : Judged → Finding → List Finding
 about s f = if is_of_mask f.rule then leaders (rules s.program s.least f.task) else f ∷ []
 

@@ -1,4 +1,4 @@
--- What could be better about the marks of a program: what is said of each remark, by its kind.
+-- What could be better about the marks of a program: the warning for each remark, by its kind.
 use Rattle.std.specs.Prelude.{◌≡◌, ℕ, ◌-◌, Bool, false, not, nat_eq, if◌then◌else◌, ◌&&◌, ◌==◌, List, [], ◌∷◌, ◌++◌, codes, map, take, length, slice_get, Option, Some, None}
 use Rattle.std.specs.List.{list_any}
 use Rattle.std.specs.Fmt.{decimal}
@@ -52,7 +52,7 @@ span_of s (Stop (NoExit task)) = targets_span s task
 span_of s (Stop (NotTaken task)) = target_span s task (first_untaken s task)
 span_of s (Stop (GoesInto task index into)) = instruction_span s index
 
--- Of registers of one create mask, and of one release, one warning tells all, and its help mends all.
+-- One warning covers all registers of one create mask, and of one release, and its help mends all.
 
 abbrev pub is_never : (task register : ℕ) → CostlyMark → Bool
 is_never task r (NeverProduced t q) = t == task && q == r

@@ -36,8 +36,8 @@ use mask_certificate::certificate::Cert;
 use std::alloc::{AllocError, Global};
 use task_descriptor::program::Program;
 
-/// The most diagnostics that are shown of what is wrong with the marks of a program, or could be better; of any more it
-/// is said how many they are.
+/// The most diagnostics that are shown of what is wrong with the marks of a program, or could be better; of the rest
+/// only the number is shown.
 pub const MOST_SHOWN: usize = 1_000;
 
 /// The code of a rule.
@@ -72,7 +72,7 @@ fn span_of(subject: &Subject, finding: &Finding) -> Span
     }
 }
 
-/// What is said of a mark that sends a register too early.
+/// The message about a mark that sends a register too early.
 fn early_words(subject: &Subject, finding: &Finding, sends: &str) -> Made<Words>
     ensures { IfOk result (λ words. words ≡ early_text subject.now finding.now sends.now) }
 {
@@ -81,14 +81,14 @@ fn early_words(subject: &Subject, finding: &Finding, sends: &str) -> Made<Words>
     words!(in subject.alloc(); "task {task} {sends} {register} here and may write it again")
 }
 
-/// What is said of a task that can go on to a place where there is no instruction.
+/// The message about a task that can go on to a place where there is no instruction.
 fn beyond_words(alloc: Global, task: &str, place: &str) -> Made<Words>
     ensures { IfOk result (λ words. words ≡ beyond_text task.now place.now) }
 {
     words!(in alloc; "task {task} can go on from here to {place}, where there is no instruction")
 }
 
-/// What is said of an edge that leads to no instruction.
+/// The message about an edge that leads to no instruction.
 fn beyond_message(subject: &Subject, finding: &Finding) -> Made<Words>
     ensures { IfOk result (λ words. words ≡ beyond_text (task_name subject.now finding.now.task) (place_text subject.now (beyond_of subject.now finding.now.index))) }
 {
@@ -96,7 +96,7 @@ fn beyond_message(subject: &Subject, finding: &Finding) -> Made<Words>
     beyond_words(subject.alloc(), subject.task(finding.task), place.as_str())
 }
 
-/// What is said of an indirect jump that does not end the task.
+/// The message about an indirect jump that does not end the task.
 fn indirect_words(subject: &Subject, task: u32) -> Made<Words>
     ensures { IfOk result (λ words. words ≡ indirect_text subject.now task) }
 {
@@ -104,14 +104,14 @@ fn indirect_words(subject: &Subject, task: u32) -> Made<Words>
     words!(in subject.alloc(); "this jump to an address in a register has to end task {name}")
 }
 
-/// What is said of a target where no task begins.
+/// The message about a target where no task begins.
 fn target_words(alloc: Global, task: &str, place: &str) -> Made<Words>
     ensures { IfOk result (λ words. words ≡ target_text task.now place.now) }
 {
     words!(in alloc; "task {task} lists the target {place}, where no task begins")
 }
 
-/// What is said of a task's first target where no task begins.
+/// The message about a task's first target where no task begins.
 fn target_message(subject: &Subject, task: u32) -> Made<Words>
     ensures { IfOk result (λ words. words ≡ target_text (task_name subject.now task) (spot_text subject.now (wrong_target_of subject.now task))) }
 {
@@ -119,7 +119,7 @@ fn target_message(subject: &Subject, task: u32) -> Made<Words>
     target_words(subject.alloc(), subject.task(task), place.as_str())
 }
 
-/// What is said of a create mask that lacks registers.
+/// The message about a create mask that lacks registers.
 fn mask_words(subject: &Subject, task: u32, about: &[Finding]) -> Made<Words>
     ensures { IfOk result (λ words. words ≡ mask_text subject.now task about.now) }
 {
@@ -242,7 +242,7 @@ fn shown_of(alloc: Global, program: &Program, findings: &[Finding]) -> Made<Vec<
     Ok(list)
 }
 
-/// What is said of a finding that is told.
+/// The diagnostic for a finding that is reported.
 fn told_diagnostic(subject: &Subject, finding: &Finding) -> Made<Diagnostic>
     requires least { IsLeast subject.now.program subject.now.least }
     requires found { IsFinding subject.now.program finding.now }
@@ -255,7 +255,7 @@ fn told_diagnostic(subject: &Subject, finding: &Finding) -> Made<Diagnostic>
     Ok(said)
 }
 
-/// What is said of some findings that are told.
+/// The diagnostics for some findings that are reported.
 fn told_diagnostics(subject: &Subject, findings: &[Finding]) -> Made<Vec<Diagnostic>>
     requires least { IsLeast subject.now.program subject.now.least }
     requires found { All (IsFinding subject.now.program) findings.now }
@@ -269,9 +269,9 @@ fn told_diagnostics(subject: &Subject, findings: &[Finding]) -> Made<Vec<Diagnos
     Ok(list)
 }
 
-/// What is wrong with the marks of the program that a text spells: an error for each finding that is told, at most
-/// `MOST_SHOWN` of them, and how many more there are; nothing exactly where the marks are sound. `least` is the
-/// program's least certificate.
+/// What is wrong with the marks of the program that a text spells: an error for each finding that is reported, at
+/// most `MOST_SHOWN` of them, and how many more there are; nothing exactly where the marks are sound. `least` is
+/// the program's least certificate.
 ///
 /// # Errors
 ///

@@ -1,4 +1,4 @@
-//! What is said of a create mask that lacks registers.
+//! The diagnostic for a create mask that lacks registers.
 
 ghost use Rattle.std.specs.Prelude.{◌≡◌, ◌++◌, ◌||◌, ◌<◌, ◌==◌, map as each, IfOk, OnOk};
 ghost use Rattle.std.specs.List.{list_any};
@@ -64,7 +64,7 @@ fn add_register_notes(subject: &Subject, notes: &mut Vec<Note>, list: &[ShownFin
     Ok(())
 }
 
-/// What is said of the registers for which there is no note of their own.
+/// The message about the registers for which there is no note of their own.
 fn further_words(subject: &Subject, registers: &[u8]) -> Made<Words>
     ensures { IfOk result (λ words. words ≡ further_text subject.now registers.now) }
 {

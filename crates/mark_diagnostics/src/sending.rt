@@ -94,7 +94,7 @@ fn left_from(subject: &Subject, task: u32, index: u32, register: u8) -> Option<u
     None
 }
 
-/// The same from an entry of the task, if the register may be written from there on.
+/// As `left_from`, from an entry of the task, if the register may be written from there on.
 fn left_by(subject: &Subject, task: u32, register: u8, entry: &(u32, RegSet)) -> Option<u32>
     requires { register < 34 }
     ensures { result ≡ left_by subject.now task register entry.now }

@@ -1,4 +1,4 @@
-//! Marks of which one warning tells.
+//! Marks that one warning covers.
 
 ghost use Rattle.std.specs.Prelude.{◌≡◌, ◌++◌, IfOk, OnOk};
 ghost use Rattle.mark_diagnostics.specs.Together.{are_together, told_after, told_marks};
@@ -20,7 +20,7 @@ fn are_together(before: &CostlyMark, mark: &CostlyMark) -> bool
     }
 }
 
-/// Adds a mark, unless it is told with the one before it.
+/// Adds a mark, unless it is reported together with the one before it.
 fn add_mark(list: &mut Vec<CostlyMark>, before: Option<CostlyMark>, mark: CostlyMark) -> Made<()>
     ensures { OnOk result (list.new.items ≡ list.old.items ++ told_after before mark) }
 {

@@ -1,4 +1,4 @@
-//! The findings of a program that are told, and those that are told with each.
+//! The findings of a program that are reported, and those that are reported together with each.
 
 ghost use Rattle.std.specs.Prelude.{◌≡◌, ◌<◌, ◌-◌, ◌++◌, ◌&&◌, filter, not, take, length, IfOk, OnOk};
 ghost use Rattle.std.specs.List.{find};
@@ -85,7 +85,7 @@ fn others(alloc: Global, findings: &[Finding]) -> Made<Vec<Finding>>
         .collect(alloc)
 }
 
-/// What is told of a task with these findings.
+/// The findings to report, of a task with these findings.
 fn told(alloc: Global, findings: &[Finding]) -> Made<Vec<Finding>>
     ensures { IfOk result (λ list. list.items ≡ told findings.now) }
 {
@@ -96,7 +96,7 @@ fn told(alloc: Global, findings: &[Finding]) -> Made<Vec<Finding>>
     Ok(list)
 }
 
-/// Adds the first of some findings, as many as there is room for in a list of at most so many.
+/// Adds the first of some findings, as many as there is room for in a list of at most `most`.
 fn add_first(list: &mut Vec<Finding>, found: &[Finding], most: usize) -> Made<()>
     ensures { OnOk result (list.new.items ≡ list.old.items ++ take (most - length list.old.items) found.now) }
 {
@@ -104,8 +104,8 @@ fn add_first(list: &mut Vec<Finding>, found: &[Finding], most: usize) -> Made<()
     list.extend_from_slice(first_of(found, room))
 }
 
-/// The first findings that are told of a program with its least certificate, at most so many, and how many are told in
-/// all. It holds the findings of one task at a time.
+/// The first findings to report of a program with its least certificate, at most `most`, and how many there are in all.
+/// It holds the findings of one task at a time.
 pub(crate) fn first_told(
     alloc: Global,
     program: &Program,
@@ -127,7 +127,7 @@ pub(crate) fn first_told(
     Ok((list, count))
 }
 
-/// The findings that are told with this one.
+/// The findings that are reported together with this one.
 pub(crate) fn about(subject: &Subject, finding: &Finding) -> Made<Vec<Finding>>
     ensures { IfOk result (λ list. list.items ≡ about subject.now finding.now) }
 {

@@ -54,14 +54,14 @@ fn written_words(subject: &Subject, index: u32) -> Made<Words>
     registers_words(subject, &list)
 }
 
-/// What is said of an update that a release sends.
+/// The message about an update that a release sends.
 fn only_words(alloc: Global, registers: &str, line: u32) -> Made<Words>
     ensures { IfOk result (λ words. words ≡ only_text registers.now line) }
 {
     words!(in alloc; "this is a last update without !f: {registers} is sent only by the release on line {line}")
 }
 
-/// What is said of a last update.
+/// The message about a last update.
 pub(crate) fn update_words(subject: &Subject, index: u32) -> Made<Words>
     ensures { IfOk result (λ words. words ≡ update_text subject.now index (released_next subject.now index)) }
 {

@@ -195,7 +195,7 @@ fn sent_before(subject: &Subject, list: &[CostlyMark], index: u32) -> Made<Vec<u
     )
 }
 
-/// What is said of registers that a task never produces.
+/// The message about registers that a task never produces.
 fn never_words(alloc: Global, task: &str, registers: &str) -> Made<Words>
     ensures { IfOk result (λ words. words ≡ never_text task.now registers.now) }
 {
@@ -213,14 +213,14 @@ fn was(registers: &[u8]) -> &'static str
     }
 }
 
-/// What is said of registers that were sent before, with this verb.
+/// The message about registers that were sent before, with this verb.
 fn sent_words(alloc: Global, registers: &str, was: &str) -> Made<Words>
     ensures { IfOk result (λ words. words ≡ sent_text registers.now was.now) }
 {
     words!(in alloc; "{registers}{was} sent before on each path to this release")
 }
 
-/// What is said of registers that were sent before.
+/// The message about registers that were sent before.
 fn before_words(subject: &Subject, registers: &[u8]) -> Made<Words>
     ensures { IfOk result (λ words. words ≡ before_text subject.now registers.now) }
 {
@@ -228,7 +228,7 @@ fn before_words(subject: &Subject, registers: &[u8]) -> Made<Words>
     sent_words(subject.alloc(), list.as_str(), was(registers))
 }
 
-/// What could be better about a mark, and those that are told with it.
+/// What could be better about a mark, and about those that are reported together with it.
 fn costly_words(subject: &Subject, list: &[CostlyMark], mark: &CostlyMark) -> Made<Words>
     ensures { IfOk result (λ words. words ≡ costly_text subject.now list.now mark.now) }
 {
@@ -248,21 +248,21 @@ fn costly_words(subject: &Subject, list: &[CostlyMark], mark: &CostlyMark) -> Ma
     }
 }
 
-/// What is said of a step into a task.
+/// The message about a step into a task.
 fn goes_into_words(alloc: Global, task: &str, into: &str) -> Made<Words>
     ensures { IfOk result (λ words. words ≡ goes_into_text task.now into.now) }
 {
     words!(in alloc; "task {task} goes on into task {into} without a stop; was !s meant here?")
 }
 
-/// What is said of a task that never runs.
+/// The message about a task that never runs.
 fn never_runs_words(alloc: Global, task: &str, start: &str) -> Made<Words>
     ensures { IfOk result (λ words. words ≡ never_runs_text task.now start.now) }
 {
     words!(in alloc; "task {task} never runs: no other task has it as a target, and the program starts at {start}")
 }
 
-/// What is said of targets that no exit takes.
+/// The message about targets that no exit takes.
 fn not_taken_words(alloc: Global, task: &str, places: &str) -> Made<Words>
     ensures { IfOk result (λ words. words ≡ not_taken_text task.now places.now) }
 {
@@ -364,7 +364,7 @@ fn help_of(subject: &Subject, list: &[CostlyMark], remark: &Remark) -> Made<Help
     }
 }
 
-/// What is said of a remark.
+/// The diagnostic for a remark.
 fn warning(subject: &Subject, list: &[CostlyMark], remark: &Remark) -> Made<Diagnostic>
     ensures { IfOk result (λ said. said ≡ warning subject.now list.now remark.now) }
 {
@@ -381,7 +381,7 @@ fn warning(subject: &Subject, list: &[CostlyMark], remark: &Remark) -> Made<Diag
     })
 }
 
-/// What is said of some remarks.
+/// The diagnostics for some remarks.
 fn all_of(subject: &Subject, list: &[CostlyMark], remarks: &[Remark]) -> Made<Vec<Diagnostic>>
     ensures { IfOk result (λ said. said.items ≡ each (warning subject.now list.now) remarks.now) }
 {
@@ -392,7 +392,7 @@ fn all_of(subject: &Subject, list: &[CostlyMark], remarks: &[Remark]) -> Made<Ve
     Ok(said)
 }
 
-/// What is said of some remarks: of the first `MOST_SHOWN`, and how many more there are.
+/// The diagnostics for some remarks: for the first `MOST_SHOWN`, and how many more there are.
 fn warnings(subject: &Subject, list: &[CostlyMark], remarks: &[Remark]) -> Made<Vec<Diagnostic>>
     ensures { IfOk result (λ said. said.items ≡ warnings subject.now list.now remarks.now) }
 {
@@ -492,9 +492,9 @@ fn all_remarks(alloc: Global, stops: &[StopRemark], list: &[CostlyMark]) -> Made
 }
 
 /// What could be better about the marks of the program that a text spells: where a stop or a way to a task may be
-/// forgotten, and which marks cost speed, of one create mask or one release all at once; of the first `MOST_SHOWN`, and how many more there are. `least` is the
-/// program's least certificate. Without `all`, a step into a task is told only of a task that has a finding of rule 5,
-/// 6 or 7.
+/// forgotten, and which marks cost speed, of one create mask or one release all at once; of the first `MOST_SHOWN`,
+/// and how many more there are. `least` is the program's least certificate. Without `all`, a step into a task is
+/// reported only of a task that has a finding of rule 5, 6 or 7.
 ///
 /// # Errors
 ///

@@ -21,7 +21,7 @@ abbrev pub take_out : Option Span → List Replacement
 take_out None = []
 take_out (Some span) = record { span = span; text = [] } ∷ []
 
--- what is said of an instruction, and what of a path that leads to it
+-- a note about an instruction, and one with a path that leads to it
 abbrev pub note_at : Judged → (index : ℕ) → (message : List ℕ) → Note
 note_at s index message = record { span = Some (instruction_span s index); message = message; path = [] }
 

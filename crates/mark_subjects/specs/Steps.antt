@@ -42,7 +42,7 @@ abbrev pub goes_on_text : (name into word : List ℕ) → List ℕ
 goes_on_text name into word =
     codes "task " ++ (name ++ (codes " goes on into task " ++ (into ++ (codes " here, without a stop; was " ++ (word ++ codes " meant?")))))
 
--- it is said first, since a stop there may be all that is missing
+-- this note comes first, since a stop there may be all that is missing
 abbrev pub stop_note : Judged → (task : ℕ) → Option (ℕ × ℕ) → List Note
 stop_note s task None = []
 stop_note s task (Some step) =

@@ -187,7 +187,7 @@ target_in (Some stretches) number = slice_get stretches number
 abbrev pub target_span : Judged → (task number : ℕ) → Span
 target_span s task number = span_of (target_in (slice_get s.sources.targets task) number)
 
--- so many bytes further on (no column is greater than the greatest `usize`)
+-- `count` bytes further on (no column is greater than the greatest `usize`)
 abbrev pub column_after : (column count : ℕ) → ℕ
 column_after column count = column + min count (18446744073709551615 - column)
 

@@ -59,7 +59,7 @@ pub fn take_out(alloc: Global, span: Option<Span>) -> Made<Vec<Replacement>>
     Ok(list)
 }
 
-/// What is said of an instruction.
+/// A note about an instruction.
 pub fn note_at(subject: &Subject, index: u32, message: Words) -> Note
     ensures { result ≡ note_at subject.now index message }
 {
@@ -114,7 +114,7 @@ fn steps_of(subject: &Subject, path: &[u32]) -> Made<Vec<Span>>
     Ok(spans)
 }
 
-/// What is said of an instruction, with a path that leads to it.
+/// A note about an instruction, with a path that leads to it.
 pub fn path_note(subject: &Subject, index: u32, message: Words, path: &[u32]) -> Made<Note>
     ensures { IfOk result (λ note. note ≡ path_note subject.now index message path.now) }
 {
@@ -321,7 +321,7 @@ pub fn add_more(
     Ok(())
 }
 
-/// The first items of a list, at most so many.
+/// The first items of a list, at most `most`.
 pub fn first_of<T>(list: &[T], most: usize) -> &[T]
     ensures { result.now ≡ take most list.now }
 {
@@ -332,7 +332,7 @@ pub fn first_of<T>(list: &[T], most: usize) -> &[T]
     }
 }
 
-/// The items after the first, as many.
+/// The items after the first `count`.
 pub fn rest_after<T>(list: &[T], count: usize) -> &[T]
     ensures { result.now ≡ drop count list.now }
 {

@@ -64,7 +64,7 @@ pub fn first_entered(subject: &Subject, list: &[ShownFinding]) -> Option<(u32, u
     None
 }
 
-/// What is said of a step into a task.
+/// The message about a step into a task.
 fn goes_on_words(alloc: Global, name: &str, into: &str, word: &str) -> Made<Words>
     ensures { IfOk result (λ words. words ≡ goes_on_text name.now into.now word.now) }
 {
@@ -239,7 +239,7 @@ fn stop_help(subject: &Subject, task: u32, step: (u32, u32), help: &Help) -> Mad
 }
 
 /// Whether the stop is the first thing to do.
-fn is_end_first(subject: &Subject, task: u32, step: (u32, u32)) -> bool
+pub fn is_end_first(subject: &Subject, task: u32, step: (u32, u32)) -> bool
     ensures { result ≡ is_end_first subject.now task step }
 {
     (is_target(subject, task, step.1) || step.1 != task) && may_stop(subject, task, step.0)

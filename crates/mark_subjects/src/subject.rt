@@ -395,7 +395,7 @@ pub fn has_number(set: RegSet, number: u8) -> bool
     Reg::new(number).is_some_and(|register| set.has(register))
 }
 
-/// The column so many bytes further on.
+/// The column `count` bytes further on.
 pub fn column_after(column: usize, count: usize) -> usize
     ensures { result ≡ column_after column count }
 {

@@ -4,8 +4,8 @@ use Rattle.report_texts.specs.OutputTexts.{Report}
 use Rattle.multiscalar_c.specs.declared.answer.Fault.{Fault}
 use Rattle.multiscalar_c.specs.declared.answer.Fault.TheVariants.{Memory, Range}
 
--- what a job comes to: a report, where all that was passed is in range; `Range` exactly where something is
--- not. Memory may run out
+-- the outcome of a job: a report, where all that was passed is in range; `Range` exactly where something is not.
+-- Memory may run out
 abbrev pub Made : (InRange : Type 0) → (IsReport : Report → Type 0) → Result Report Fault → Type 0
 Made InRange IsReport (Ok report) = InRange × IsReport report
 Made InRange IsReport (Err Range) = InRange → ⊥
@@ -17,7 +17,7 @@ pub record IsHandedOut (report : Report) (status : ℕ) (out out' : List ℕ) (l
   pub told : len ≡ length report.bytes
   pub written : out' ≡ report.bytes ++ drop (length report.bytes) out
 
--- `out` is too short: the length that is needed is told
+-- `out` is too short: `len` is the length that is needed
 pub record IsTooShort (report : Report) (status : ℕ) (out out' : List ℕ) (len : ℕ) : Type 0 where
   pub short : length out < length report.bytes
   pub answered : status ≡ 256

@@ -43,11 +43,11 @@ pub record ReplayTakes (units emit : ℕ) : Type 0 where
   pub machine : IsUnits units
   pub written : IsSome (slice_get replay_emits emit)
 
--- what `replay` writes of all events
+-- what `replay` writes of all events, of a program without a name
 abbrev pub IsReplayed : (is_least : Bool) → (units emit : ℕ) → (program certificate script : List ℕ) → Report → Type 0
 IsReplayed is_least units emit program certificate script report =
     IfSome (slice_get replay_emits emit) (λ emit. OfCertificate (source_of is_least) program certificate (λ certificate.
-    report ≡ replay_text emit units None program certificate script))
+    report ≡ replay_text emit units None [] program certificate script))
 
 -- what `replay --strict` writes
 abbrev pub IsReplayedStrictly : (is_least : Bool) → (units : ℕ) → (program certificate script : List ℕ) → Report → Type 0
@@ -61,11 +61,11 @@ pub record RunTakes {Emit : Type 0} (emits : List Emit) (units budget predict : 
   pub guessed : IsSome (prediction_of predict list)
   pub written : IsSome (slice_get emits emit)
 
--- what `run --schedule steps` writes
+-- what `run --schedule steps` writes, of a program without a name
 abbrev pub IsRun : (is_least : Bool) → (units budget predict : ℕ) → (list : List ℕ) → (emit : ℕ) → (program certificate : List ℕ) → Report → Type 0
 IsRun is_least units budget predict list emit program certificate report =
     IfSome (prediction_of predict list) (λ predict. IfSome (slice_get run_emits emit) (λ emit.
-    OfCertificate (source_of is_least) program certificate (λ certificate. IsRunText Steps units budget predict emit program certificate report)))
+    OfCertificate (source_of is_least) program certificate (λ certificate. IsRunText Steps units budget predict emit [] program certificate report)))
 
 -- what `curve` writes
 abbrev pub IsCurve : (is_least : Bool) → (units budget predict : ℕ) → (list : List ℕ) → (emit : ℕ) → (program certificate : List ℕ) → Report → Type 0

@@ -115,8 +115,8 @@ fn check_of(
 }
 
 /// `explain`: says what is wrong with a program, whose file has this name, and with the text of a certificate, if
-/// there is one. Names are UTF-8. `format` is 0 for text, 1 for SARIF, 2 for lines of JSON; `warnings` also tells marks
-/// that are right but cost speed.
+/// there is one. Names are UTF-8. `format` is 0 for text, 1 for SARIF, 2 for lines of JSON; `warnings` also reports
+/// marks that are right but cost speed.
 #[unsafe(no_mangle)]
 pub extern "C" fn multiscalar_c_explain(
     alloc: Global,

@@ -1,6 +1,7 @@
 //! The texts and names that a caller passes.
-ghost use Rattle.std.specs.Prelude.{◌≡◌, IfOk, MatchResult};
+ghost use Rattle.std.specs.Prelude.{◌≡◌, [], IfOk, MatchResult};
 ghost use Rattle.std.specs.Str.{IsUtf8};
+ghost use Rattle.std.specs.String.{string_bytes};
 ghost use Rattle.multiscalar_c.specs.declared.answer.Fault.TheVariants.{Range};
 
 use crate::answer::Fault;
@@ -9,16 +10,17 @@ use std::alloc::{AllocError, Global};
 use std::str;
 use text_pieces::text::Text;
 
-/// Copies of these texts.
+/// Copies of these texts, of a program without a name.
 pub(crate) fn texts(
     alloc: Global,
     program: &[u8],
     certificate: &[u8],
     script: &[u8],
 ) -> Result<Texts, AllocError>
-    ensures { IfOk result (λ texts. (texts.program.items ≡ program.now) × (texts.certificate ≡ certificate.now) × (texts.script.items ≡ script.now)) }
+    ensures { IfOk result (λ texts. (string_bytes texts.name ≡ []) × (texts.program.items ≡ program.now) × (texts.certificate ≡ certificate.now) × (texts.script.items ≡ script.now)) }
 {
     Ok(Texts {
+        name: String::new(alloc),
         program: Vec::from_slice(alloc, program)?,
         certificate: Text::new(alloc, Vec::from_slice(alloc, certificate)?),
         script: Vec::from_slice(alloc, script)?,

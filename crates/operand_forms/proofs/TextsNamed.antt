@@ -1,5 +1,5 @@
 -- Each text, computed.
-use Rattle.std.proofs.Common.{◌≡◌, Bool, true, false, not, refl}
+use Rattle.std.proofs.Common.{◌≡◌, ◌↔◌, Bool, true, false, not, [], refl}
 use Rattle.std.specs.Prelude.{◌||◌}
 use Rattle.std.specs.Fmt.{digits}
 use Rattle.program_tokens.specs.Grammar.{line_tokens, tokens_after, token_of, kind_of}
@@ -9,7 +9,7 @@ use Rattle.mips_instructions.specs.declared.instruction.Form.{Form}
 use Rattle.mips_instructions.specs.declared.instruction.Form.TheVariants as form
 use Rattle.operand_forms.specs.declared.shape.OperandShape.{OperandShape}
 use Rattle.operand_forms.specs.declared.shape.OperandShape.TheVariants as shape
-use Rattle.operand_forms.specs.Shapes.{form_text, range_of, range_text}
+use Rattle.operand_forms.specs.Shapes.{form_text, takes_none, range_of, range_text}
 use Rattle.operand_forms.specs.Forms.{form_of as parts_of}
 use Rattle.operand_forms.specs.ShapeTexts.{is_example, from_to, ends_in, takes_number}
 
@@ -43,3 +43,13 @@ then_so false b e h = absurd cc
 
 pub shape_ranged : (s : OperandShape) → takes_number (parts_of s) ≡ true → ends_in (from_to (range_of s)) (range_text s) ≡ true
 shape_ranged s e = then_so (takes_number (parts_of s)) (ends_in (from_to (range_of s)) (range_text s)) e (each_ranged s)
+
+-- no part is left out, and none is there
+form_none : (f : Form) → (takes_none (shape.Instruction f) ≡ true) ↔ (parts_of (shape.Instruction f) ≡ [])
+form_none form.Nothing = (λ e. refl, λ e. refl)
+form_none _ = (λ e. absurd cc, λ e. absurd cc)
+
+pub none_taken : (s : OperandShape) → (takes_none s ≡ true) ↔ (parts_of s ≡ [])
+none_taken (shape.Instruction f) = form_none f
+none_taken shape.Nothing = (λ e. refl, λ e. refl)
+none_taken _ = (λ e. absurd cc, λ e. absurd cc)

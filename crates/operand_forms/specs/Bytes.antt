@@ -1,10 +1,10 @@
--- Bytes of a line: those of a place, the first that no text has, and the first that form no token.
-use Rattle.std.specs.Prelude.{ℕ, ◌+◌, ◌-◌, ◌^◌, min, List, [], ◌∷◌, Bool, not, take, drop, slice_get, nat_lt, codes, Option, Some, None, unwrap_or, is_ok, if◌then◌else◌, ◌==◌, ◌||◌}
+-- Bytes of a line: those of a place, of a whole word, the first that no text has, and the first that form no token.
+use Rattle.std.specs.Prelude.{ℕ, ◌+◌, ◌-◌, ◌^◌, min, List, [], ◌∷◌, Bool, not, length, take, take_while, drop, slice_get, nat_lt, codes, Option, Some, None, unwrap_or, is_ok, if◌then◌else◌, ◌==◌, ◌||◌}
 use Rattle.std.specs.List.{position}
 use Rattle.std.specs.Str.{byte}
 use Rattle.std.specs.Str.Lines.{strip_carriage_return}
 use Rattle.std.specs.Char.{is_ascii_digit, is_ascii_alphabetic}
-use Rattle.program_tokens.specs.Grammar.{is_text_byte, line_tokens}
+use Rattle.program_tokens.specs.Grammar.{is_text_byte, is_name_byte, line_tokens}
 use Rattle.program_tokens.specs.Spans.{line_spans}
 use Rattle.program_tokens.specs.declared.span.TokenSpan.{TokenSpan}
 
@@ -18,6 +18,19 @@ bytes_at line at = take at.len (drop (at.column - 1) line)
 -- the byte where a place begins
 abbrev pub byte_at : (line : List ℕ) → TokenSpan → ℕ
 byte_at line at = unwrap_or (slice_get line (at.column - 1)) 0
+
+-- A directive and a mark end before a capital letter, a digit and _: the whole word has these, too.
+
+abbrev pub is_cut : (first : ℕ) → Bool
+is_cut b = b == byte "." || b == byte "!"
+
+-- how many bytes of a name follow a place
+abbrev pub more_letters : (line : List ℕ) → TokenSpan → ℕ
+more_letters line at = length (take_while is_name_byte (drop at.len (drop (at.column - 1) line)))
+
+unfoldable pub whole_word : (line : List ℕ) → TokenSpan → TokenSpan
+whole_word line at =
+    if is_cut (byte_at line at) then span at.column (min (at.len + more_letters line at) (2 ^ 64 - 1)) else at
 
 -- what no line may have
 abbrev pub is_bad_byte : ℕ → Bool
@@ -48,7 +61,9 @@ token_help first =
     else (if first == byte "@" then codes "a place is @ and decimal digits, such as @7"
     else (if first == byte "-" || is_ascii_digit first then codes "a number is decimal digits, or 0x and hexadecimal digits, such as -4 or 0x1f; a name begins with a letter or _"
     else (if first == byte "_" || is_ascii_alphabetic first then codes "a name has at most 32 letters, digits and _"
-    else codes "a line has names, registers, numbers, places, directives, marks and , : = ( ) -")))
+    else (if first == byte "!" then codes "a mark is !f, !s, !st or !sn, in small letters"
+    else (if first == byte "." then codes "a label begins with a letter or _; a directive has small letters"
+    else codes "a line has names, registers, numbers, places, directives, marks and , : = ( ) -")))))
 
 -- what to do about a byte that no text has: 239 begins a byte order mark, and 128 and more are of other alphabets
 abbrev pub byte_help : (byte : ℕ) → List ℕ

@@ -12,6 +12,7 @@ use Rattle.program_statements.specs.declared.fault.StatementFault.TheVariants as
 use Rattle.diagnostics.specs.Excerpt.{is_readable}
 use Rattle.diagnostics.specs.Quotations.{as_shown}
 use Rattle.operand_forms.specs.declared.shape.OperandShape.TheVariants as shape
+use Rattle.operand_forms.specs.Bytes.{span, whole_word}
 use Rattle.operand_forms.specs.Shapes.{shape_of}
 use Rattle.operand_forms.specs.Candidates.{label_candidates}
 use Rattle.operand_forms.specs.ForeignWords.{operand_row}
@@ -61,3 +62,12 @@ a_string = refl
 -- a label of a compiler
 pub a_dollar : label_candidates (codes "$L2") ≡ codes "L2" ∷ []
 a_dollar = refl
+
+-- a directive that ends before _, and a mark in capitals
+pub a_directive : whole_word (codes "  .end_macro 2") (span 3 4) ≡ span 3 10
+unfolding whole_word
+a_directive = refl
+
+pub a_mark : whole_word (codes "nop !F") (span 5 1) ≡ span 5 2
+unfolding whole_word
+a_mark = refl

@@ -6,7 +6,7 @@ use Rattle.program_tokens.specs.declared.span.TokenSpan.{TokenSpan}
 use Rattle.operand_forms.specs.declared.shape.OperandShape.{OperandShape}
 use Rattle.operand_forms.specs.declared.shape.OperandShape.TheVariants.{Nothing}
 use Rattle.operand_forms.specs.Shapes.{shape_of}
-use Rattle.operand_forms.specs.Bytes.{bytes_at, byte_at, byte_span, token_span}
+use Rattle.operand_forms.specs.Bytes.{bytes_at, byte_at, byte_span, token_span, whole_word}
 use Rattle.operand_forms.specs.Meant.{span_at, operand_span, number_index, mark_index}
 use Rattle.syntax_tree.specs.declared.item.LineFaultKind.{LineFaultKind}
 use Rattle.syntax_tree.specs.declared.item.LineFaultKind.TheVariants as kind
@@ -32,12 +32,12 @@ word_in line r = bytes_at line (word_place line r.places)
 abbrev pub shape_named : (word : List ℕ) → OperandShape
 shape_named word = unwrap_or (shape_of word) Nothing
 
--- the first byte that no text has; what is no token; the word; the first token that is no operand; the first number out
--- of its range; the first mark that cannot stand where it does
+-- the first byte that no text has; the whole word that is no token, or that begins the statement; the first token that is
+-- no operand; the first number out of its range; the first mark that cannot stand where it does
 unfoldable pub line_place : LineFaultKind → (line : List ℕ) → Reading → TokenSpan
 line_place kind.NotAscii line r = byte_span line
-line_place kind.Token line r = token_span line
-line_place kind.Mnemonic line r = word_place line r.places
+line_place kind.Token line r = whole_word line (token_span line)
+line_place kind.Mnemonic line r = whole_word line (word_place line r.places)
 line_place kind.Operand line r = operand_span (shape_named (word_in line r)) r.tokens r.places
 line_place kind.Number line r = span_at r.places (number_index (shape_named (word_in line r)) r.tokens)
 line_place kind.Mark line r = span_at r.places (mark_index r.tokens)

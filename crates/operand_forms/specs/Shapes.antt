@@ -1,6 +1,6 @@
 -- What operands each statement takes (`.start`, `.task` are own): an instruction those of its form in the
 -- instruction table, a directive those of its row here.
-use Rattle.std.specs.Prelude.{ℕ, ℤ, pos, negsuc, List, [], ◌∷◌, codes, Option, Some, None, if◌then◌else◌}
+use Rattle.std.specs.Prelude.{ℕ, ℤ, pos, negsuc, Bool, true, false, List, [], ◌∷◌, codes, Option, Some, None, if◌then◌else◌}
 use Rattle.std.specs.Option.{option_or, option_map}
 use Rattle.std.specs.Str.{bytes_eq}
 use Rattle.mips_instructions.specs.InstructionTable.{form_of, mnemonics, mnemonic_named}
@@ -57,6 +57,12 @@ form_text shape.Words = codes " 1,2"
 form_text shape.Bytes = codes " 1,2"
 form_text shape.Space = codes " 4"
 
+-- a statement that takes no operand
+abbrev pub takes_none : OperandShape → Bool
+takes_none (shape.Instruction form.Nothing) = true
+takes_none shape.Nothing = true
+takes_none _ = false
+
 -- the numbers that a statement takes
 abbrev pub range : (low high : ℤ) → Range
 range low high = record { low = low; high = high }
@@ -73,7 +79,7 @@ range_of shape.Bytes = range (negsuc 127) (pos 255)
 range_of shape.Space = range (pos 0) (pos 65536)
 range_of _ = range (pos 0) (pos 0)
 
--- the same in words
+-- that range as a sentence
 abbrev pub range_text : OperandShape → List ℕ
 range_text (shape.Instruction form.ShiftBy) = codes "a shift amount is 0 to 31"
 range_text (shape.Instruction form.Signed) = codes "this number is -32768 to 32767"

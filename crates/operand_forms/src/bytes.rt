@@ -1,10 +1,10 @@
-//! Bytes of a line: those of a place, those that no text has, and those that form no token.
+//! Bytes of a line: those of a place, of a whole word, those that no text has, and those that form no token.
 
-ghost use Rattle.std.specs.Prelude.{◌≡◌, is_ok, IfOk};
+ghost use Rattle.std.specs.Prelude.{◌≡◌, is_ok, length, take_while, IfOk};
 ghost use Rattle.std.specs.List.{position};
 ghost use Rattle.std.specs.Str.Lines.{strip_carriage_return};
-ghost use Rattle.program_tokens.specs.Grammar.{line_tokens};
-ghost use Rattle.operand_forms.specs.Bytes.{is_bad_byte, bytes_at, byte_place, byte_span, byte_at, token_span, token_from, token_help, byte_help};
+ghost use Rattle.program_tokens.specs.Grammar.{is_name_byte, line_tokens};
+ghost use Rattle.operand_forms.specs.Bytes.{is_bad_byte, bytes_at, byte_place, byte_span, byte_at, is_cut, whole_word, token_span, token_from, token_help, byte_help};
 
 use crate::slices::{after, first};
 use program_tokens::line::read_tokens;
@@ -76,6 +76,42 @@ pub fn byte_at(line: &[u8], span: TokenSpan) -> u8
         .unwrap_or(0)
 }
 
+/// Whether a name may have this byte.
+fn is_name_byte(byte: u8) -> bool
+    ensures { result ≡ is_name_byte byte }
+{
+    byte.is_ascii_alphanumeric() || byte == b'_'
+}
+
+/// How many bytes of a name some bytes begin with.
+fn letters(bytes: &[u8]) -> usize
+    ensures { result ≡ length (take_while is_name_byte bytes.now) }
+{
+    bytes.iter().take_while(|byte| is_name_byte(**byte)).count()
+}
+
+/// Whether a token that begins with this byte ends before a capital letter, a digit and `_`.
+fn is_cut(first: u8) -> bool
+    ensures { result ≡ is_cut first }
+{
+    first == b'.' || first == b'!'
+}
+
+/// The place of a token, with the bytes of a name after it where it is a directive or a mark: the whole word.
+#[tactic(auto, unfolding(crate::specs::Bytes::whole_word))]
+pub fn whole_word(line: &[u8], span: TokenSpan) -> TokenSpan
+    ensures { result ≡ whole_word line.now span }
+{
+    if !is_cut(byte_at(line, span)) {
+        return span;
+    }
+    let more = letters(after(after(line, span.column.saturating_sub(1)), span.len));
+    TokenSpan {
+        column: span.column,
+        len: span.len.saturating_add(more),
+    }
+}
+
 /// Whether these bytes, as a line of their own, can be read.
 fn is_read(tokens: &mut Vec<Token>, bytes: &[u8]) -> Result<bool, AllocError>
     ensures { IfOk result (λ yes. yes ≡ is_ok (line_tokens bytes.now)) }
@@ -125,6 +161,12 @@ pub fn token_help(first: u8) -> &'static str
     }
     if first == b'_' || first.is_ascii_alphabetic() {
         return "a name has at most 32 letters, digits and _";
+    }
+    if first == b'!' {
+        return "a mark is !f, !s, !st or !sn, in small letters";
+    }
+    if first == b'.' {
+        return "a label begins with a letter or _; a directive has small letters";
     }
     "a line has names, registers, numbers, places, directives, marks and , : = ( ) -"
 }

@@ -243,6 +243,8 @@ const SIGNS: [(&str, &str); 72] = [
         "there are no constants: write the number where it is used",
     ),
     (".macro", "there are no macros: write the lines out"),
+    (".end_macro", "there are no macros: write the lines out"),
+    (".endm", "there are no macros: write the lines out"),
     (
         ".include",
         "there are no other files: write the lines of that file here",
@@ -289,7 +291,6 @@ const SIGNS: [(&str, &str); 72] = [
     ("!fsn", "write !f !sn"),
     ("!stop", "write !s"),
     ("!forward", "write !f"),
-    ("!", "a mark is !f, !s, !st or !sn, in small letters"),
     (
         "$",
         "write the number or the name of a register directly after $, as in $8 or $t0",
@@ -304,10 +305,6 @@ const SIGNS: [(&str, &str); 72] = [
     ("}", "lists have no braces: write create=$8,$9 targets=A,B"),
     ("]", "an address is written as in 0($9), a mark as in !f"),
     ("+", "there are no sums: write the number itself"),
-    (
-        ".",
-        "a label begins with a letter or _; a directive has small letters",
-    ),
     (
         ";",
         "write each statement on a line of its own; a comment begins with #",

@@ -1,6 +1,6 @@
 //! Laws: each function does nothing, and its contract is a theorem about the definitions alone.
 
-ghost use Rattle.std.specs.Prelude.{◌≡◌, ◌↔◌, ℕ, List, ◌∷◌, Some, Err, true, false};
+ghost use Rattle.std.specs.Prelude.{◌≡◌, ◌↔◌, ℕ, List, [], ◌∷◌, Some, Err, true, false};
 ghost use Rattle.program_tokens.specs.Grammar.{directive_of as directive_named};
 ghost use Rattle.program_tokens.specs.declared.token.Token.{Token};
 ghost use Rattle.program_tokens.specs.declared.token.Token.TheVariants.{Name};
@@ -11,7 +11,7 @@ ghost use Rattle.program_statements.specs.declared.fault.StatementFault.{Stateme
 ghost use Rattle.program_statements.specs.declared.fault.StatementFault.TheVariants.{Mark};
 ghost use Rattle.program_statements.specs.declared.statement.Section.TheVariants.{Text, Data};
 ghost use Rattle.operand_forms.specs.declared.shape.OperandShape.{OperandShape};
-ghost use Rattle.operand_forms.specs.Shapes.{form_text, range_of, range_text};
+ghost use Rattle.operand_forms.specs.Shapes.{form_text, takes_none, range_of, range_text};
 ghost use Rattle.operand_forms.specs.Forms.{form_of as parts_of};
 ghost use Rattle.operand_forms.specs.Meant.{without_marks};
 ghost use Rattle.operand_forms.specs.OperandForms.{fault_of, instruction_shape, instruction_fault, directive_shape, shape_fault, NamesFirst};
@@ -23,8 +23,8 @@ pub fn instructions_are_read_by_form()
     ensures { (m : Mnemonic) (operands : List Token) → fault_of (instruction_of m operands) ≡ instruction_fault m operands }
 {}
 
-/// It refuses those of a directive by the directive's shape, and a word that is no directive exactly if that has no shape.
-/// This is said of the data section, where each directive may stand.
+/// It refuses those of a directive by the directive's shape, and a word that is no directive exactly if that has no
+/// shape. The section is data, where each directive may stand.
 pub fn directives_are_read_by_form()
     ensures { (letters : List ℕ) (operands : List Token) → fault_of (directive_of Data (directive_named letters) operands) ≡ shape_fault (directive_shape letters) operands }
 {}
@@ -48,6 +48,11 @@ pub fn first_unfit_token_of_a_directive_is_named()
 /// The operands that `explain` gives as an example are taken: they fit the shape, and their numbers are in its range.
 pub fn examples_are_taken()
     ensures { (s : OperandShape) → is_example s (form_text s) ≡ true }
+{}
+
+/// It says that a statement takes no operand exactly where its shape has no part.
+pub fn statements_without_operands_are_named()
+    ensures { (s : OperandShape) → (takes_none s ≡ true) ↔ (parts_of s ≡ []) }
 {}
 
 /// The text in which it names a range ends in the numbers of that range.

@@ -3,7 +3,7 @@
 ghost use Rattle.std.specs.Prelude.{◌≡◌, IfOk};
 ghost use Rattle.operand_forms.specs.LinePlaces.{is_label, after_labels, word_place, word_in, shape_named, line_place};
 
-use crate::bytes::{byte_at, byte_span, bytes_at, token_span};
+use crate::bytes::{byte_at, byte_span, bytes_at, token_span, whole_word};
 use crate::meant::{mark_index, number_index, operand_span, span_at};
 use crate::rows::Reading;
 use crate::shape::{OperandShape, shape_of};
@@ -72,8 +72,8 @@ pub fn line_place(
     let shape = shape_named(word_in(line, reading));
     match kind {
         LineFaultKind::NotAscii => Ok(byte_span(line)),
-        LineFaultKind::Token => token_span(alloc, line),
-        LineFaultKind::Mnemonic => Ok(word_place(line, places)),
+        LineFaultKind::Token => Ok(whole_word(line, token_span(alloc, line)?)),
+        LineFaultKind::Mnemonic => Ok(whole_word(line, word_place(line, places))),
         LineFaultKind::Operand => Ok(operand_span(shape, tokens, places)),
         LineFaultKind::Number => Ok(span_at(places, number_index(shape, tokens))),
         LineFaultKind::Mark => Ok(span_at(places, mark_index(tokens))),

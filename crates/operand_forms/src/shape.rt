@@ -1,7 +1,7 @@
 //! What operands each statement takes.
 
 ghost use Rattle.std.specs.Prelude.{◌≡◌, map};
-ghost use Rattle.operand_forms.specs.Shapes.{shape_in, shape_of, instruction_text, form_text, range_of, range_text};
+ghost use Rattle.operand_forms.specs.Shapes.{shape_in, shape_of, instruction_text, form_text, takes_none, range_of, range_text};
 
 use mips_instructions::instruction::{Form, Mnemonic};
 
@@ -100,6 +100,17 @@ pub fn form_text(shape: OperandShape) -> &'static str
     }
 }
 
+/// Whether the statement takes no operand.
+pub fn takes_none(shape: OperandShape) -> bool
+    ensures { result ≡ takes_none shape }
+{
+    match shape {
+        OperandShape::Instruction(form) => matches!(form, Form::Nothing),
+        OperandShape::Nothing => true,
+        _ => false,
+    }
+}
+
 /// The numbers that the statement takes; 0 alone where it takes none.
 pub fn range_of(shape: OperandShape) -> Range
     ensures { result ≡ range_of shape }
@@ -119,7 +130,7 @@ pub fn range_of(shape: OperandShape) -> Range
     Range { low, high }
 }
 
-/// The same in words.
+/// The sentence that gives the range of a shape's number.
 pub fn range_text(shape: OperandShape) -> &'static str
     ensures { result.now ≡ range_text shape }
 {

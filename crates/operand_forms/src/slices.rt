@@ -2,7 +2,7 @@
 
 ghost use Rattle.std.specs.Prelude.{◌≡◌, take, drop};
 
-/// The first of some, at most as many.
+/// The first `count` items, or all if there are fewer.
 pub fn first<T>(all: &[T], count: usize) -> &[T]
     ensures { result.now ≡ take count all.now }
 {
@@ -13,7 +13,7 @@ pub fn first<T>(all: &[T], count: usize) -> &[T]
     }
 }
 
-/// What stands after so many.
+/// The items after the first `count`.
 pub fn after<T>(all: &[T], count: usize) -> &[T]
     ensures { result.now ≡ drop count all.now }
 {

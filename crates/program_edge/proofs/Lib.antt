@@ -1,4 +1,5 @@
 pub mod FoundLemmas
+mod PathLemmas
 mod AskedLemmas
 mod ReportLemmas
 mod SeveralLemmas

@@ -1,4 +1,4 @@
--- What is said of a program is what its report, or its file, says.
+-- The part of a program is what its report, or its file, gives.
 use Rattle.std.proofs.Common.{◌≡◌, ◌∙◌, ap, refl, subst, sym, ℕ, Bool, true, false, List, [], Option, None, Some, Result, Ok, Err, IfOk}
 use Rattle.std.specs.String.{string_bytes}
 use Rattle.std.specs.declared.alloc.Global.{Global}
@@ -25,7 +25,7 @@ same_part a a' b b' j j' p q r = ap (λ (x : List ℕ). part x b j) p ∙ ap (λ
 abbrev seen : Made → Part
 seen made = record { output = made.output.items; errors = made.errors.items; judged = made.judged }
 
--- the job for the program's own name says the same of it
+-- the job for the program's own name gives an equal part
 same_said : (t : Bool) (first own : String Global) (certificate script : Option (String Global)) (warnings : Bool) (format : Format) (colors : Colors) (name : List ℕ) (report : Report)
     → part_with t (Explain own None None warnings format colors) name report ≡ part_with t (Explain first certificate script warnings format colors) name report
 same_said true first own certificate script warnings format colors name report = refl

@@ -68,7 +68,7 @@ shown audience job texts report said ending old new told right (inr h) = inr (re
   files = h.files;
 })
 
--- the same, where no file is to take it
+-- `shown`, where no file is to take the report
 pub shown_here : (watched : Bool) (audience : Audience) (job : Job) (texts : Texts) (place : Option (String Global)) (report : Report) (said : List ℕ) (ending : Answered) (old new : World)
     → place ≡ None → IsBeside audience job texts.program.items report said → IsReportOf job texts report
     → IsShown said report ending old new ⊎ IsBroken report ending old new
@@ -89,7 +89,7 @@ put watched audience job path texts report said ending old new told right taken 
   taken = taken;
 }
 
--- where nobody listens, nothing is said
+-- where nobody listens, there is no hint
 unheard : (t w : Bool) (name : List ℕ) (job : Job) (program : List ℕ) (written : Report) → (t || w) ≡ false
     → IsBeside (record { is_terminal = t; wants_rest = w; name = name }) job program written []
 unheard false false name job program written h = record { rest = []; left = refl; both = refl }

@@ -127,7 +127,7 @@ appends_nothing None b h = tt
 appends_nothing (Some xs) None h = absurd h
 appends_nothing (Some xs) (Some ys) h = h ∙ sym (append-nil xs)
 
--- what was said, and what of it where it was not said whole
+-- what was written, and what of it where it was not written whole
 pub said_whole : (said : List ℕ) (is_told : Bool) (a b : Option (List ℕ)) → is_told ≡ true → IsSaid said is_told a b → Appends a b said
 said_whole [] is_told a b is h = appends_nothing a b h.1
 said_whole (x ∷ said) is_told a b is h = h.0 is
@@ -177,7 +177,7 @@ pub told_memory : {A : Type 0} (lack : ServeFault) (ending : Answered) (old new 
 told_memory {A} lack ending old new is told same =
     (subst (λ f. IsTold (Serve f) ending.status ending.is_told old.output new.output old.errors new.errors) (same_fault {A = A} lack is) told, same)
 
--- a stream did not take what is said of a program
+-- a stream did not take the part of a program
 pub cut_at : (t : Bool) (known : List ℕ → Known) (job : Job) (name : List ℕ) (part : Part) (said told : List ℕ) (ending : Answered) (old new : World)
     → IsPartOf t known job name part → said ≡ part.output → told ≡ part.errors → IsCut said told ending old new
     → EndsAt t known job name ending old new

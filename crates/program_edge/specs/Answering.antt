@@ -29,7 +29,7 @@ use Rattle.program_edge.specs.Several.{IsEach}
 use Rattle.program_edge.specs.Streams.{IsBroken, IsToldAlone, World}
 use Rattle.program_edge.specs.Telling.{IsTold, unread_fault}
 
--- the job was not done: before the fault is told, after Write a beginning of its report was written, after
+-- the job was not done: before the fault is reported, after Write a beginning of its report was written, after
 -- another fault nothing
 pub record IsNotDone (job : Job) (texts : Texts) (ending : Answered) (old new : World) : Type 0 where
   pub fault : ServeFault
@@ -39,8 +39,8 @@ pub record IsNotDone (job : Job) (texts : Texts) (ending : Answered) (old new : 
   pub told : IsTold (Serve fault) ending.status ending.is_told output new.output old.errors new.errors
   pub files : Same old.files new.files
 
--- the job was done: its report was added to standard output, to standard error what is said beside it, and nothing
--- to a file
+-- the job was done: its report was added to standard output, the hint beside it to standard error, and nothing to a
+-- file
 pub record IsJobDone (audience : Audience) (job : Job) (texts : Texts) (ending : Answered) (old new : World) : Type 0 where
   pub done : IsDone job texts ending.status old.output new.output
   pub beside : List ℕ
@@ -48,14 +48,14 @@ pub record IsJobDone (audience : Audience) (job : Job) (texts : Texts) (ending :
   pub said : IsSaid beside ending.is_told old.errors new.errors
   pub files : Same old.files new.files
 
--- standard output took a report, and standard error what is said beside it
+-- standard output took a report, and standard error the hint beside it
 pub record IsShown (beside : List ℕ) (report : Report) (ending : Answered) (old new : World) : Type 0 where
   pub answered : ending.status ≡ report.status
   pub written : Appends old.output new.output report.bytes
   pub said : IsSaid beside ending.is_told old.errors new.errors
   pub files : Same old.files new.files
 
--- the file took the report, and holds nothing else; standard error took what is said beside it
+-- the file took the report, and holds nothing else; standard error took the hint beside it
 pub record IsKept (watched : Bool) (beside : List ℕ) (path : String Global) (report : Report) (ending : Answered) (old new : World) : Type 0 where
   pub answered : ending.status ≡ report.status
   pub kept : watched ≡ true → new.files (string_bytes path) ≡ Some report.bytes
@@ -63,7 +63,7 @@ pub record IsKept (watched : Bool) (beside : List ℕ) (path : String Global) (r
   pub silent : Keeps old.output new.output
   pub said : IsSaid beside ending.is_told old.errors new.errors
 
--- the file did not take the report: it is as it was, and why is told
+-- the file did not take the report: it is as it was, and the reason is reported
 pub record IsNotKept (path : String Global) (ending : Answered) (old new : World) : Type 0 where
   pub reason : Unwritten
   pub stays : new.files (string_bytes path) ≡ old.files (string_bytes path)
@@ -88,12 +88,12 @@ abbrev pub IsDelivered : (watched : Bool) → Audience → Option (String Global
 IsDelivered watched audience None job texts ending old new = IsJobDone audience job texts ending old new
 IsDelivered watched audience (Some path) job texts ending old new = IsPut watched audience job path texts ending old new
 
--- how the program ends, where something was to be told before: is it told, too?
+-- how the program ends, where something was to be written before: `is_told` says whether that was written
 abbrev pub ending_after : (is_told : Bool) → Answered → Answered
 ending_after is_told own = record { status = own.status; is_told = is_told && own.is_told }
 
--- the job was made after standard error had heard how far it is, of all of it where `is_told`, and then delivered; the
--- ending tells of both
+-- the job was made after standard error had got the lines about its progress, all of them where `is_told`, and then
+-- delivered; the ending covers both
 pub record IsMadeTold (watched : Bool) (audience : Audience) (place : Option (String Global)) (job : Job) (texts : Texts) (ending : Answered) (heard : Option (List ℕ)) (old new : World) : Type 0 where
   pub is_told : Bool
   pub said : IsProgress job texts audience.name is_told old.errors heard
@@ -109,13 +109,13 @@ pub record IsDeliveredTold (watched : Bool) (audience : Audience) (place : Optio
   pub ends : IsMadeTold watched audience place job texts ending heard old new
       ⊎ IsNotDone job texts ending (record old { errors = heard }) new
 
--- the same for whether standard error is to hear how far the job is
+-- as `IsDeliveredTold` if standard error is to hear how far the job is, else without that
 abbrev pub IsDeliveredIf : (progress watched : Bool) → Audience → Option (String Global) → Job → Texts → Answered → World → World → Type 0
 IsDeliveredIf false watched audience place job texts ending old new =
     IsDelivered watched audience place job texts ending old new ⊎ IsNotDone job texts ending old new
 IsDeliveredIf true watched audience place job texts ending old new = IsDeliveredTold watched audience place job texts ending old new
 
--- what is said beside the report names the program's file; `is_terminal` says whether standard error is a terminal
+-- the hint beside the report names the program's file; `is_terminal` says whether standard error is a terminal
 abbrev pub IsServed : (watched is_terminal : Bool) → Request → Result Texts Unread → Answered → World → World → Type 0
 IsServed watched is_terminal request (Ok texts) ending old new =
     IsDeliveredIf request.progress watched (record { is_terminal = is_terminal; wants_rest = request.report; name = string_bytes request.paths.program }) request.output request.job texts ending old new

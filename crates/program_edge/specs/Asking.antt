@@ -34,13 +34,13 @@ pub record AskForInputTwice (words : List Text) : Type 0 where
   pub asked : Ask words request
   pub twice : 1 < input_count request
 
--- the words ask for no job: what is told is told of a fault that they have
+-- the words ask for no job: the fault that is reported is one that they have
 pub record IsTheirFault (words : List Text) (told : Fault) : Type 0 where
   pub fault : UsageFault
   pub theirs : IsFaultOfWords words fault
   pub told_so : IsFaultOf fault told
 
--- what the words come to: a job of which at most one file is standard input, or why there is none
+-- the result of the words: a job of which at most one file is standard input, or why there is none
 abbrev pub IsAskedBy : List Text → Result Request Fault → Type 0
 IsAskedBy words (Ok asked) = Ask words asked × (input_count asked ≤ 1)
 IsAskedBy words (Err InputTwice) = AskForInputTwice words

@@ -13,19 +13,19 @@ pub record Audience : Type 0 where
   pub wants_rest : Bool
   pub name : List ℕ
 
--- what is said of what is left: where it is not asked for, only if something is left
+-- the text about what is left: where it is not asked for, only if something is left
 abbrev pub rest_said : (asked : Bool) → Option LeftOver → List ℕ
 rest_said asked None = []
 rest_said true (Some left) = left.said.items
 rest_said false (Some left) = if left.count == 0 then [] else left.said.items
 
--- what is said of what a job leaves that wrote this: nothing, unless someone hears it
+-- the text about what a job leaves that wrote this: nothing, unless someone hears it
 abbrev pub IsRest : (heard asked : Bool) → Job → (program name : List ℕ) → (written : Report) → (said : List ℕ) → Type 0
 IsRest false asked job program name written said = said ≡ []
 IsRest true asked job program name written said =
     (left : Option LeftOver) × IsLeftOver job program name written left × (said ≡ rest_said asked left)
 
--- what is said beside a report: a terminal hears of what is left unasked
+-- the hint beside a report: a terminal hears of what is left unasked
 pub record IsBeside (audience : Audience) (job : Job) (program : List ℕ) (written : Report) (said : List ℕ) : Type 0 where
   pub rest : List ℕ
   pub left : IsRest (audience.is_terminal || audience.wants_rest) audience.wants_rest job program audience.name written rest

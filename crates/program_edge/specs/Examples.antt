@@ -1,5 +1,5 @@
--- Worked examples, computed by the checker: names of standard input, the lines that tell a fault, what is no
--- result for a file, and what standard error is told beside a result.
+-- Worked examples, computed by the checker: names of standard input, the lines that report a fault, what is no result
+-- for a file, and what standard error gets beside a result.
 use Rattle.std.specs.Prelude.{◌≡◌, ℕ, List, Bool, Option, true, false, [], ◌∷◌, ◌++◌, codes, Some}
 use Rattle.std.specs.String.{string_bytes}
 use Rattle.std.specs.declared.io.ErrorKind.TheVariants as kind
@@ -21,7 +21,7 @@ use Rattle.explain_report.specs.declared.left.LeftOver.{LeftOver}
 use Rattle.program_edge.specs.Asking.{input_of}
 use Rattle.program_edge.specs.Beside.{rest_said}
 use Rattle.program_edge.specs.Colouring.{colors_for}
-use Rattle.program_edge.specs.FileTexts.{but_there, opening_reason}
+use Rattle.program_edge.specs.FileTexts.{but_there, opening_reason, program_name}
 use Rattle.program_edge.specs.Hints.{hint_for, hint_of}
 use Rattle.program_edge.specs.Refusals.{is_refusal}
 use Rattle.program_edge.specs.Telling.{said_of}
@@ -32,6 +32,22 @@ input = refl
 
 pub file_of_its_name : input_of (codes "./-") ≡ 0
 file_of_its_name = refl
+
+-- the name of a program: its path without the folders
+pub named : program_name (codes "count.s") ≡ codes "count.s"
+named = refl
+
+pub named_without_folders : program_name (codes "/home/a/count.s") ≡ codes "count.s"
+named_without_folders = refl
+
+pub folder_unnamed : program_name (codes "count/") ≡ []
+folder_unnamed = refl
+
+pub input_unnamed : program_name (codes "-") ≡ []
+input_unnamed = refl
+
+pub dash_named : program_name (codes "./-") ≡ codes "-"
+dash_named = refl
 
 -- two files that are `-`
 pub input_twice : said_of InputTwice ≡ codes "multiscalar: 5 InputTwice: only one file can be - (standard input)" ++ 10 ∷ []

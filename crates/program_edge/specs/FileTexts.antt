@@ -1,6 +1,8 @@
 -- Which files give the texts of a job, which file is at fault, and why.
-use Rattle.std.specs.Prelude.{◌≡◌, ◌≢◌, ◌≤◌, ◌+◌, nat_le, ℕ, Bool, true, false, if◌then◌else◌, List, [], length, take, ⊤, Option, Some, Result, Ok, Err}
+use Rattle.std.specs.Prelude.{◌≡◌, ◌≢◌, ◌≤◌, ◌+◌, ◌==◌, nat_le, ℕ, Bool, true, false, if◌then◌else◌, List, [], codes, length, take, ⊤, Option, Some, Result, Ok, Err}
 use Rattle.std.specs.IoError.{error_kind}
+use Rattle.std.specs.List.{after_last}
+use Rattle.std.specs.Str.{bytes_eq}
 use Rattle.std.specs.String.{string_bytes}
 use Rattle.std.specs.declared.io.Error.{Error}
 use Rattle.std.specs.declared.io.ErrorKind.{ErrorKind}
@@ -89,14 +91,24 @@ text_of false found = Ok []
 text_of true (Err reason) = Err reason
 text_of true (Ok found) = if nat_le (length found) most_file then Ok found else Err TooLong
 
+-- the part of a path that follows its last slash, or all of it
+abbrev pub last_part : (path : List ℕ) → List ℕ
+last_part path = after_last (λ b. b == 47) path
+
+-- the name that pictures give the program in the file of this path; standard input has none
+abbrev pub program_name : (path : List ℕ) → List ℕ
+program_name path = if bytes_eq path (codes "-") then [] else last_part path
+
 -- the file of this path gives no text, for this reason
 abbrev pub Names : Unread → String Global → UnreadReason → Type 0
 Names unread path reason = (unread.path ≡ path) × (unread.reason ≡ reason)
 
--- the texts of a job, or the first file, in the order program, certificate, script, that gives none
+-- the texts of a job, with the name of its program, or the first file, in the order program, certificate,
+-- script, that gives none
 abbrev pub Gives : Job → Paths → (program certificate script : Result (List ℕ) UnreadReason) → Result Texts Unread → Type 0
 Gives job paths program certificate script (Ok texts) =
-    (program ≡ Ok texts.program.items)
+    (string_bytes texts.name ≡ program_name (string_bytes paths.program))
+    × (program ≡ Ok texts.program.items)
     × (certificate ≡ Ok texts.certificate)
     × (script ≡ Ok texts.script.items)
 Gives job paths (Err reason) certificate script (Err unread) = Names unread paths.program reason
@@ -104,7 +116,7 @@ Gives job paths (Ok program) (Err reason) script (Err unread) = Names unread pat
 Gives job paths (Ok program) (Ok certificate) (Err reason) (Err unread) = Names unread paths.script reason
 Gives job paths (Ok program) (Ok certificate) (Ok script) (Err unread) = ⊥
 
--- what the files of a job come to, for what was found in each
+-- the texts of a job, or why there are none, for what was found in each file
 pub record AreTextsOf (known : List ℕ → Known) (job : Job) (paths : Paths) (result : Result Texts Unread) : Type 0 where
   pub program : Result (List ℕ) UnreadReason
   pub certificate : Result (List ℕ) UnreadReason

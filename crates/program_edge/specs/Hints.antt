@@ -1,4 +1,4 @@
--- What is said on standard error beside a result, where that is a terminal.
+-- The hint on standard error beside a result, where that is a terminal.
 use Rattle.std.specs.Prelude.{◌≡◌, ◌==◌, ◌-◌, ◌&&◌, ◌||◌, ◌++◌, ◌∷◌, ℕ, Bool, true, false, not, nat_eq, List, [], length, take, codes, if◌then◌else◌, Option}
 use Rattle.std.specs.Io.KnownBytes.{Appends, Keeps}
 use Rattle.std.specs.List.{starts_with}
@@ -28,7 +28,7 @@ without_end line = take (length line - 1) line
 abbrev pub file_name : (name : List ℕ) → List ℕ
 file_name name = codes "multiscalar: " ++ (name ++ codes ": ")
 
--- the file, and what is said of it
+-- the file, and the line about it
 abbrev pub named_line : (name line : List ℕ) → List ℕ
 named_line name line = file_name name ++ without_end line
 
@@ -56,7 +56,7 @@ abbrev pub hint_for : (is_terminal : Bool) → Job → (name : List ℕ) → Rep
 hint_for false job name report = []
 hint_for true job name report = hint_of job name report.status report.bytes
 
--- a hint was said; where not all of it was written, what went out is a beginning of it. An empty hint changes nothing
+-- a hint was written; where not all of it was, what went out is a beginning of it. An empty hint changes nothing
 abbrev pub IsSaid : (hint : List ℕ) → (is_told : Bool) → (errors errors' : Option (List ℕ)) → Type 0
 IsSaid [] is_told errors errors' = (is_told ≡ true) × Keeps errors errors'
 IsSaid (b ∷ bytes) is_told errors errors' =

@@ -8,7 +8,7 @@ abbrev pub is_empty : List ℕ → Bool
 is_empty [] = true
 is_empty (b ∷ bytes) = false
 
--- the last line of some bytes that come behind others, of which the last line is the one that is given
+-- the last line of some bytes that come after others, of which the last line is the one that is given
 abbrev pub last_line_of : (line bytes : List ℕ) → List ℕ
 last_line_of line [] = line
 last_line_of line (b ∷ bytes) = last_line_of (if b == 10 && not (is_empty bytes) then bytes else line) bytes

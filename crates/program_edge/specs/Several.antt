@@ -23,7 +23,7 @@ use Rattle.program_edge.specs.Streams.{IsCut, IsToldAlone, IsWritten, World}
 use Rattle.program_edge.specs.Summaries.{judged_by, summary_line, tally_of, worst_status}
 use Rattle.program_edge.specs.Telling.{file_line, program_reason}
 
--- what is said of a program on the two streams, and what it counts as
+-- what the two streams get for a program, and what it counts as
 pub record Part : Type 0 where
   pub output : List ℕ
   pub errors : List ℕ
@@ -61,7 +61,7 @@ IsJobFor (Explain first certificate script warnings format colors) name job =
     (own : String Global) × (job ≡ Explain own None None warnings format colors) × (string_bytes own ≡ name)
 IsJobFor asked name job = job ≡ asked
 
--- what is said of a program with this report
+-- the part of a program with this report
 abbrev pub part_with : (is_terminal : Bool) → (asked : Job) → (name : List ℕ) → Report → Part
 part_with is_terminal asked name report = record {
   output = among_others asked name report.bytes;
@@ -79,30 +79,30 @@ pub record IsJudged (is_terminal : Bool) (asked : Job) (name text : List ℕ) (p
   pub right : IsReportOf job texts report
   pub said : part ≡ part_with is_terminal asked name report
 
--- what is said of a text, for whether it is taken for a certificate
+-- the part of a text, for whether it is taken for a certificate
 abbrev pub IsPartOfText : (is_certificate is_terminal : Bool) → (asked : Job) → (name text : List ℕ) → Part → Type 0
 IsPartOfText true is_terminal asked name text part = part ≡ unjudged name (certificate_reason name)
 IsPartOfText false is_terminal asked name text part = IsJudged is_terminal asked name text part
 
--- what is said of a program of which this was found. Want of memory is none of the reasons: it ends all
+-- the part of a program of which this was found. Want of memory is none of the reasons: it ends all
 abbrev pub IsPartOfFound : (is_terminal : Bool) → (asked : Job) → (name : List ℕ) → Result (List ℕ) UnreadReason → Part → Type 0
 IsPartOfFound is_terminal asked name (Ok text) part = IsPartOfText (is_certificate asked text) is_terminal asked name text part
 IsPartOfFound is_terminal asked name (Err reason) part = (reason ≢ OutOfMemory) × (part ≡ unjudged name (program_reason name reason))
 
--- what is said of the program of this name
+-- the part of the program of this name
 pub record IsPartOf (is_terminal : Bool) (known : List ℕ → Known) (asked : Job) (name : List ℕ) (part : Part) : Type 0 where
   pub found : Result (List ℕ) UnreadReason
   pub read : IsFound (known name) most_program found
   pub said : IsPartOfFound is_terminal asked name found part
 
--- what is said of each of these programs
+-- the parts of these programs
 abbrev pub ArePartsOf : (is_terminal : Bool) → (known : List ℕ → Known) → (asked : Job) → List (String Global) → List Part → Type 0
 ArePartsOf is_terminal known asked [] [] = ⊤
 ArePartsOf is_terminal known asked (name ∷ names) (part ∷ parts) =
     IsPartOf is_terminal known asked (string_bytes name) part × ArePartsOf is_terminal known asked names parts
 ArePartsOf is_terminal known asked names parts = ⊥
 
--- what programs add to standard output and to standard error, and what they come to
+-- what programs add to standard output and to standard error, and their tally
 abbrev pub outputs_of : List Part → List ℕ
 outputs_of parts = flat_map (λ part. part.output) parts
 
@@ -112,7 +112,7 @@ errors_of parts = flat_map (λ part. part.errors) parts
 abbrev pub tally_of_parts : List Part → ProgramTally
 tally_of_parts parts = tally_of (map (λ part. part.judged) parts)
 
--- memory ran out, which is told
+-- memory ran out, which is reported
 abbrev pub IsOutOfMemory : Answered → World → World → Type 0
 IsOutOfMemory ending old new = IsToldAlone (Serve serve.OutOfMemory) ending old new
 
@@ -121,7 +121,7 @@ abbrev pub IsSummedUp : ProgramTally → Answered → World → World → Type 0
 IsSummedUp tally ending old new =
     (ending ≡ record { status = worst_status tally; is_told = true }) × IsWritten (summary_line tally) [] old new
 
--- it ended at this program: memory ran out, or a stream did not take what is said of it
+-- it ended at this program: memory ran out, or a stream did not take its part
 abbrev pub EndsAt : (is_terminal : Bool) → (known : List ℕ → Known) → (asked : Job) → (name : List ℕ) → Answered → World → World → Type 0
 EndsAt is_terminal known asked name ending old new = IsOutOfMemory ending old new
     ⊎ ((part : Part) × IsPartOf is_terminal known asked name part × IsCut part.output part.errors ending old new)
@@ -131,7 +131,7 @@ abbrev pub Sums : ProgramTally → Answered → World → World → Type 0
 Sums tally ending old new = IsSummedUp tally ending old new
     ⊎ (IsOutOfMemory ending old new ⊎ IsCut (summary_line tally) [] ending old new)
 
--- the end, after programs that come to this, where these are left: with the summary, if nothing fails
+-- the end, after programs with this tally, where these are left: with the summary, if nothing fails
 abbrev pub Ends : (is_terminal : Bool) → (known : List ℕ → Known) → (asked : Job) → (left : List (String Global)) → ProgramTally → Answered → World → World → Type 0
 Ends is_terminal known asked [] tally ending old new = Sums tally ending old new
 Ends is_terminal known asked (name ∷ names) tally ending old new = EndsAt is_terminal known asked (string_bytes name) ending old new

@@ -16,19 +16,19 @@ pub record World : Type 0 where
   pub errors : Option (List ℕ)
   pub files : Files
 
--- a fault was told, and no file changed
+-- a fault was reported, and no file changed
 abbrev pub IsToldAlone : Fault → Answered → World → World → Type 0
 IsToldAlone fault ending old new =
     IsTold fault ending.status ending.is_told old.output new.output old.errors new.errors × Same old.files new.files
 
--- standard output took a beginning of a report, and then failed, which is told
+-- standard output took a beginning of a report, and then failed, which is reported
 pub record IsBroken (report : Report) (ending : Answered) (old new : World) : Type 0 where
   pub output : Option (List ℕ)
   pub begun : Begins old.output output report.bytes
   pub told : IsTold (Serve serve.Write) ending.status ending.is_told output new.output old.errors new.errors
   pub files : Same old.files new.files
 
--- both streams took what was said, and no file changed
+-- both streams took these texts, and no file changed
 pub record IsWritten (output errors : List ℕ) (old new : World) : Type 0 where
   pub written : Appends old.output new.output output
   pub said : Appends old.errors new.errors errors

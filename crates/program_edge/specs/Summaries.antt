@@ -1,4 +1,4 @@
--- What several programs come to, and the line that says so.
+-- The tally of several programs, and the line that shows it.
 use Rattle.std.specs.Prelude.{ℕ, ◌+◌, ◌==◌, Bool, true, false, List, [], ◌∷◌, ◌++◌, codes, count_by, if◌then◌else◌}
 use Rattle.std.specs.Fmt.{decimal}
 use Rattle.program_edge.specs.declared.summary.ProgramVerdict.{ProgramVerdict}

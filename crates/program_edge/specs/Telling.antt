@@ -35,7 +35,7 @@ file_words path reason = (codes "file " ++ path) ++ (codes ": " ++ reason)
 abbrev pub unread_words : Unread → List ℕ
 unread_words unread = file_words (string_bytes unread.path) (reason_words unread.reason)
 
--- of a folder it is said how its files are named
+-- of a folder, how its files are named
 abbrev pub folder_reason : (name : List ℕ) → List ℕ
 folder_reason name = codes "is a directory; name its files, as in " ++ (name ++ codes "/*.s")
 
@@ -52,7 +52,7 @@ unread_program_words unread = file_words (string_bytes unread.path) (program_rea
 abbrev pub file_line : (name said : List ℕ) → List ℕ
 file_line name said = codes "multiscalar: file " ++ (name ++ (codes ": " ++ (said ++ 10 ∷ [])))
 
--- what a fault is called: the text that `clap` wrote, or what stands behind `multiscalar: `
+-- what a fault is called: the text that `clap` wrote, or what stands after `multiscalar: `
 abbrev pub name_of : Fault → List ℕ
 name_of (Help usage) = string_bytes usage.text
 name_of (Words usage) = string_bytes usage.text
@@ -67,7 +67,7 @@ name_of (NoProgram unread) = unread_program_words unread
 name_of (Serve fault) = serve_fault_text fault
 name_of (NotWritten path reason) = file_words (string_bytes path) (unwritten_words reason)
 
--- what is said: a text as it stands, or one line
+-- the text for a fault: as it stands, or one line
 abbrev pub said_of : Fault → List ℕ
 said_of (Help usage) = name_of (Help usage)
 said_of (Words usage) = name_of (Words usage)
@@ -78,9 +78,9 @@ abbrev pub is_help : Fault → Bool
 is_help (Help usage) = true
 is_help _ = false
 
--- a fault was told: help on standard output, any other fault on standard error, and the other stream stays
--- as it was; the status is 0 for help that was written whole, else 2. Where not all of it was written, what
--- went out is a beginning of it
+-- a fault was reported: help on standard output, any other fault on standard error, and the other stream stays as it
+-- was; the status is 0 for help that was written whole, else 2. Where not all of it was written, what went out is a
+-- beginning of it
 abbrev pub IsTold : Fault → (status : ℕ) → (is_told : Bool) → (output output' errors errors' : Option (List ℕ)) → Type 0
 IsTold fault status is_told output output' errors errors' =
     (status ≡ (if is_help fault && is_told then 0 else 2))
@@ -88,13 +88,13 @@ IsTold fault status is_told output output' errors errors' =
     × Begins (if is_help fault then output else errors) (if is_help fault then output' else errors') (said_of fault)
     × Keeps (if is_help fault then errors else output) (if is_help fault then errors' else output')
 
--- what is told of a file that gives no text: only `explain` says why
+-- the fault of a file that gives no text: only `explain` says why
 abbrev pub unread_fault : Job → Unread → Fault
 unread_fault (Explain name certificate script warnings format colors) unread =
     if bytes_eq (string_bytes unread.path) (string_bytes name) then NoProgram unread else Explained unread
 unread_fault _ unread = File unread.path
 
--- what is told of a fault of the words: of `clap`'s own faults the text that is made of it
+-- the fault of the words: of `clap`'s own faults the text that is made of it
 abbrev pub IsFaultOf : UsageFault → Fault → Type 0
 IsFaultOf (usage.Words error) (Help text) = (text.error ≡ error) × (is_shown (kind_of error) ≡ true)
 IsFaultOf (usage.Words error) (Words text) = (text.error ≡ error) × (is_shown (kind_of error) ≡ false)

@@ -29,8 +29,8 @@ use text_pieces::replacing::replace;
 use verdict_report::fault::ServeFault;
 use verdict_report::serve::serve;
 
-/// Does the job that was asked for where `errors` is no terminal, as `answer_reader` does it: only a fault is told
-/// there.
+/// Does the job that was asked for where `errors` is no terminal, as `answer_reader` does it: only a fault is
+/// reported there.
 pub fn answer<F: NamedFiles, D: Folder, O: Write, E: Write, R: Threads + Wait + Sync>(
     rt: &R,
     alloc: Global,
@@ -50,8 +50,9 @@ pub fn answer<F: NamedFiles, D: Folder, O: Write, E: Write, R: Threads + Wait + 
 /// Does the job that was asked for, with the texts of its files: its report goes to `output`, or to the file of
 /// `folder` that was asked for, and the status is the report's. A text that is refused gives no result, and so
 /// changes no file. Where `errors` is a terminal, a report that refuses a text, or that is of a run that trapped or
-/// ended as unlisted, gets one line there; and there, or where it is asked for, what `annotate` leaves to mend by hand
-/// is told; and where it is asked for, each run of `curve` when it is done. The first fault ends it, and is told. `check` and `run` make threads.
+/// ended as unlisted, gets one line there; and there, or where it is asked for, what `annotate` leaves to mend by
+/// hand is written; and where it is asked for, a line for each run of `curve` when it is done. The first fault ends
+/// it, and is reported. `check` and `run` make threads.
 pub fn answer_reader<F: NamedFiles, D: Folder, O: Write, E: Write, R: Threads + Wait + Sync>(
     rt: &R,
     alloc: Global,
@@ -196,7 +197,7 @@ fn names_of(further: Vec<String>, program: String) -> Result<Vec<String>, AllocE
     Ok(names)
 }
 
-// The fault that is told of a file that gives no text: only `explain` says why.
+// The fault that is reported of a file that gives no text: only `explain` says why.
 fn fault_of_file(job: &Job, unread: Unread) -> Fault
     ensures { result ≡ unread_fault job.now unread }
 {
@@ -285,7 +286,7 @@ fn deliver_told<D: Folder, O: Write, E: Write, R: Threads + Wait + Sync>(
     }
 }
 
-// How the program ends where this was told before.
+// How the program ends, where something was to be written before that.
 fn ending_after(is_told: bool, own: Answered) -> Answered
     ensures { result ≡ ending_after is_told own }
 {
@@ -373,7 +374,7 @@ fn put<D: Folder, O: Write, E: Write, R: Threads + Wait + Sync>(
     }
 }
 
-// Does a job of which standard output takes the report. Where nothing is said beside it, it need not be kept.
+// Does a job of which standard output takes the report. Where there is no hint, the report need not be kept.
 fn write_out<O: Write, E: Write, R: Threads + Wait + Sync>(
     rt: &R,
     alloc: Global,
@@ -402,7 +403,7 @@ fn write_out<O: Write, E: Write, R: Threads + Wait + Sync>(
     }
 }
 
-// Does a job of which standard output takes the report, and standard error what is said beside it.
+// Does a job of which standard output takes the report, and standard error the hint.
 fn show_hinted<O: Write, E: Write, R: Threads + Wait + Sync>(
     rt: &R,
     alloc: Global,
@@ -454,7 +455,7 @@ fn take<D: Folder, O: Write, E: Write>(
     }
 }
 
-// Writes a report to standard output, and then what is said beside it to standard error.
+// Writes a report to standard output, and then the hint to standard error.
 fn show<O: Write, E: Write>(
     report: &Written,
     hint: &[u8],

@@ -75,7 +75,7 @@ fn input(name: &str) -> u32
     u32::from(name == STANDARD_INPUT)
 }
 
-/// The fault that is told for one of the words. `OutOfMemory` may come in place of a text.
+/// The fault that is reported for one of the words. `OutOfMemory` may come in place of a text.
 pub fn fault_of(alloc: Global, fault: UsageFault) -> Fault
     ensures { IsFaultOf fault result }
 {

@@ -14,9 +14,9 @@ pub enum Fault {
     Words(UsageText),
     /// A word is no text.
     NoText,
-    /// The value of `--predict` is none.
+    /// `--predict` has no such value.
     Predict,
-    /// The value of `--emit` is none.
+    /// `--emit` has no such value.
     Emit,
     /// Memory ran out before the files were read.
     OutOfMemory,
@@ -24,9 +24,10 @@ pub enum Fault {
     InputTwice,
     /// The file of this path can't be read, or is too long.
     File(String),
-    /// The same of the certificate of `explain`, which says why.
+    /// The certificate of `explain` can't be read, or is too long, for this reason.
     Explained(Unread),
-    /// The same of its program: of a folder it says how to name the files in it, too.
+    /// The program of `explain` can't be read, or is too long, for this reason; of a folder the message also says how
+    /// to name its files.
     NoProgram(Unread),
     /// The job was not done.
     Serve(ServeFault),

@@ -1,4 +1,4 @@
-//! What is said on standard error beside a result, where that is a terminal.
+//! The hint on standard error beside a result, where that is a terminal.
 ghost use Rattle.std.specs.Prelude.{◌≡◌, ◌++◌, IfOk, OnOk};
 ghost use Rattle.program_edge.specs.Hints.{command_words, explains, file_name, has_more, hint_for, hint_of, line_hint, named_line, says_all, without_end};
 
@@ -66,7 +66,7 @@ fn line_hint(alloc: Global, name: &str, line: &[u8]) -> Result<Vec<u8>, AllocErr
     Ok(hint)
 }
 
-// Adds the file, and what is said of it.
+// Adds the file, and the line about it.
 fn add_named_line(name: &str, line: &[u8], hint: &mut Vec<u8>) -> Result<(), AllocError>
     ensures { OnOk result (hint.new.items ≡ hint.old.items ++ named_line name.now line.now) }
 {

@@ -25,7 +25,7 @@ pub trait NamedFiles {
     ///
     /// # Errors
     ///
-    /// What the system tells; `NotFound` only where there is no file of this name. A file of known bytes is
+    /// What the system reports; `NotFound` only where there is no file of this name. A file of known bytes is
     /// refused only for want of memory.
     fn open(&self, name: &str) -> io::Result<Self::File>
         ensures opened { OpensAs Self.File.remaining (known self.now name.now) result }

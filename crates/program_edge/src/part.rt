@@ -1,4 +1,4 @@
-//! What is said of one of several programs.
+//! The part of one of several programs on the two streams.
 ghost use Rattle.std.specs.Prelude.{◌≡◌, [], Err, IfOk, OnErr};
 ghost use Rattle.report_texts.specs.OutputTexts.{Report};
 ghost use Rattle.verdict_report.specs.JobTexts.{IsReportOf};
@@ -19,7 +19,7 @@ use std::thread::Threads;
 use text_pieces::text::Text;
 use verdict_report::fault::ServeFault;
 
-/// What is said of a program on the two streams, and what it counts as.
+/// What the two streams get for a program, and what it counts as.
 #[derive(Drop)]
 pub(crate) struct Part {
     /// What standard output gets.
@@ -30,7 +30,7 @@ pub(crate) struct Part {
     pub judged: ProgramVerdict,
 }
 
-/// What is said of the program of this name, or that memory ran out.
+/// The part of the program of this name, or that memory ran out.
 pub(crate) fn part_of<F: NamedFiles, R: Threads + Wait + Sync>(
     rt: &R,
     alloc: Global,
@@ -50,7 +50,7 @@ pub(crate) fn part_of<F: NamedFiles, R: Threads + Wait + Sync>(
     }
 }
 
-// What is said of a program with this text.
+// The part of a program with this text.
 fn part_of_text<R: Threads + Wait + Sync>(
     rt: &R,
     alloc: Global,
@@ -67,6 +67,7 @@ fn part_of_text<R: Threads + Wait + Sync>(
         return Ok(certificate_part(alloc, name)?);
     }
     let texts = Texts {
+        name: String::new(alloc),
         program: text,
         certificate: Text::new(alloc, Vec::new(alloc)),
         script: Vec::new(alloc),
@@ -81,7 +82,7 @@ fn is_certificate(job: &Job, text: &[u8]) -> bool
     explains(job) && text.starts_with(b"cert ")
 }
 
-// What is said of a program that has its report. The job of `explain` is given the program's own name.
+// The part of a program that has its report. The job of `explain` is given the program's own name.
 fn judged_part<R: Threads + Wait + Sync>(
     rt: &R,
     alloc: Global,
@@ -116,7 +117,7 @@ fn judged_part<R: Threads + Wait + Sync>(
     }
 }
 
-// What is said of a program with the report of this job.
+// The part of a program with the report of this job.
 fn reported_part<R: Threads + Wait + Sync>(
     rt: &R,
     alloc: Global,

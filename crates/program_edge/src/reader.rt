@@ -1,4 +1,4 @@
-//! Who reads standard error, and what is said there beside a report.
+//! Who reads standard error, and what is written there beside a report.
 ghost use Rattle.std.specs.Prelude.{◌≡◌, ◌≢◌, ◌||◌, Err, IfOk, OnErr};
 ghost use Rattle.verdict_report.specs.JobTexts.{IsReportOf};
 ghost use Rattle.program_edge.specs.Beside.{IsBeside, IsRest, rest_said};
@@ -37,7 +37,7 @@ impl Model for Reader {
 impl Reader {
     ghost use Rattle.std.specs.Prelude.{◌≡◌, ◌||◌};
 
-    /// Whether anything may be said beside a report.
+    /// Whether anything may be written beside a report.
     pub(crate) fn listens(&self) -> bool
         ensures { result ≡ (self.now.is_terminal || self.now.wants_rest) }
     {
@@ -45,7 +45,7 @@ impl Reader {
     }
 }
 
-/// What a job with its texts writes, and what is said beside it.
+/// What a job with its texts writes, and the hint beside it.
 pub(crate) fn told_report<R: Threads + Wait + Sync>(
     rt: &R,
     alloc: Global,
@@ -63,7 +63,7 @@ pub(crate) fn told_report<R: Threads + Wait + Sync>(
     Ok(hinted(alloc, job, texts, reader, report)?)
 }
 
-/// A report, and what is said beside it.
+/// A report, and the hint beside it.
 pub(crate) fn hinted(
     alloc: Global,
     job: &Job,
@@ -83,7 +83,7 @@ pub(crate) fn hinted(
     Ok(Hinted { report, hint })
 }
 
-// What is said of what the job leaves that wrote this.
+// The text about what the job leaves that wrote this.
 fn rest_of(
     alloc: Global,
     job: &Job,
@@ -104,7 +104,7 @@ fn rest_of(
     Ok(rest_said(alloc, reader.wants_rest, left))
 }
 
-// What is said of what is left; nothing, where that is nothing and was not asked for.
+// The text about what is left; nothing, where nothing is left and it was not asked for.
 fn rest_said(alloc: Global, asked: bool, left: Option<LeftOver>) -> Vec<u8>
     ensures { result.items ≡ rest_said asked left }
 {

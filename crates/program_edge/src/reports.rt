@@ -21,7 +21,7 @@ pub(crate) struct Written {
     pub status: u8,
 }
 
-// What a job writes, and what is said beside it.
+// What a job writes, and the hint beside it.
 #[derive(Drop)]
 pub(crate) struct Hinted {
     pub report: Written,
@@ -69,7 +69,7 @@ pub(crate) fn report_of<R: Threads + Wait + Sync>(
     }
 }
 
-// What a job wrote, and whether all was said that is to be said on the way.
+// What a job wrote, and whether all lines about its progress were written.
 #[derive(Drop)]
 pub(crate) struct ToldWritten {
     pub written: Written,

@@ -8,7 +8,7 @@ use std::io;
 use std::io::Write;
 use verdict_report::writing::write_bytes;
 
-// Says a hint, so that it has arrived; whether it was said whole.
+// Writes a hint, so that it has arrived; answers whether it was written whole.
 pub(crate) fn say<E: Write>(hint: &[u8], errors: &mut E) -> bool
     ensures { IsSaid hint.now result (E.contents errors.old) (E.contents errors.new) }
 {

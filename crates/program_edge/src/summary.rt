@@ -1,4 +1,4 @@
-//! What several programs come to.
+//! The summary of several programs.
 ghost use Rattle.std.specs.Prelude.{◌≡◌, ◌+◌, ◌≤◌, IfOk};
 ghost use Rattle.std.specs.String.{string_bytes};
 ghost use Rattle.program_edge.specs.Summaries.{all_of, counted, judged_by, no_program, summary_line, worst_status};

@@ -3,14 +3,15 @@ ghost use Rattle.std.specs.Prelude.{◌≡◌, ◌≤◌, List, ℕ, Result, Ok,
 ghost use Rattle.std.specs.Result.{result_map_both};
 ghost use Rattle.std.specs.String.{string_bytes};
 ghost use Rattle.jobs.specs.Files.{has_certificate};
-ghost use Rattle.program_edge.specs.FileTexts.{IsFound, AreTextsOf, fetchers_of, text_of, most_program, most_file};
+ghost use Rattle.program_edge.specs.FileTexts.{IsFound, AreTextsOf, fetchers_of, last_part, program_name, text_of, most_program, most_file};
 ghost use Rattle.program_edge.specs.declared.unread.UnreadReason.{UnreadReason};
 
+use crate::asked::STANDARD_INPUT;
 use crate::named_files::NamedFiles;
 use crate::unread::{Unread, UnreadReason, reason_of_opening};
 use annotated_asm::assembler::MOST_TEXT;
 use jobs::job::{Job, Paths, Texts};
-use std::alloc::Global;
+use std::alloc::{AllocError, Global};
 use std::marker::Sync;
 use std::thread::Threads;
 use text_pieces::serial::fetch;
@@ -34,7 +35,7 @@ pub struct NamedTexts {
 
 /// The texts of a job, from the files that its paths name, or the first file, in the order program,
 /// certificate, script, that can't be read or is too long, and why. A program text that is too long is cut
-/// behind the first byte too many, and is for the assembler to refuse.
+/// after the first byte too many, and is for the assembler to refuse.
 pub fn read_texts<F: NamedFiles, R: Threads + Sync>(
     rt: &R,
     alloc: Global,
@@ -50,28 +51,84 @@ pub fn read_texts<F: NamedFiles, R: Threads + Sync>(
         certificate,
         script,
     } = paths;
-    let (text, name) = read_program(alloc, files, program)?;
+    let ReadProgram { path, name, text } = read_program(alloc, files, program)?;
     let texts = Texts {
+        name,
         program: text,
         certificate: read_certificate(rt, alloc, files, certificate, job)?,
         script: read_other(alloc, files, script, job.has_script())?,
     };
-    Ok(NamedTexts { name, texts })
+    Ok(NamedTexts { name: path, texts })
 }
 
-// The program text and the name of its file, or why there is no text.
+// A program text, with its name and its file's path.
+#[derive(Drop)]
+struct ReadProgram {
+    path: String,
+    name: String,
+    text: Vec<u8>,
+}
+
+// The program text with its name, or why there is none.
 fn read_program<F: NamedFiles>(
     alloc: Global,
     files: &F,
     path: String,
-) -> Result<(Vec<u8>, String), Unread>
+) -> Result<ReadProgram, Unread>
     ensures { (found : Result (List ℕ) UnreadReason) × IsFound (F.known files.now (string_bytes path)) most_program found
-        × MatchResult result (λ read. (found ≡ Ok read.0.items) × (read.1 ≡ path))
+        × MatchResult result
+        (λ read. (found ≡ Ok read.text.items) × (read.path ≡ path) × (string_bytes read.name ≡ program_name (string_bytes path)))
         (λ unread. (found ≡ Err unread.reason) × (unread.path ≡ path)) }
 {
-    match read_file(alloc, files, path.as_str(), MOST_PROGRAM) {
-        Ok(text) => Ok((text, path)),
+    match read_named(alloc, files, path.as_str()) {
+        Ok((text, name)) => Ok(ReadProgram { path, name, text }),
         Err(reason) => Err(Unread { path, reason }),
+    }
+}
+
+// The program text in the file of this path, and the program's name; or why there is none.
+fn read_named<F: NamedFiles>(
+    alloc: Global,
+    files: &F,
+    path: &str,
+) -> Result<(Vec<u8>, String), UnreadReason>
+    ensures { (found : Result (List ℕ) UnreadReason) × IsFound (F.known files.now path.now) most_program found
+        × MatchResult result (λ read. (found ≡ Ok read.0.items) × (string_bytes read.1 ≡ program_name path.now))
+        (λ reason. found ≡ Err reason) }
+{
+    let text = read_file(alloc, files, path, MOST_PROGRAM)?;
+    let name = copied(alloc, program_name(path))?;
+    Ok((text, name))
+}
+
+// A copy of a name, or that memory ran out.
+fn copied(alloc: Global, name: &str) -> Result<String, UnreadReason>
+    ensures { MatchResult result (λ copy. string_bytes copy ≡ name.now) (λ reason. reason ≡ UnreadReason.OutOfMemory) }
+{
+    match String::from_str(alloc, name) {
+        Ok(copy) => Ok(copy),
+        Err(AllocError) => Err(UnreadReason::OutOfMemory),
+    }
+}
+
+/// The name that pictures give the program in the file of this path: its last part. Standard input has none.
+pub fn program_name(path: &str) -> &str
+    ensures { result.now ≡ program_name path.now }
+{
+    if path == STANDARD_INPUT {
+        ""
+    } else {
+        last_part(path)
+    }
+}
+
+// What follows the last slash of a path: all of it, where there is none.
+fn last_part(path: &str) -> &str
+    ensures { result.now ≡ last_part path.now }
+{
+    match path.rsplit_once('/') {
+        Some((_, name)) => name,
+        None => path,
     }
 }
 

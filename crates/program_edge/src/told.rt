@@ -22,9 +22,8 @@ pub struct Answered {
     pub is_told: bool,
 }
 
-/// Says what a fault is: help on standard output, any other fault on standard error. The status is 0 for
-/// help that was written whole, else 2. Where the writer fails, what went out is a beginning of it. (own
-/// choice)
+/// Says what a fault is: help on standard output, any other fault on standard error. The status is 0 for help that
+/// was written whole, else 2. Where the writer fails, what went out is a beginning of it.
 pub fn tell<O: Write, E: Write>(fault: &Fault, output: &mut O, errors: &mut E) -> Answered
     ensures { IsTold fault.now result.status result.is_told (O.contents output.old)
         (O.contents output.new) (E.contents errors.old) (E.contents errors.new) }

@@ -5,7 +5,7 @@ ghost use Rattle.program_edge.specs.FileTexts.{opening_reason, reading_reason};
 use std::io::ErrorKind;
 use text_pieces::serial::FetchFault;
 
-/// Why a file gives no text, as far as the system tells.
+/// Why a file gives no text, as far as the system reports it.
 #[derive(Clone, Copy, Debug, PartialEq, Eq)]
 pub enum UnreadReason {
     /// There is no file of this name.
@@ -14,8 +14,8 @@ pub enum UnreadReason {
     IsDirectory,
     /// The system does not permit reading it.
     NotPermitted,
-    /// It is longer than 134,217,728 bytes. A program text that is too long is cut instead, so this is said
-    /// of certificates and scripts alone.
+    /// It is longer than 134,217,728 bytes. A program text that is too long is cut instead, so this holds for
+    /// certificates and scripts alone.
     TooLong,
     /// Memory ran out while it was read.
     OutOfMemory,
@@ -51,7 +51,7 @@ pub struct Unread {
     pub reason: UnreadReason,
 }
 
-/// Why a file is not opened, for the kind of error that the system told.
+/// Why a file is not opened, for the kind of error that the system reported.
 pub fn reason_of_opening(kind: ErrorKind) -> UnreadReason
     ensures { result ≡ opening_reason kind }
 {

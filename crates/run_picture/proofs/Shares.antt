@@ -12,6 +12,7 @@ use Rattle.task_lives.specs.declared.life.Life.{Life}
 use Rattle.run_picture.specs.Stretches.{below_of, column_part, counted, share_of}
 use Rattle.run_picture.specs.Adding.{AddsLife, HaveRoom}
 use Rattle.run_picture.specs.declared.shape.Shape.{Shape}
+use Rattle.run_picture.specs.declared.shape.Hover.{Hover}
 use Rattle.run_picture.proofs.Overlaps.{counted-le}
 use Rattle.run_picture.proofs.Parts.{range_more}
 
@@ -89,28 +90,31 @@ shares_in len lives parts a (suc n) within =
     let right = sum_by-cons (share_of len lives) a (range_with_len (a + 1) n) in
     omega (arith, here, rest, left, right)
 
-column_same : (events len parts : ℕ) (lives : List Life) (xs : List ℕ) (part : ℕ) → part < parts → xs ≡ shares len lives parts
-    → column_part events part (sum_by (λ k. get_or xs k 0) (range_with_len (part - part % 4) (part % 4))) (get_or xs part 0) ≡ column_part events part (below_of len lives part) (share_of len lives part)
-column_same events len parts lives xs part within is =
+column_same : (events len parts : ℕ) (lives : List Life) (xs : List ℕ) (part : ℕ) (hover : Hover) → part < parts → xs ≡ shares len lives parts
+    → column_part events part (sum_by (λ k. get_or xs k 0) (range_with_len (part - part % 4) (part % 4))) (get_or xs part 0) hover ≡ column_part events part (below_of len lives part) (share_of len lives part) hover
+column_same events len parts lives xs part hover within is =
     let below = shares_in len lives parts (part - part % 4) (part % 4) (omega (arith, within)) in
-    ap (λ (ys : List ℕ). column_part events part (sum_by (λ k. get_or ys k 0) (range_with_len (part - part % 4) (part % 4))) (get_or ys part 0)) is
-    ∙ ap (λ (n : ℕ). column_part events part n (get_or (shares len lives parts) part 0)) below
-    ∙ ap (λ (n : ℕ). column_part events part (below_of len lives part) n) (share_at len lives parts part within)
+    ap (λ (ys : List ℕ). column_part events part (sum_by (λ k. get_or ys k 0) (range_with_len (part - part % 4) (part % 4))) (get_or ys part 0) hover) is
+    ∙ ap (λ (n : ℕ). column_part events part n (get_or (shares len lives parts) part 0) hover) below
+    ∙ ap (λ (n : ℕ). column_part events part (below_of len lives part) n hover) (share_at len lives parts part within)
 
-abbrev pub columns : (events len : ℕ) → List Life → (parts : ℕ) → List Shape
-columns events len lives parts =
-    flat_map (λ part. column_part events part (below_of len lives part) (share_of len lives part)) (range_with_len 0 parts)
+-- by what is said of the stretch of each part
+abbrev pub columns : (events len : ℕ) → List Life → (said : ℕ → Hover) → (parts : ℕ) → List Shape
+columns events len lives said parts =
+    flat_map (λ part. column_part events part (below_of len lives part) (share_of len lives part) (said part)) (range_with_len 0 parts)
 
 -- the parts of the columns, and one more
-pub column_more : (events len parts : ℕ) (lives : List Life) (xs : List ℕ) (part : ℕ) (before old new : List Shape) → part < parts → xs ≡ shares len lives parts
-    → old ≡ before ++ columns events len lives part
-    → new ≡ old ++ column_part events part (sum_by (λ k. get_or xs k 0) (range_with_len (part - part % 4) (part % 4))) (get_or xs part 0)
-    → new ≡ before ++ columns events len lives (part + 1)
-column_more events len parts lives xs part before old new within is so_far more =
+pub column_more : (events len parts : ℕ) (lives : List Life) (said : ℕ → Hover) (xs : List ℕ) (part : ℕ) (hover : Hover) (before old new : List Shape)
+    → part < parts → xs ≡ shares len lives parts → hover ≡ said part
+    → old ≡ before ++ columns events len lives said part
+    → new ≡ old ++ column_part events part (sum_by (λ k. get_or xs k 0) (range_with_len (part - part % 4) (part % 4))) (get_or xs part 0) hover
+    → new ≡ before ++ columns events len lives said (part + 1)
+column_more events len parts lives said xs part hover before old new within is is_said so_far more =
     more
-    ∙ ap (λ (ys : List Shape). old ++ ys) (column_same events len parts lives xs part within is)
-    ∙ ap (λ (ys : List Shape). ys ++ column_part events part (below_of len lives part) (share_of len lives part)) so_far
-    ∙ range_more (λ p. column_part events p (below_of len lives p) (share_of len lives p)) before part
+    ∙ ap (λ (ys : List Shape). old ++ ys) (column_same events len parts lives xs part hover within is)
+    ∙ ap (λ (h : Hover). old ++ column_part events part (below_of len lives part) (share_of len lives part) h) is_said
+    ∙ ap (λ (ys : List Shape). ys ++ column_part events part (below_of len lives part) (share_of len lives part) (said part)) so_far
+    ∙ range_more (λ p. column_part events p (below_of len lives p) (share_of len lives p) (said p)) before part
 
 sum_one_more : (f : ℕ → ℕ) (a n last : ℕ) → last ≡ a + n → sum_by f (range_with_len a (suc n)) ≡ sum_by f (range_with_len a n) + f last
 sum_one_more f a zero last is =

@@ -1,7 +1,13 @@
--- Lives added to the shares of stretches one by one. For private functions.
-use Rattle.std.specs.Prelude.{◌≡◌, ℕ, ◌+◌, ◌*◌, ◌<◌, List, length, slice_index, slice_set, nat_lt, if◌then◌else◌, ◌^◌}
+-- Lives added to the shares of stretches one by one, and what comes of stretches counted. For private functions.
+use Rattle.std.specs.List.{range_with_len}
+use Rattle.std.specs.Prelude.{◌≡◌, ℕ, ◌+◌, ◌*◌, ◌<◌, List, length, map, slice_index, slice_set, nat_lt, if◌then◌else◌, ◌^◌}
 use Rattle.task_lives.specs.declared.life.Life.{Life}
-use Rattle.run_picture.specs.Stretches.{counted, overlap, part_of}
+use Rattle.run_picture.specs.declared.shape.Counted.{Counted}
+use Rattle.run_picture.specs.declared.shape.Hover.{Hover}
+use Rattle.run_picture.specs.declared.shape.Hover.TheVariants.{OfStretch}
+use Rattle.run_picture.specs.declared.stretch_tallies.StretchSums.{StretchSums}
+use Rattle.run_picture.specs.Stretches.{counted, end_of, length_of, overlap}
+use Rattle.run_picture.specs.StretchTallies.{end_part, occurrences, part_of, stretch_with}
 
 -- the part for which a life counts in a stretch
 abbrev pub part_with : (stretch : ℕ) → Life → ℕ
@@ -24,3 +30,23 @@ HaveRoom len shares = (k : ℕ) → k < length shares → slice_index shares k +
 pub record AddsLife (len : ℕ) (life : Life) (old new : List ℕ) : Type 0 where
   pub same : length new ≡ length old
   pub each : (k : ℕ) → k < length old → slice_index new k ≡ slice_index old k + counted len k life
+
+-- counts with a number counted once more, if it has a count
+abbrev pub with_one_more : (number : ℕ) → List ℕ → List ℕ
+with_one_more number counts =
+    if nat_lt number (length counts) then slice_set counts number (slice_index counts number + 1) else counts
+
+-- the sums of stretches of this length
+pub record HasSums (len : ℕ) (places : List ℕ) (lives : List Life) (sums : StretchSums) : Type 0 where
+  pub executed : sums.executed.items ≡ map (occurrences (map (stretch_with len) places)) (range_with_len 0 290)
+  pub ended : sums.ended.items ≡ map (occurrences (map (end_part len) lives)) (range_with_len 0 1160)
+
+-- what is said of a stretch, by the sums
+abbrev pub hover_by : Counted → (events : ℕ) → (executed ended : List ℕ) → (stretch : ℕ) → Hover
+hover_by counts events executed ended stretch =
+    OfStretch counts (stretch * length_of events + 1) (end_of events stretch) (record {
+      executed = slice_index executed stretch;
+      retired = slice_index ended (stretch * 4);
+      squashed = slice_index ended (stretch * 4 + 1);
+      dropped = slice_index ended (stretch * 4 + 2);
+    })

@@ -22,7 +22,7 @@ bar_of events life = record {
   hover = OfLife life;
 }
 
--- one bar for each life, in the same order
+-- one bar for each life, in the order of the lives
 abbrev pub bars_of : (events : ℕ) → List Life → List Shape
 bars_of events lives = map (bar_of events) lives
 
@@ -34,13 +34,12 @@ name_in (Some d) = d.name
 abbrev pub name_of : List Descriptor → (task : ℕ) → List ℕ
 name_of tasks task = name_in (slice_get tasks task)
 
--- how many letters of a name a bar of this width has room for: all of them, or so many that three points
--- have room behind them
+-- how many letters of a name a bar of this width has room for: all of them, or as many as leave room for three points
 abbrev pub letters_in : (name : List ℕ) (width : ℕ) → ℕ
 letters_in name width =
     if nat_eq (fitting_of (width - 1000) name) (length name) then length name else fitting_of (width - 2300) name
 
--- the name on a bar, where so many letters of it have room
+-- the name on a bar, where `letters` letters of it have room
 abbrev pub name_label : (events letters : ℕ) → Life → List Shape
 name_label events letters life =
     if nat_lt 0 letters then label TaskName (left_edge_of events life.first + 600) (top_of life.unit + 1800) (Task life.task letters) ∷ [] else []

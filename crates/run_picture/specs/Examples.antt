@@ -1,18 +1,22 @@
--- Worked examples, computed by the checker: lengths, a bar, marks and a stretch.
-use Rattle.std.specs.Prelude.{◌≡◌, ℕ, ◌+◌, ◌*◌, [], ◌∷◌, codes}
+-- Worked examples, computed by the checker: lengths, titles, a bar, marks, a stretch and what is said of it.
+use Rattle.std.specs.Prelude.{◌≡◌, ℕ, ◌+◌, ◌*◌, [], ◌∷◌, ◌++◌, codes, replicate}
 use Rattle.std.specs.Fmt.{digits}
 use Rattle.std.proofs.Common.{refl}
 use Rattle.machine_model.specs.declared.event.Event.TheVariants.{Assign, Exec, Retire}
 use Rattle.task_lives.specs.declared.life.Ending.{Ending}
-use Rattle.task_lives.specs.declared.life.Ending.TheVariants.{Squashed}
+use Rattle.task_lives.specs.declared.life.Ending.TheVariants.{Retired, Squashed, Dropped}
 use Rattle.task_lives.specs.declared.life.Life.{Life}
 use Rattle.run_picture.specs.declared.shape.Style.TheVariants.{Bar, Instruction}
 use Rattle.run_picture.specs.declared.shape.Geometry.TheVariants.{Rectangle, Line}
 use Rattle.run_picture.specs.declared.shape.Hover.TheVariants.{Nothing, OfLife}
+use Rattle.run_picture.specs.declared.shape.Counted.TheVariants.{Events, Steps}
 use Rattle.run_picture.specs.Scales.{pixels_text, step_of, fitting_of}
 use Rattle.run_picture.specs.Bars.{bar_of}
 use Rattle.run_picture.specs.Marks.{marks_of}
-use Rattle.run_picture.specs.Stretches.{overlap, share_of}
+use Rattle.run_picture.specs.Stretches.{hover_of, overlap, share_of}
+use Rattle.run_picture.specs.StretchTallies.{executed_from}
+use Rattle.run_picture.specs.ShapeText.{hover_text}
+use Rattle.run_picture.specs.Titles.{shown_name, title_text}
 
 abbrev life : (task unit first last executed : ℕ) → Ending → Life
 life task unit first last executed ending = record {
@@ -35,6 +39,21 @@ numbers_of_15 = refl
 pub three_letters : fitting_of 3300 (65 ∷ 109 ∷ 101 ∷ 110 ∷ []) ≡ 3
 three_letters = refl
 
+pub title_with_a_name : title_text (codes "count.s") Events 4 17 ≡ codes "count.s: 4 units, 17 events"
+unfolding digits
+title_with_a_name = refl
+
+pub title_without_a_name : title_text [] Steps 1 1 ≡ codes "Run on 1 unit: 1 step"
+unfolding digits
+title_without_a_name = refl
+
+-- an LF does not print
+pub name_with_signs : shown_name (codes "a<b>&\"'" ++ 10 ∷ []) ≡ codes "a&lt;b&gt;&amp;&quot;'\\x0a"
+name_with_signs = refl
+
+pub long_name : shown_name (replicate 61 97) ≡ replicate 60 97 ++ codes ".."
+long_name = refl
+
 -- events 1 to 9 of 16, on unit 1: 72.5 pixels for each
 abbrev squashed : Life
 squashed = life 1 1 1 9 0 Squashed
@@ -42,7 +61,7 @@ squashed = life 1 1 1 9 0 Squashed
 pub bar_of_squashed : bar_of 16 squashed ≡ record { style = Bar Squashed; form = Rectangle 16050 23400 65250 4000; hover = OfLife squashed }
 bar_of_squashed = refl
 
--- behind a Retire the instruction at position 0 is one of unit 1
+-- after a Retire the instruction at position 0 is one of unit 1
 pub marks_behind_retire : marks_of 2 4 (Assign 0 ∷ Retire ∷ Assign 0 ∷ Exec 0 ∷ []) ≡ record { style = Instruction; form = Line 110300 26100 110300 27000; hover = Nothing } ∷ []
 marks_behind_retire = refl
 
@@ -56,3 +75,16 @@ share_of_squashed = refl
 
 pub no_share_of_retired : share_of 4 (squashed ∷ []) ((290 + 2) * 4) ≡ 0
 no_share_of_retired = refl
+
+pub executed_places : executed_from 2 (Exec 0 ∷ Retire ∷ Exec 1 ∷ []) ≡ 2 ∷ 4 ∷ []
+executed_places = refl
+
+-- of 291 events a stretch has two; the last one has one
+pub said_of_a_stretch : hover_text [] (hover_of Events 291 (2 ∷ 3 ∷ 9 ∷ []) (life 0 0 0 2 1 Retired ∷ life 1 1 1 3 0 Squashed ∷ life 1 1 2 3 0 Squashed ∷ life 0 1 2 9 1 Dropped ∷ []) 1)
+    ≡ codes "<title>events 3 to 4: instructions: 2, tasks retired: 1, squashed: 2, dropped: 0</title>"
+unfolding digits
+said_of_a_stretch = refl
+
+pub said_of_one_step : hover_text [] (hover_of Steps 291 [] [] 145) ≡ codes "<title>step 291: instructions: 0, tasks retired: 0, squashed: 0, dropped: 0</title>"
+unfolding digits
+said_of_one_step = refl

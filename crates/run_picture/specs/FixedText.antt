@@ -1,5 +1,4 @@
--- The parts of the file that are the same in every picture: what a colour says, a pattern or a
--- dashed border says too.
+-- The parts of the file that every picture has: what a colour says, a pattern or a dashed border says too.
 use Rattle.std.specs.Prelude.{ℕ, List, [], ◌∷◌, ◌++◌, codes, flat_map}
 
 -- lines, each with its LF

@@ -1,16 +1,16 @@
--- What stands round the bars: the two lines above, a lane for each unit, the axis of events, and a note below.
+-- What stands round the bars: the line below the title, a lane for each unit, the axis of events, and a note below.
 use Rattle.std.specs.Prelude.{ℕ, ◌+◌, ◌-◌, ◌*◌, ◌/◌, ◌%◌, List, [], ◌∷◌, flat_map, max, nat_eq, if◌then◌else◌}
 use Rattle.std.specs.List.{range_with_len}
 use Rattle.task_lives.specs.declared.tally.Tally.{Tally}
 use Rattle.run_picture.specs.declared.shape.Shape.{Shape}
-use Rattle.run_picture.specs.declared.shape.Style.TheVariants.{Heading, Quiet, Ground, UnitName, Grid, Axis, AxisNumber, Caption}
+use Rattle.run_picture.specs.declared.shape.Style.TheVariants.{Quiet, Ground, UnitName, Grid, Axis, AxisNumber, Caption}
 use Rattle.run_picture.specs.declared.shape.LabelText.{LabelText}
-use Rattle.run_picture.specs.declared.shape.LabelText.TheVariants.{Title, Sums, OfUnit, EventNumber, Events}
+use Rattle.run_picture.specs.declared.shape.LabelText.TheVariants.{Sums, OfUnit, EventNumber, Events}
 use Rattle.run_picture.specs.Scales.{bottom_of, middle_of, step_of}
 use Rattle.run_picture.specs.Shapes.{rectangle, line, label}
 
-abbrev pub titles_of : (units events : ℕ) → Tally → List Shape
-titles_of units events tally = label Heading 8800 4600 (Title units events) ∷ label Quiet 8800 7200 (Sums tally) ∷ []
+abbrev pub sums_of : Tally → List Shape
+sums_of tally = label Quiet 8800 7200 (Sums tally) ∷ []
 
 -- every other lane has a ground; the others have one of no height
 abbrev pub lane_of : (unit : ℕ) → List Shape
@@ -29,7 +29,7 @@ number_at units events number =
     ∷ label AxisNumber (middle_of events (number - 1)) (bottom_of units + 2400) (EventNumber number)
     ∷ []
 
--- every so many events there is a number
+-- every `step` events there is a number
 abbrev pub numbers_of : (units events step : ℕ) → List Shape
 numbers_of units events step = flat_map (λ k. number_at units events ((k + 1) * step)) (range_with_len 0 (events / step))
 

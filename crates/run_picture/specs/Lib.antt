@@ -3,10 +3,12 @@ pub mod Shapes
 pub mod Frame
 pub mod Bars
 pub mod Marks
+pub mod StretchTallies
 pub mod Stretches
 pub mod Adding
 pub mod WordsText
 pub mod ShapeText
+pub mod Titles
 pub mod FixedText
 pub mod Picture
 pub mod Examples

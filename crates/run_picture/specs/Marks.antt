@@ -54,7 +54,7 @@ transfer_of counted units events number unit register =
     arrows_of events number (OfTransfer counted number register (unit_before units unit) unit) (unit_before units unit) unit
     ++ register_of events number unit register
 
--- a mark above the bar of the unit behind which a squash begins
+-- a mark above the bar of the unit after which a squash begins
 abbrev pub squash_of : Counted → (events number unit : ℕ) → Shape
 squash_of counted events number unit = record {
   style = SquashMark;
@@ -62,15 +62,14 @@ squash_of counted events number unit = record {
   hover = OfSquash counted number unit;
 }
 
--- the marks of an event, at the unit to which it belongs: in the room of this number, from 1, of so many events or steps
+-- the marks of an event, at the unit to which it belongs: in column `number`, from 1, of `events` events or steps
 abbrev pub marks_at : Counted → (units events number unit : ℕ) → Event → List Shape
 marks_at counted units events number unit (Exec k) = tick_of events number unit ∷ []
 marks_at counted units events number unit (Transfer k register) = transfer_of counted units events number unit register
 marks_at counted units events number unit (Squash k) = squash_of counted events number unit ∷ []
 marks_at counted units events number unit _ = []
 
--- the marks of a history of so many events: of the part of it that begins with this number, from 0, behind so many
--- Retires
+-- the marks from event `number` (from 0) on, after `retired` Retires, in a history of `events` events
 abbrev pub marks_from : (units events retired number : ℕ) → List Event → List Shape
 marks_from units events retired number [] = []
 marks_from units events retired number (e ∷ es) =

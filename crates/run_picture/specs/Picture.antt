@@ -10,12 +10,14 @@ use Rattle.task_lives.specs.Tallies.{tally_of}
 use Rattle.run_picture.specs.declared.shape.Shape.{Shape}
 use Rattle.run_picture.specs.declared.shape.LabelText.TheVariants.{Ring, Stretch}
 use Rattle.run_picture.specs.Scales.{bottom_of}
-use Rattle.run_picture.specs.WordsText.{title_text}
-use Rattle.run_picture.specs.Frame.{titles_of, lanes_of, axis_of, note_of}
+use Rattle.run_picture.specs.declared.shape.Counted.TheVariants.{Events}
+use Rattle.run_picture.specs.Frame.{sums_of, lanes_of, axis_of, note_of}
 use Rattle.run_picture.specs.Bars.{bars_of, names_of}
 use Rattle.run_picture.specs.Marks.{marks_of}
+use Rattle.run_picture.specs.StretchTallies.{executed_from}
 use Rattle.run_picture.specs.Stretches.{length_of, stretches_of}
 use Rattle.run_picture.specs.ShapeText.{shapes_text}
+use Rattle.run_picture.specs.Titles.{called_text, title_text}
 use Rattle.run_picture.specs.FixedText.{style_sheet, marks_legend, stretches_legend}
 
 -- a run of some events, drawn singly: a bar for each life, then the marks of the events, and the names
@@ -25,20 +27,21 @@ single_shapes tasks units history lives =
     ++ (names_of tasks (length history) lives ++ note_of units Ring))
 
 -- a long run, summed
-abbrev pub summed_shapes : (units events : ℕ) → List Life → List Shape
-summed_shapes units events lives = stretches_of units events lives ++ note_of units (Stretch (length_of events))
+abbrev pub summed_shapes : (units : ℕ) → List Event → List Life → List Shape
+summed_shapes units history lives =
+    stretches_of Events units (length history) (executed_from 0 history) lives ++ note_of units (Stretch (length_of (length history)))
 
 -- up to 2,000 events are drawn singly
 abbrev pub inner_shapes : List Descriptor → (units : ℕ) → List Event → List Life → List Shape
 inner_shapes tasks units history lives =
-    if nat_le (length history) 2000 then single_shapes tasks units history lives else summed_shapes units (length history) lives
+    if nat_le (length history) 2000 then single_shapes tasks units history lives else summed_shapes units history lives
 
 abbrev pub shapes_of : List Descriptor → (units : ℕ) → List Event → List Life → List Shape
 shapes_of tasks units history lives =
-    titles_of units (length history) (tally_of lives)
+    sums_of (tally_of lives)
     ++ (lanes_of units ++ (axis_of units (length history) ++ inner_shapes tasks units history lives))
 
--- the beginning of the file: its size, what it is called, the style sheet, and the legend
+-- the beginning of the file: its size, what it is called, the style sheet, and the legend; and the title
 abbrev pub height_of : (units : ℕ) → ℕ
 height_of units = (bottom_of units + 9200) / 100
 
@@ -47,25 +50,28 @@ root_text height =
     codes "<svg xmlns='http://www.w3.org/2000/svg' viewBox='0 0 1280 " ++ (decimal height ++ (codes "' width='1280' height='" ++ (decimal height
     ++ codes "' role='img' font-family='system-ui,Segoe UI,Liberation Sans,Arial,sans-serif'>")))
 
-abbrev pub called_text : (units events : ℕ) → List ℕ
-called_text units events =
-    codes "<title>" ++ (title_text units events ++ (codes "</title>" ++ 10 ∷ []))
-
 abbrev pub legend_text : (events : ℕ) → List ℕ
 legend_text events = if nat_le events 2000 then marks_legend else stretches_legend
 
 abbrev pub sheet_text : (events : ℕ) → List ℕ
 sheet_text events = style_sheet ++ legend_text events
 
-abbrev pub opening_text : (units events : ℕ) → List ℕ
-opening_text units events = root_text (height_of units) ++ (called_text units events ++ sheet_text events)
+abbrev pub front_text : (name : List ℕ) → (units events : ℕ) → List ℕ
+front_text name units events = root_text (height_of units) ++ (called_text name Events units events ++ sheet_text events)
+
+abbrev pub heading_text : (name : List ℕ) → (units events : ℕ) → List ℕ
+heading_text name units events =
+    codes "<text class='title' x='88.00' y='46.00'>" ++ (title_text name Events units events ++ (codes "</text>" ++ 10 ∷ []))
+
+abbrev pub opening_text : (name : List ℕ) → (units events : ℕ) → List ℕ
+opening_text name units events = front_text name units events ++ heading_text name units events
 
 -- the text of the picture of a run of so many events, by its shapes
-abbrev pub file_text : List Descriptor → (units events : ℕ) → List Shape → List ℕ
-file_text tasks units events shapes =
-    opening_text units events ++ (shapes_text tasks shapes ++ (codes "</svg>" ++ 10 ∷ []))
+abbrev pub file_text : (name : List ℕ) → List Descriptor → (units events : ℕ) → List Shape → List ℕ
+file_text name tasks units events shapes =
+    opening_text name units events ++ (shapes_text tasks shapes ++ (codes "</svg>" ++ 10 ∷ []))
 
--- the whole text, of a history of a program on so many units
-unfoldable pub picture_text : Listing → (units : ℕ) → List Event → List ℕ
-picture_text p units history =
-    file_text p.tasks units (length history) (shapes_of p.tasks units history (lives_of units history))
+-- the whole text, of a history of a program of this name, which may be empty, on so many units
+unfoldable pub picture_text : (name : List ℕ) → Listing → (units : ℕ) → List Event → List ℕ
+picture_text name p units history =
+    file_text name p.tasks units (length history) (shapes_of p.tasks units history (lives_of units history))

@@ -2,8 +2,8 @@
 use Rattle.std.specs.Fmt.{decimal}
 use Rattle.std.specs.Prelude.{ℕ, suc, ◌+◌, ◌-◌, ◌*◌, ◌/◌, ◌%◌, ◌++◌, codes, List, [], ◌∷◌, ◌||◌, ◌&&◌, ◌==◌, nat_le, max, if◌then◌else◌}
 
--- where an event begins on the axis of so many events: 88 pixels from the left, and each has its share of
--- 1,160 pixels
+-- where an event begins on the axis of `events` events: 88 pixels from the left, and each has its share of 1,160
+-- pixels
 abbrev pub left_edge_of : (events event : ℕ) → ℕ
 left_edge_of events event = 8800 + event * 116000 / max events 1
 
@@ -18,7 +18,7 @@ middle_of events event = (left_edge_of events event + left_edge_of events (event
 abbrev pub room_of : (events : ℕ) → ℕ
 room_of events = 116000 / max events 1
 
--- where so many lanes end
+-- where the lanes of `units` units end
 abbrev pub bottom_of : (units : ℕ) → ℕ
 bottom_of units = 15200 + units * 6800
 
@@ -27,7 +27,7 @@ abbrev pub step_among : (events : ℕ) → List ℕ → ℕ
 step_among events [] = 1000000
 step_among events (s ∷ ss) = if nat_le (events / max s 1) 14 then s else step_among events ss
 
--- how far apart the numbers stand on the axis of so many events
+-- how far apart the numbers stand on the axis of `events` events
 abbrev pub step_of : (events : ℕ) → ℕ
 step_of events =
     step_among events (1 ∷ 2 ∷ 5 ∷ 10 ∷ 20 ∷ 50 ∷ 100 ∷ 200 ∷ 500 ∷ 1000 ∷ 2000 ∷ 5000 ∷ 10000 ∷ 20000 ∷ 50000 ∷ 100000 ∷ 200000 ∷ 500000 ∷ [])

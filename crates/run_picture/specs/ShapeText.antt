@@ -7,13 +7,14 @@ use Rattle.task_lives.specs.declared.life.Ending.TheVariants.{Retired, Squashed,
 use Rattle.task_lives.specs.declared.life.Life.{Life}
 use Rattle.run_picture.specs.declared.shape.Shape.{Shape}
 use Rattle.run_picture.specs.declared.shape.Style.{Style}
-use Rattle.run_picture.specs.declared.shape.Style.TheVariants.{Heading, Quiet, Ground, UnitName, Grid, Axis, AxisNumber, Caption, Bar, Share, TaskName, Instruction, FineInstruction, Arrow, FineArrow, RegisterName, SquashMark, Halted, WaitForRegister, WaitForTurn, WaitToPass}
+use Rattle.run_picture.specs.declared.shape.Style.TheVariants.{Quiet, Ground, UnitName, Grid, Axis, AxisNumber, Caption, Bar, Share, TaskName, Instruction, FineInstruction, Arrow, FineArrow, RegisterName, SquashMark, Halted, WaitForRegister, WaitForTurn, WaitToPass}
 use Rattle.run_picture.specs.declared.shape.Geometry.{Geometry}
 use Rattle.run_picture.specs.declared.shape.Geometry.TheVariants.{Rectangle, Line, Wedge, Label}
+use Rattle.run_picture.specs.declared.shape.StretchTally.{StretchTally}
 use Rattle.run_picture.specs.declared.shape.Counted.{Counted}
 use Rattle.run_picture.specs.declared.shape.Counted.TheVariants as counted
 use Rattle.run_picture.specs.declared.shape.Hover.{Hover}
-use Rattle.run_picture.specs.declared.shape.Hover.TheVariants.{Nothing, OfLife, OfTransfer, OfSquash}
+use Rattle.run_picture.specs.declared.shape.Hover.TheVariants.{Nothing, OfLife, OfTransfer, OfSquash, OfStretch}
 use Rattle.run_picture.specs.Scales.{pixels_text}
 use Rattle.run_picture.specs.Bars.{name_of}
 use Rattle.run_picture.specs.WordsText.{words_text}
@@ -32,7 +33,6 @@ share_text Unfinished = codes "share unfinished"
 
 -- the class of a style in the style sheet
 abbrev pub style_text : Style → List ℕ
-style_text Heading = codes "title"
 style_text Quiet = codes "quiet"
 style_text Ground = codes "lane"
 style_text UnitName = codes "unit"
@@ -67,7 +67,7 @@ beginning_text class (Wedge left top) =
 beginning_text class (Label left base words) =
     codes "<text class='" ++ (class ++ (codes "' x='" ++ (pixels_text left ++ (codes "' y='" ++ (pixels_text base ++ codes "'>")))))
 
--- what is said of a life; its events are numbered from 1
+-- the title of a life; its events are numbered from 1
 abbrev pub place_text : (name : List ℕ) (unit : ℕ) → List ℕ
 place_text name unit = codes "<title>task " ++ (name ++ (codes ", unit " ++ decimal unit))
 
@@ -90,6 +90,17 @@ counted_text counted.Steps = codes "step"
 abbrev pub when_text : Counted → (number : ℕ) → List ℕ
 when_text counts number = codes "<title>" ++ (counted_text counts ++ (codes " " ++ (decimal number ++ codes ": ")))
 
+-- a stretch from one event or step to another, and what comes of it
+abbrev pub stretch_text : Counted → (first last : ℕ) → List ℕ
+stretch_text counts first last =
+    if nat_eq first last then codes "<title>" ++ (counted_text counts ++ (codes " " ++ decimal first))
+    else codes "<title>" ++ (counted_text counts ++ (codes "s " ++ (decimal first ++ (codes " to " ++ decimal last))))
+
+abbrev pub tally_text : StretchTally → List ℕ
+tally_text t =
+    codes ": instructions: " ++ (decimal t.executed ++ (codes ", tasks retired: " ++ (decimal t.retired ++ (codes ", squashed: " ++ (decimal t.squashed
+    ++ (codes ", dropped: " ++ (decimal t.dropped ++ codes "</title>")))))))
+
 abbrev pub hover_text : List Descriptor → Hover → List ℕ
 hover_text tasks Nothing = []
 hover_text tasks (OfLife life) = life_text (name_of tasks life.task) life
@@ -98,6 +109,7 @@ hover_text tasks (OfTransfer counts number register from unit) =
     ++ (codes "$" ++ (decimal register ++ (codes " goes from unit " ++ (decimal from ++ (codes " to unit " ++ (decimal unit ++ codes "</title>"))))))
 hover_text tasks (OfSquash counts number unit) =
     when_text counts number ++ (codes "what follows unit " ++ (decimal unit ++ codes " is squashed</title>"))
+hover_text tasks (OfStretch counts first last tally) = stretch_text counts first last ++ tally_text tally
 
 -- what a label says, and the closing tag
 abbrev pub end_text : List Descriptor → Geometry → List ℕ

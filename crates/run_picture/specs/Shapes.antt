@@ -1,4 +1,4 @@
--- Shapes of which nothing is said where a pointer rests on them.
+-- Shapes that say nothing where a pointer rests on them.
 use Rattle.std.specs.Prelude.{ℕ}
 use Rattle.run_picture.specs.declared.shape.Shape.{Shape}
 use Rattle.run_picture.specs.declared.shape.Style.{Style}

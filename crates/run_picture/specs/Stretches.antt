@@ -8,19 +8,17 @@ use Rattle.task_lives.specs.declared.life.Life.{Life}
 use Rattle.run_picture.specs.declared.shape.Shape.{Shape}
 use Rattle.run_picture.specs.declared.shape.Style.TheVariants.{Share}
 use Rattle.run_picture.specs.Scales.{left_edge_of, top_of}
-use Rattle.run_picture.specs.Shapes.{rectangle}
+use Rattle.run_picture.specs.declared.shape.Geometry.TheVariants.{Rectangle}
+use Rattle.run_picture.specs.declared.shape.Counted.{Counted}
+use Rattle.run_picture.specs.declared.shape.Hover.{Hover}
+use Rattle.run_picture.specs.declared.shape.Hover.TheVariants.{OfStretch}
+use Rattle.run_picture.specs.StretchTallies.{part_of, tally_in}
 
 -- how many events a stretch has; the last ones may be shorter, or empty
 abbrev pub length_of : (events : ℕ) → ℕ
 length_of events = events / 290 + 1
 
--- a column has a part for each ending, from below: retired, squashed, dropped, unfinished
-abbrev pub part_of : Ending → ℕ
-part_of Retired = 0
-part_of Squashed = 1
-part_of Dropped = 2
-part_of Unfinished = 3
-
+-- a column has the parts of its stretch, from below
 abbrev pub ending_of : (part : ℕ) → Ending
 ending_of part = if nat_eq part 0 then Retired else if nat_eq part 1 then Squashed else if nat_eq part 2 then Dropped else Unfinished
 
@@ -55,19 +53,30 @@ end_of events stretch = min (stretch * length_of events + length_of events) even
 abbrev pub height_of : (events stretch count : ℕ) → ℕ
 height_of events stretch count = count * 4000 / max (end_of events stretch - stretch * length_of events) 1
 
-abbrev pub rectangle_of : (events part below here : ℕ) → Shape
-rectangle_of events part below here =
+-- what is said of a stretch of a run of so many events or steps; they are numbered from 1
+abbrev pub hover_of : Counted → (events : ℕ) → (places : List ℕ) → List Life → (stretch : ℕ) → Hover
+hover_of counts events places lives stretch =
+    OfStretch counts (stretch * length_of events + 1) (end_of events stretch) (tally_in (length_of events) places lives stretch)
+
+abbrev pub rectangle_of : (events part below here : ℕ) → Hover → Shape
+rectangle_of events part below here hover =
     let s = stretch_at part in
-    rectangle (Share (ending_of (part % 4)))
-    (left_edge_of events (s * length_of events))
-    (top_of (unit_at part) + 4000 - height_of events s (below + here))
-    (left_edge_of events (end_of events s) - left_edge_of events (s * length_of events))
-    (height_of events s (below + here) - height_of events s below)
+    record {
+      style = Share (ending_of (part % 4));
+      form = Rectangle
+          (left_edge_of events (s * length_of events))
+          (top_of (unit_at part) + 4000 - height_of events s (below + here))
+          (left_edge_of events (end_of events s) - left_edge_of events (s * length_of events))
+          (height_of events s (below + here) - height_of events s below);
+      hover = hover;
+    }
 
 -- the rectangle of a part, if there is something in it
-abbrev pub column_part : (events part below here : ℕ) → List Shape
-column_part events part below here = if nat_lt 0 here then rectangle_of events part below here ∷ [] else []
+abbrev pub column_part : (events part below here : ℕ) → Hover → List Shape
+column_part events part below here hover = if nat_lt 0 here then rectangle_of events part below here hover ∷ [] else []
 
-abbrev pub stretches_of : (units events : ℕ) → List Life → List Shape
-stretches_of units events lives =
-    flat_map (λ part. column_part events part (below_of (length_of events) lives part) (share_of (length_of events) lives part)) (range_with_len 0 (units * 1160))
+-- of so many units, of the places where instructions are executed, and of the lives
+abbrev pub stretches_of : Counted → (units events : ℕ) → (places : List ℕ) → List Life → List Shape
+stretches_of counts units events places lives =
+    flat_map (λ part. column_part events part (below_of (length_of events) lives part) (share_of (length_of events) lives part) (hover_of counts events places lives (stretch_at part)))
+    (range_with_len 0 (units * 1160))

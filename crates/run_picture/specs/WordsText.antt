@@ -4,16 +4,12 @@ use Rattle.std.specs.Prelude.{ℕ, List, [], ◌++◌, codes, length, take, flat
 use Rattle.task_descriptor.specs.declared.descriptor.Descriptor.{Descriptor}
 use Rattle.task_lives.specs.declared.tally.Tally.{Tally}
 use Rattle.run_picture.specs.declared.shape.LabelText.{LabelText}
-use Rattle.run_picture.specs.declared.shape.LabelText.TheVariants.{Title, Sums, OfUnit, EventNumber, Events, Task, Register, Ring, Stretch, Steps, OneEvent, StretchOfSteps}
+use Rattle.run_picture.specs.declared.shape.LabelText.TheVariants.{Sums, OfUnit, EventNumber, Events, Task, Register, Ring, Stretch, Steps, OneEvent, StretchOfSteps}
 use Rattle.run_picture.specs.Bars.{name_of}
 
 -- what follows a word for a number of things
 abbrev pub plural : ℕ → List ℕ
 plural n = if nat_eq n 1 then [] else codes "s"
-
-abbrev pub title_text : (units events : ℕ) → List ℕ
-title_text units events =
-    codes "Run on " ++ (decimal units ++ (codes " unit" ++ (plural units ++ (codes ": " ++ (decimal events ++ (codes " event" ++ plural events))))))
 
 abbrev pub lives_text : Tally → List ℕ
 lives_text t =
@@ -24,13 +20,12 @@ abbrev pub work_text : Tally → List ℕ
 work_text t =
     codes "; instructions of retired tasks: " ++ (decimal t.useful ++ (codes ", of squashed or dropped ones: " ++ decimal t.wasted))
 
--- a name if it has at most so many letters, else so many of them and three points; letters are ASCII
+-- a name if it has at most `letters` letters, else its first `letters` letters and three points; letters are ASCII
 abbrev pub name_text : (name : List ℕ) (letters : ℕ) → List ℕ
 name_text name letters =
     if nat_le (length name) letters then name else flat_map encode_utf8 (take letters name) ++ codes "&#8230;"
 
 abbrev pub words_text : List Descriptor → LabelText → List ℕ
-words_text tasks (Title units events) = title_text units events
 words_text tasks (Sums tally) = lives_text tally ++ work_text tally
 words_text tasks (OfUnit unit) = codes "unit " ++ decimal unit
 words_text tasks (EventNumber number) = decimal number

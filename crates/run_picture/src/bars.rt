@@ -9,7 +9,7 @@ use std::alloc::AllocError;
 use task_descriptor::descriptor::Descriptor;
 use task_lives::life::Life;
 
-/// Adds a bar for each life in a history of so many events, in the same order.
+/// Adds a bar for each life in a history of `events` events, in the order of the lives.
 pub(crate) fn push_bars(
     shapes: &mut Vec<Shape>,
     events: u32,
@@ -73,7 +73,7 @@ fn push_name(
     push_letters(shapes, events, letters, life)
 }
 
-/// Adds so many letters of the name of a life's task, if any.
+/// Adds the first `letters` letters of the name of a life's task, if any.
 fn push_letters(
     shapes: &mut Vec<Shape>,
     events: u32,
@@ -92,8 +92,8 @@ fn push_letters(
     Ok(())
 }
 
-/// How many letters of a name a bar of this width has room for: all of them, or so many that three points
-/// have room behind them.
+/// How many letters of a name a bar of this width has room for: all of them, or as many as leave room for three
+/// points.
 fn letters_in(name: &str, width: u64) -> usize
     ensures { result ≡ letters_in_width name.now width }
 {

@@ -6,18 +6,19 @@ ghost use Rattle.machine_model.specs.Runs.{events_of};
 ghost use Rattle.machine_model.specs.Answer.{most_events};
 ghost use Rattle.task_lives.specs.Lives.{AllFit};
 ghost use Rattle.task_lives.specs.Sums.{AreFew};
-ghost use Rattle.run_picture.specs.Picture.{called_text, file_text, height_of, inner_shapes, legend_text, opening_text, picture_text, root_text, shapes_of as shapes_of_run, sheet_text, single_shapes, summed_shapes};
+ghost use Rattle.run_picture.specs.Picture.{file_text, front_text, heading_text, height_of, inner_shapes, legend_text, opening_text, picture_text, root_text, shapes_of as shapes_of_run, sheet_text, single_shapes, summed_shapes};
 
 use crate::bars::{push_bars, push_names};
 use crate::events::single_events;
-use crate::lanes::{push_axis, push_lanes, push_note, push_titles};
+use crate::lanes::{push_axis, push_lanes, push_note, push_sums};
 use crate::marks::push_marks;
 use crate::scale::bottom;
-use crate::shape::{LabelText, Shape};
+use crate::shape::{Counted, LabelText, Shape};
 use crate::shape_text::write_shapes;
 use crate::sheet::{marks_legend, stretches_legend, style_sheet};
+use crate::stretch_tallies::executed_places;
 use crate::stretches::{push_stretches, stretch_length};
-use crate::words_text::write_title;
+use crate::title::{write_called, write_title};
 use machine_model::event::{Event, EventRun};
 use std::alloc::{AllocError, Global};
 use task_descriptor::descriptor::Descriptor;
@@ -29,24 +30,25 @@ use task_lives::tally::add_up;
 /// The most events that are drawn singly; more are summed by stretches.
 pub const MOST_SINGLE: usize = 2_000;
 
-/// Draws the history of a run of a program on so many units, at least one: one SVG file, with no script and no
-/// font of its own. The history has at most 1,000,000 events, and no event of it is at a position where there
+/// Draws the history of a run of a program of this name, which may be empty, on so many units, at least one: one
+/// SVG file, with no script and no font of its own. The history has at most 1,000,000 events, and no event of it is at a position where there
 /// is no unit; so it is with every history of a machine (`task_lives::laws::histories_fit`). The error says
 /// that memory was refused.
 pub fn draw(
     alloc: Global,
     program: &Program,
+    name: &str,
     units: u32,
     runs: &[EventRun],
 ) -> Result<String, AllocError>
     requires some { 0 < units }
     requires room { length (events_of runs.now) ≤ most_events }
     requires fit { AllFit 0 (events_of runs.now) }
-    ensures { IfOk result (λ text. string_bytes text ≡ picture_text program.now units (events_of runs.now)) }
+    ensures { IfOk result (λ text. string_bytes text ≡ picture_text name.now program.now units (events_of runs.now)) }
 {
     let events = single_events(alloc, runs)?;
     let lives = lives_of_runs(alloc, runs, units)?;
-    let text = draw_lives(alloc, program.tasks(), units, &events, &lives)?;
+    let text = draw_lives(alloc, program.tasks(), name, units, &events, &lives)?;
     Ok(text)
 }
 
@@ -54,6 +56,7 @@ pub fn draw(
 fn draw_lives(
     alloc: Global,
     tasks: &[Descriptor],
+    name: &str,
     units: u32,
     events: &[Event],
     lives: &[Life],
@@ -62,11 +65,11 @@ fn draw_lives(
     requires room { length events.now ≤ most_events }
     requires few { AreFew lives.now }
     ensures { IfOk result (λ text. string_bytes text
-        ≡ file_text tasks.now units (length events.now) (shapes_of_run tasks.now units events.now lives.now)) }
+        ≡ file_text name.now tasks.now units (length events.now) (shapes_of_run tasks.now units events.now lives.now)) }
 {
     let shapes = shapes_of(alloc, tasks, units, events, lives)?;
     let mut text = String::new(alloc);
-    write_file(&mut text, tasks, units, events.len(), &shapes)?;
+    write_file(&mut text, tasks, name, units, events.len(), &shapes)?;
     Ok(text)
 }
 
@@ -85,7 +88,7 @@ fn shapes_of(
 {
     let count = events.len() as u32;
     let mut shapes = Vec::new(alloc);
-    push_titles(&mut shapes, units, count, add_up(lives))?;
+    push_sums(&mut shapes, add_up(lives))?;
     push_lanes(&mut shapes, units)?;
     push_axis(&mut shapes, units, count)?;
     push_inner(alloc, &mut shapes, tasks, units, events, lives)?;
@@ -109,7 +112,7 @@ fn push_inner(
     if events.len() <= MOST_SINGLE {
         push_single(shapes, tasks, units, events, lives)
     } else {
-        push_summed(alloc, shapes, units, events.len() as u32, lives)
+        push_summed(alloc, shapes, units, events, lives)
     }
 }
 
@@ -137,39 +140,59 @@ fn push_summed(
     alloc: Global,
     shapes: &mut Vec<Shape>,
     units: u32,
-    events: u32,
+    events: &[Event],
     lives: &[Life],
 ) -> Result<(), AllocError>
-    requires room { events ≤ most_events }
+    requires room { length events.now ≤ most_events }
     requires few { AreFew lives.now }
-    ensures { OnOk result (shapes.new.items ≡ shapes.old.items ++ summed_shapes units events lives.now) }
+    ensures { OnOk result (shapes.new.items ≡ shapes.old.items ++ summed_shapes units events.now lives.now) }
 {
-    push_stretches(alloc, shapes, units, events, lives)?;
-    push_note(shapes, units, LabelText::Stretch(stretch_length(events)))
+    let count = events.len() as u32;
+    let places = executed_places(alloc, events)?;
+    push_stretches(alloc, shapes, Counted::Events, units, count, &places, lives)?;
+    push_note(shapes, units, LabelText::Stretch(stretch_length(count)))
 }
 
 /// Writes the file of some shapes.
 fn write_file(
     text: &mut String,
     tasks: &[Descriptor],
+    name: &str,
     units: u32,
     events: usize,
     shapes: &[Shape],
 ) -> Result<(), AllocError>
-    ensures { OnOk result (string_bytes text.new ≡ string_bytes text.old ++ file_text tasks.now units events shapes.now) }
+    ensures { OnOk result (string_bytes text.new ≡ string_bytes text.old ++ file_text name.now tasks.now units events shapes.now) }
 {
-    write_opening(text, units, events)?;
+    write_opening(text, name, units, events)?;
     write_shapes(text, tasks, shapes)?;
     text.push_str("</svg>\n")
 }
 
+/// Writes the beginning of the file, and the title.
+fn write_opening(text: &mut String, name: &str, units: u32, events: usize) -> Result<(), AllocError>
+    ensures { OnOk result (string_bytes text.new ≡ string_bytes text.old ++ opening_text name.now units events) }
+{
+    write_front(text, name, units, events)?;
+    write_heading(text, name, units, events)
+}
+
 /// Writes the beginning of the file.
-fn write_opening(text: &mut String, units: u32, events: usize) -> Result<(), AllocError>
-    ensures { OnOk result (string_bytes text.new ≡ string_bytes text.old ++ opening_text units events) }
+fn write_front(text: &mut String, name: &str, units: u32, events: usize) -> Result<(), AllocError>
+    ensures { OnOk result (string_bytes text.new ≡ string_bytes text.old ++ front_text name.now units events) }
 {
     write_root(text, height(units))?;
-    write_called(text, units, events)?;
+    write_called(text, name, Counted::Events, units, events)?;
     write_sheet(text, events)
+}
+
+/// Writes the title.
+fn write_heading(text: &mut String, name: &str, units: u32, events: usize) -> Result<(), AllocError>
+    ensures { OnOk result (string_bytes text.new ≡ string_bytes text.old ++ heading_text name.now units events) }
+{
+    text.push_str("<text class='title' x='88.00' y='46.00'>")?;
+    write_title(text, name, Counted::Events, units, events)?;
+    text.push_str("</text>\n")
 }
 
 /// How high the picture of so many units is, in pixels.
@@ -187,15 +210,6 @@ pub fn write_root(text: &mut String, height: u64) -> Result<(), AllocError>
         text,
         "<svg xmlns='http://www.w3.org/2000/svg' viewBox='0 0 1280 {height}' width='1280' height='{height}' role='img' font-family='system-ui,Segoe UI,Liberation Sans,Arial,sans-serif'>"
     )
-}
-
-/// Writes what the file is called.
-fn write_called(text: &mut String, units: u32, events: usize) -> Result<(), AllocError>
-    ensures { OnOk result (string_bytes text.new ≡ string_bytes text.old ++ called_text units events) }
-{
-    text.push_str("<title>")?;
-    write_title(text, units, events)?;
-    text.push_str("</title>\n")
 }
 
 /// Writes the style sheet and the legend.

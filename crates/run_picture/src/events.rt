@@ -17,7 +17,7 @@ pub fn single_events(alloc: Global, runs: &[EventRun]) -> Result<Vec<Event>, All
     Ok(events)
 }
 
-/// Adds an event so many times.
+/// Adds an event `count` times.
 #[tactic(auto, using(crate::proofs::Parts::replicate_more))]
 fn push_times(events: &mut Vec<Event>, event: &Event, count: u32) -> Result<(), AllocError>
     ensures { OnOk result (events.new.items ≡ events.old.items ++ replicate count event.now) }

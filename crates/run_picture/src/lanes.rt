@@ -1,30 +1,23 @@
-//! The shapes round the bars: titles, lanes, the axis and a note.
+//! The shapes round the bars: what the lives came to, lanes, the axis and a note.
 
 ghost use Rattle.std.specs.Prelude.{◌≡◌, ◌++◌, ◌<◌, OnOk};
-ghost use Rattle.run_picture.specs.Frame.{axis_of, lane_of, lanes_of, note_of, number_at, numbers_of, titles_of};
+ghost use Rattle.run_picture.specs.Frame.{axis_of, lane_of, lanes_of, note_of, number_at, numbers_of, sums_of};
 
 use crate::scale::{AXIS_LEFT, AXIS_WIDTH, LANE_HEIGHT, LANES_TOP, axis_step, bottom, middle};
 use crate::shape::{Geometry, LabelText, Shape, Style};
 use std::alloc::AllocError;
 use task_lives::tally::Tally;
 
-/// Adds the two lines above the picture.
-pub(crate) fn push_titles(
-    shapes: &mut Vec<Shape>,
-    units: u32,
-    events: u32,
-    tally: Tally,
-) -> Result<(), AllocError>
-    ensures { OnOk result (shapes.new.items ≡ shapes.old.items ++ titles_of units events tally) }
+/// Adds the line below the title: what the lives came to.
+pub(crate) fn push_sums(shapes: &mut Vec<Shape>, tally: Tally) -> Result<(), AllocError>
+    ensures { OnOk result (shapes.new.items ≡ shapes.old.items ++ sums_of tally) }
 {
-    let title = Geometry::Label(8_800, 4_600, LabelText::Title(units, events));
     let sums = Geometry::Label(8_800, 7_200, LabelText::Sums(tally));
-    shapes.push(Shape::plain(Style::Heading, title))?;
     shapes.push(Shape::plain(Style::Quiet, sums))?;
     Ok(())
 }
 
-/// Adds the lanes of so many units. An error says that memory was refused.
+/// Adds the lanes of `units` units. An error says that memory was refused.
 pub fn push_lanes(shapes: &mut Vec<Shape>, units: u32) -> Result<(), AllocError>
     ensures { OnOk result (shapes.new.items ≡ shapes.old.items ++ lanes_of units) }
 {
@@ -47,7 +40,7 @@ fn push_lane(shapes: &mut Vec<Shape>, unit: u32) -> Result<(), AllocError>
     Ok(())
 }
 
-/// Adds the axis of so many events below the lanes of so many units: its line, what it counts, and its numbers.
+/// Adds the axis of `events` events below the lanes of `units` units: its line, what it counts, and its numbers.
 pub(crate) fn push_axis(shapes: &mut Vec<Shape>, units: u32, events: u32) -> Result<(), AllocError>
     ensures { OnOk result (shapes.new.items ≡ shapes.old.items ++ axis_of units events) }
 {
@@ -59,7 +52,7 @@ pub(crate) fn push_axis(shapes: &mut Vec<Shape>, units: u32, events: u32) -> Res
     push_numbers(shapes, units, events, axis_step(events).max(1))
 }
 
-/// Adds the numbers of the axis, so many events apart. An error says that memory was refused.
+/// Adds the numbers of the axis, `step` events apart. An error says that memory was refused.
 pub fn push_numbers(
     shapes: &mut Vec<Shape>,
     units: u32,

@@ -16,7 +16,7 @@ const SMALL_ROOM: u64 = 350;
 /// With this room there is a place for a register beside its arrow.
 const ROOM_OF_REGISTER: u64 = 2_600;
 
-/// Adds the marks of the events of a history of so many units, at least one.
+/// Adds the marks of the events of a history of `units` units, at least one.
 pub(crate) fn push_marks(
     shapes: &mut Vec<Shape>,
     units: u32,
@@ -56,8 +56,8 @@ pub fn retired_with(retired: u32, event: Event) -> u32
     }
 }
 
-/// Adds the marks of an event, before which so many tasks retired, in the room of this number, from 1, of so many events
-/// or steps. An error says that memory was refused.
+/// Adds the marks of the event in column `number` (from 1) of `count`; `retired` tasks have retired before it. A
+/// column is an event or a step. An error says that memory was refused.
 pub fn push_mark(
     shapes: &mut Vec<Shape>,
     counted: Counted,
@@ -89,7 +89,7 @@ pub fn push_mark(
     }
 }
 
-/// The number of the unit at a position, after so many tasks have retired.
+/// The number of the unit at a position, after `retired` tasks have retired.
 pub fn unit_at(units: u32, retired: u32, position: u32) -> u32
     requires { 0 < units }
     ensures value { result ≡ (retired + position) % units }
@@ -116,7 +116,7 @@ fn tick(count: u32, number: u32, unit: u32) -> Shape
     Shape::plain(style, Geometry::Line(x, y - 1_300, x, y - 400))
 }
 
-/// A mark above the bar of the unit behind which a squash begins.
+/// A mark above the bar of the unit after which a squash begins.
 fn squash(counted: Counted, count: u32, number: u32, unit: u32) -> Shape
     ensures { result ≡ squash_of counted count number unit }
 {

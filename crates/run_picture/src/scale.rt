@@ -21,8 +21,8 @@ pub const BAR_HEIGHT: u64 = 4_000;
 /// How far below the beginning of its lane a bar begins.
 pub(crate) const BAR_INSET: u64 = 1_400;
 
-/// Where an event begins on the axis of so many events, from the left; with the number of events, where the
-/// axis ends. Each event has the same room.
+/// Where an event begins on the axis of `events` events, from the left; with the number of events, where the axis
+/// ends. Each event has equal room.
 pub fn left_edge(events: u32, event: u64) -> u64
     requires { event ≤ 2 ^ 32 }
     ensures value { result ≡ left_edge_of events event }
@@ -38,8 +38,8 @@ pub fn top(unit: u32) -> u64
     LANES_TOP + u64::from(unit) * LANE_HEIGHT + BAR_INSET
 }
 
-/// How far apart the numbers stand on the axis of so many events, in events: the least of 1, 2 and 5, times
-/// 1, 10, 100 and so on up to 500,000, that gives at most 14 numbers; for still more events 1,000,000.
+/// How far apart the numbers stand on the axis of `events` events, in events: the least of 1, 2 and 5, times 1, 10,
+/// 100 and so on up to 500,000, that gives at most 14 numbers; for still more events 1,000,000.
 pub fn axis_step(events: u32) -> u32
     ensures { result ≡ step_of events }
 {
@@ -102,14 +102,14 @@ pub fn middle(events: u32, event: u32) -> u64
     (begin + end) / 2
 }
 
-/// Where the lanes of so many units end, from above.
+/// Where the lanes of `units` units end, from above.
 pub fn bottom(units: u32) -> u64
     ensures { result ≡ bottom_of units }
 {
     LANES_TOP + u64::from(units) * LANE_HEIGHT
 }
 
-/// How much room each of so many events has.
+/// How much room each of `events` events has.
 pub(crate) fn room(events: u32) -> u64
     ensures { result ≡ room_of events }
 {

@@ -6,8 +6,6 @@ use task_lives::tally::Tally;
 /// How a shape looks: a class of the style sheet.
 #[derive(Clone, Copy, Debug, PartialEq, Eq)]
 pub enum Style {
-    /// What the picture is called.
-    Heading,
     /// Further text.
     Quiet,
     /// The ground of every other lane.
@@ -22,19 +20,19 @@ pub enum Style {
     AxisNumber,
     /// What the axis counts.
     Caption,
-    /// The bar of a life that ended so.
+    /// The bar of a life with this ending.
     Bar(Ending),
-    /// What lives that ended so had of a stretch.
+    /// The share of a stretch that lives with this ending had.
     Share(Ending),
     /// The name of a task on its bar.
     TaskName,
     /// An instruction.
     Instruction,
-    /// The same, where events have little room.
+    /// An instruction, where events have little room.
     FineInstruction,
     /// A register that goes from one unit to the next.
     Arrow,
-    /// The same, where events have little room.
+    /// A register that goes from one unit to the next, where events have little room.
     FineArrow,
     /// The register beside its arrow.
     RegisterName,
@@ -53,8 +51,6 @@ pub enum Style {
 /// What a label says.
 #[derive(Clone, Copy, Debug, PartialEq, Eq)]
 pub enum LabelText {
-    /// What the picture is called: how many units, and how many events.
-    Title(u32, u32),
     /// What the lives came to.
     Sums(Tally),
     /// The number of a unit.
@@ -63,19 +59,19 @@ pub enum LabelText {
     EventNumber(u32),
     /// What the axis counts.
     Events,
-    /// The name of the task with this number: all of it, or so many letters and three points.
+    /// The name of the task with this number: all of it, or this many letters and three points.
     Task(u32, usize),
     /// A register's number.
     Register(u8),
     /// That the units form a ring.
     Ring,
-    /// That so many events are summed.
+    /// How many events are summed.
     Stretch(u32),
     /// What the axis counts in steps.
     Steps,
     /// What a unit does in a step.
     OneEvent,
-    /// That so many steps are summed.
+    /// How many steps are summed.
     StretchOfSteps(u32),
 }
 
@@ -86,6 +82,19 @@ pub enum Counted {
     Events,
     /// Steps.
     Steps,
+}
+
+/// What comes of a stretch of events or steps, on all units.
+#[derive(Clone, Copy, Debug, PartialEq, Eq)]
+pub struct StretchTally {
+    /// How many instructions are executed.
+    pub executed: u64,
+    /// How many tasks retire.
+    pub retired: u64,
+    /// How many tasks are squashed.
+    pub squashed: u64,
+    /// How many tasks are dropped.
+    pub dropped: u64,
 }
 
 /// What is said of a shape where a pointer rests on it.
@@ -99,6 +108,8 @@ pub enum Hover {
     OfTransfer(Counted, u32, u8, u32, u32),
     /// In this event or step, numbered from 1, what follows a unit is squashed.
     OfSquash(Counted, u32, u32),
+    /// From this event or step to that one, numbered from 1, this comes of the run.
+    OfStretch(Counted, u64, u64, StretchTally),
 }
 
 /// The form of a shape.
@@ -121,7 +132,7 @@ pub struct Shape {
     pub style: Style,
     /// Where it is.
     pub form: Geometry,
-    /// What is said of it.
+    /// What it says where a pointer rests on it.
     pub hover: Hover,
 }
 
@@ -129,7 +140,7 @@ impl Shape {
     ghost use Rattle.std.specs.Prelude.{◌≡◌};
     ghost use Rattle.run_picture.specs.Shapes.{plain as plain_of};
 
-    /// A shape of which nothing is said.
+    /// A shape that says nothing where a pointer rests on it.
     pub fn plain(style: Style, form: Geometry) -> Shape
         ensures { result ≡ plain_of style form }
     {

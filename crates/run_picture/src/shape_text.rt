@@ -2,11 +2,11 @@
 
 ghost use Rattle.std.specs.Prelude.{◌≡◌, ◌+◌, ◌++◌, OnOk};
 ghost use Rattle.std.specs.String.{string_bytes};
-ghost use Rattle.run_picture.specs.ShapeText.{beginning_text, counted_text, course_text, end_text, ending_text, hover_text, life_text, place_text, shape_text, shapes_text, share_text, span_text, style_text, when_text};
+ghost use Rattle.run_picture.specs.ShapeText.{beginning_text, counted_text, course_text, end_text, ending_text, hover_text, life_text, place_text, shape_text, shapes_text, share_text, span_text, stretch_text, style_text, tally_text, when_text};
 
 use crate::bars::name_of;
 use crate::pixels::Pixels;
-use crate::shape::{Counted, Geometry, Hover, Shape, Style};
+use crate::shape::{Counted, Geometry, Hover, Shape, StretchTally, Style};
 use crate::words_text::write_words;
 use std::alloc::AllocError;
 use task_descriptor::descriptor::Descriptor;
@@ -83,7 +83,7 @@ pub fn write_end(text: &mut String, tasks: &[Descriptor], form: Geometry) -> Res
     }
 }
 
-/// Writes what is said of a shape.
+/// Writes what a shape says where a pointer rests on it.
 fn write_hover(text: &mut String, tasks: &[Descriptor], hover: Hover) -> Result<(), AllocError>
     ensures { OnOk result (string_bytes text.new ≡ string_bytes text.old ++ hover_text tasks.now hover) }
 {
@@ -101,7 +101,42 @@ fn write_hover(text: &mut String, tasks: &[Descriptor], hover: Hover) -> Result<
             write_when(text, counted, number)?;
             write!(text, "what follows unit {unit} is squashed</title>")
         }
+        Hover::OfStretch(counted, first, last, tally) => {
+            write_stretch(text, counted, first, last)?;
+            write_tally(text, tally)
+        }
     }
+}
+
+/// Writes from which event or step to which one a stretch goes, as the beginning of what is said of it.
+fn write_stretch(
+    text: &mut String,
+    counted: Counted,
+    first: u64,
+    last: u64,
+) -> Result<(), AllocError>
+    ensures { OnOk result (string_bytes text.new ≡ string_bytes text.old ++ stretch_text counted first last) }
+{
+    let counted = word_of_counted(counted);
+    if first == last {
+        write!(text, "<title>{counted} {first}")
+    } else {
+        write!(text, "<title>{counted}s {first} to {last}")
+    }
+}
+
+/// Writes what comes of a stretch, as the end of what is said of it.
+fn write_tally(text: &mut String, tally: StretchTally) -> Result<(), AllocError>
+    ensures { OnOk result (string_bytes text.new ≡ string_bytes text.old ++ tally_text tally) }
+{
+    let executed = tally.executed;
+    let retired = tally.retired;
+    let squashed = tally.squashed;
+    let dropped = tally.dropped;
+    write!(
+        text,
+        ": instructions: {executed}, tasks retired: {retired}, squashed: {squashed}, dropped: {dropped}</title>"
+    )
 }
 
 /// Writes in which event or step something comes, as the beginning of what is said of it.
@@ -113,7 +148,7 @@ fn write_when(text: &mut String, counted: Counted, number: u32) -> Result<(), Al
 }
 
 /// The word for an event or a step.
-fn word_of_counted(counted: Counted) -> &'static str
+pub(crate) fn word_of_counted(counted: Counted) -> &'static str
     ensures { result.now ≡ counted_text counted }
 {
     match counted {
@@ -122,7 +157,7 @@ fn word_of_counted(counted: Counted) -> &'static str
     }
 }
 
-/// Writes what is said of a life; its events are numbered from 1.
+/// Writes the title of a life; its events are numbered from 1.
 fn write_life(text: &mut String, name: &str, life: Life) -> Result<(), AllocError>
     ensures { OnOk result (string_bytes text.new ≡ string_bytes text.old ++ life_text name.now life) }
 {
@@ -131,7 +166,7 @@ fn write_life(text: &mut String, name: &str, life: Life) -> Result<(), AllocErro
     write_course(text, life.executed, word_of(life.ending))
 }
 
-/// Writes which task it is, and where, as the beginning of what is said of a life. An error says that memory was
+/// Writes which task it is, and where, as the beginning of the title of a life. An error says that memory was
 /// refused.
 pub fn write_place(text: &mut String, name: &str, unit: u32) -> Result<(), AllocError>
     ensures { OnOk result (string_bytes text.new ≡ string_bytes text.old ++ place_text name.now unit) }
@@ -150,8 +185,8 @@ fn write_span(text: &mut String, first: u64, last: u64) -> Result<(), AllocError
     }
 }
 
-/// Writes how many instructions were executed, and the ending, as the end of what is said of a life. An error says
-/// that memory was refused.
+/// Writes how many instructions were executed, and the ending, as the end of the title of a life. An error says that
+/// memory was refused.
 pub fn write_course(text: &mut String, executed: u32, ending: &str) -> Result<(), AllocError>
     ensures { OnOk result (string_bytes text.new ≡ string_bytes text.old ++ course_text executed ending.now) }
 {
@@ -182,7 +217,6 @@ fn class_of(style: Style) -> &'static str
     ensures { result.now ≡ style_text style }
 {
     match style {
-        Style::Heading => "title",
         Style::Quiet => "quiet",
         Style::Ground => "lane",
         Style::UnitName => "unit",

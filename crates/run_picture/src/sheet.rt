@@ -1,4 +1,4 @@
-//! The parts of the file that are the same in every picture.
+//! The parts of the file that every picture has.
 
 ghost use Rattle.std.specs.Prelude.{◌≡◌};
 ghost use Rattle.run_picture.specs.FixedText.{style_sheet, marks_legend, stretches_legend};

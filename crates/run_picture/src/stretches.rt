@@ -5,11 +5,12 @@ ghost use Rattle.std.specs.Prelude.{◌≡◌, ℕ, ◌+◌, ◌*◌, ◌-◌, �
 ghost use Rattle.std.specs.List.{range_with_len, sum_by};
 ghost use Rattle.machine_model.specs.Answer.{most_events};
 ghost use Rattle.task_lives.specs.Sums.{AreFew};
-ghost use Rattle.run_picture.specs.Stretches.{column_part, ending_of as ending_of_part, end_of, height_of, length_of, overlap as overlap_of, part_of as part_of_ending, rectangle_of, share_of, stretches_of};
-ghost use Rattle.run_picture.specs.Adding.{AddsLife, with_overlap, HaveRoom};
+ghost use Rattle.run_picture.specs.Stretches.{column_part, ending_of as ending_of_part, end_of, height_of, length_of, overlap as overlap_of, rectangle_of, share_of, stretch_at, stretches_of};
+ghost use Rattle.run_picture.specs.Adding.{AddsLife, HaveRoom, hover_by, with_overlap};
 
 use crate::scale::{BAR_HEIGHT, left_edge, top};
-use crate::shape::{Geometry, Shape, Style};
+use crate::shape::{Counted, Geometry, Hover, Shape, StretchTally, Style};
+use crate::stretch_tallies::{StretchSums, part_of, sums_of};
 use std::alloc::{AllocError, Global};
 use task_lives::life::{Ending, Life};
 
@@ -21,18 +22,6 @@ pub fn stretch_length(events: u32) -> u32
     ensures { result ≡ length_of events }
 {
     events / STRETCHES + 1
-}
-
-/// The number of an ending's part in a column, from below.
-fn part_of(ending: Ending) -> usize
-    ensures { result ≡ part_of_ending ending }
-{
-    match ending {
-        Ending::Retired => 0,
-        Ending::Squashed => 1,
-        Ending::Dropped => 2,
-        Ending::Unfinished => 3,
-    }
 }
 
 /// The ending of a part.
@@ -50,24 +39,48 @@ fn ending_of(part: usize) -> Ending
     }
 }
 
-/// Adds the columns of so many units, in a history of so many events. An error says that memory was refused.
+/// Adds the columns of so many units, in a history of so many events or steps, numbered from 0, of which those at these
+/// places execute an instruction. An error says that memory was refused.
 pub fn push_stretches(
     alloc: Global,
     shapes: &mut Vec<Shape>,
+    counted: Counted,
     units: u32,
     events: u32,
+    places: &[u32],
     lives: &[Life],
 ) -> Result<(), AllocError>
     requires room { events ≤ most_events }
     requires few { AreFew lives.now }
-    ensures { OnOk result (shapes.new.items ≡ shapes.old.items ++ stretches_of units events lives.now) }
+    requires few_places { length places.now ≤ most_events }
+    ensures { OnOk result (shapes.new.items ≡ shapes.old.items ++ stretches_of counted units events places.now lives.now) }
 {
     let parts = units as usize * 1_160;
-    let shares = shares_of(alloc, parts, stretch_length(events), lives)?;
+    let span = stretch_length(events);
+    let shares = shares_of(alloc, parts, span, lives)?;
+    let sums = sums_of(alloc, span, places, lives)?;
     for part in 0..parts {
-        push_part(shapes, events, &shares, part)?;
+        let hover = hover_by_sums(counted, events, &sums, part);
+        push_part(shapes, events, &shares, part, hover)?;
     }
     Ok(())
+}
+
+/// What is said of the stretch of a part, by the sums.
+fn hover_by_sums(counted: Counted, events: u32, sums: &StretchSums, part: usize) -> Hover
+    requires executed { length sums.now.executed.items ≡ 290 }
+    requires ended { length sums.now.ended.items ≡ 1160 }
+    ensures { result ≡ hover_by counted events sums.now.executed.items sums.now.ended.items (stretch_at part) }
+{
+    let stretch = part / 4 % 290;
+    let tally = StretchTally {
+        executed: sums.executed[stretch],
+        retired: sums.ended[stretch * 4],
+        squashed: sums.ended[stretch * 4 + 1],
+        dropped: sums.ended[stretch * 4 + 2],
+    };
+    let first = stretch as u64 * u64::from(stretch_length(events)) + 1;
+    Hover::OfStretch(counted, first, end(events, stretch as u64), tally)
 }
 
 /// The shares of so many parts: how many events of its stretch count for each.
@@ -130,18 +143,19 @@ fn push_part(
     events: u32,
     shares: &[u64],
     part: usize,
+    hover: Hover,
 ) -> Result<(), AllocError>
     requires within { part < length shares.now }
     requires units { part < 1160 * 2 ^ 32 }
     requires small { (k : ℕ) → k < length shares.now → slice_index shares.now k < 2 ^ 40 }
     requires room { events ≤ most_events }
     ensures { OnOk result (shapes.new.items ≡ shapes.old.items
-        ++ column_part events part (sum_by (slice_index shares.now) (range_with_len (part - part % 4) (part % 4))) (slice_index shares.now part)) }
+        ++ column_part events part (sum_by (slice_index shares.now) (range_with_len (part - part % 4) (part % 4))) (slice_index shares.now part) hover) }
 {
     let here = shares[part];
     if here > 0 {
         let below = below(shares, part);
-        shapes.push(rectangle(events, part, below, here))?;
+        shapes.push(rectangle(events, part, below, here, hover))?;
     }
     Ok(())
 }
@@ -161,12 +175,12 @@ fn below(shares: &[u64], part: usize) -> u64
 }
 
 /// The rectangle of a part, above what lies below it.
-fn rectangle(events: u32, part: usize, below: u64, here: u64) -> Shape
+fn rectangle(events: u32, part: usize, below: u64, here: u64, hover: Hover) -> Shape
     requires room { events ≤ most_events }
     requires units { part < 1160 * 2 ^ 32 }
     requires below_small { below < 2 ^ 42 }
     requires here_small { here < 2 ^ 40 }
-    ensures { result ≡ rectangle_of events part below here }
+    ensures { result ≡ rectangle_of events part below here hover }
 {
     let stretch = (part / 4 % 290) as u64;
     let begin = stretch * u64::from(stretch_length(events));
@@ -181,7 +195,8 @@ fn rectangle(events: u32, part: usize, below: u64, here: u64) -> Shape
         right.saturating_sub(left),
         high.saturating_sub(low),
     );
-    Shape::plain(Style::Share(ending_of(part % 4)), form)
+    let style = Style::Share(ending_of(part % 4));
+    Shape { style, form, hover }
 }
 
 /// Where a stretch ends.
@@ -194,7 +209,7 @@ fn end(events: u32, stretch: u64) -> u64
     (stretch * span + span).min(u64::from(events))
 }
 
-/// How high so many events of a stretch are.
+/// How high `count` events of a stretch are.
 fn height(events: u32, stretch: u64, count: u64) -> u64
     requires few { stretch < 290 }
     requires small { count < 2 ^ 43 }

@@ -2,7 +2,7 @@
 
 ghost use Rattle.std.specs.Prelude.{◌≡◌, ◌++◌, OnOk, flat_map, encode_utf8};
 ghost use Rattle.std.specs.String.{string_bytes};
-ghost use Rattle.run_picture.specs.WordsText.{lives_text, name_text, plural as plural_of, title_text, work_text, words_text};
+ghost use Rattle.run_picture.specs.WordsText.{lives_text, name_text, plural as plural_of, work_text, words_text};
 
 use crate::bars::name_of;
 use crate::shape::LabelText;
@@ -19,7 +19,6 @@ pub(crate) fn write_words(
     ensures { OnOk result (string_bytes text.new ≡ string_bytes text.old ++ words_text tasks.now words) }
 {
     match words {
-        LabelText::Title(units, events) => write_title(text, units, events as usize),
         LabelText::Sums(tally) => write_sums(text, tally),
         LabelText::OfUnit(unit) => write!(text, "unit {unit}"),
         LabelText::EventNumber(number) => write!(text, "{number}"),
@@ -44,15 +43,6 @@ pub(crate) fn write_words(
     }
 }
 
-/// Writes what the picture is called.
-pub(crate) fn write_title(text: &mut String, units: u32, events: usize) -> Result<(), AllocError>
-    ensures { OnOk result (string_bytes text.new ≡ string_bytes text.old ++ title_text units events) }
-{
-    let s = plural(units as usize);
-    let of_events = plural(events);
-    write!(text, "Run on {units} unit{s}: {events} event{of_events}")
-}
-
 /// What follows a word for a number of things.
 pub fn plural(count: usize) -> &'static str
     ensures { result.now ≡ plural_of count }
@@ -60,7 +50,7 @@ pub fn plural(count: usize) -> &'static str
     if count == 1 { "" } else { "s" }
 }
 
-/// Writes what some lives came to.
+/// Writes the tally of some lives.
 fn write_sums(text: &mut String, tally: Tally) -> Result<(), AllocError>
     ensures { OnOk result (string_bytes text.new ≡ string_bytes text.old ++ (lives_text tally ++ work_text tally)) }
 {
@@ -95,7 +85,7 @@ fn write_work(text: &mut String, tally: Tally) -> Result<(), AllocError>
     )
 }
 
-/// Writes a name if it has at most so many letters, else so many of them and three points.
+/// Writes a name if it has at most `letters` letters, else its first `letters` letters and three points.
 fn write_name(text: &mut String, name: &str, letters: usize) -> Result<(), AllocError>
     ensures { OnOk result (string_bytes text.new ≡ string_bytes text.old ++ name_text name.now letters) }
 {

@@ -1,5 +1,5 @@
--- A run that goes on before each of its steps and not behind the last has one number of steps; and rows of
--- the same units are then the same, the first first.
+-- A run that goes on before each of its steps and not after the last has one number of steps; and rows of equal units
+-- are then equal, the first first.
 use Rattle.std.proofs.Common.{◌≡◌, ◌∙◌, refl, sym, ap, ap₂, subst, ℕ, suc, ◌<◌, List, [], ◌∷◌, length, map, get_or, drop, arith, true≢false}
 use Rattle.std.specs.List.{All}
 use Rattle.std.proofs.lemmas.List.Elements.{All-head, All-tail}

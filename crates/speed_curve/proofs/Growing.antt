@@ -1,4 +1,4 @@
--- Rows of runs on so many units, and the row of the run on one unit more behind them.
+-- Rows of runs, and after them the row of the run on one unit more.
 use Rattle.std.proofs.Common.{◌≡◌, ◌∙◌, refl, sym, ap, ap₂, subst, ℕ, zero, suc, ◌+◌, List, [], ◌∷◌, ◌++◌, arith}
 use Rattle.std.specs.List.{range_with_len}
 use Rattle.std.proofs.lemmas.List.{map_push}

@@ -18,7 +18,7 @@ abbrev pub scale_text : (top : ℕ) → List ℕ
 scale_text top =
     scale_label 492 0 ++ (scale_label 404 (top / 4) ++ (scale_label 316 (top / 2) ++ (scale_label 228 (3 * top / 4) ++ scale_label 140 top)))
 
--- where a number of the run on so many units is
+-- where a number of the run on `units` units is
 abbrev pub point_text : (columns top units hundredths : ℕ) → List ℕ
 point_text columns top units hundredths =
     decimal (column_of columns units) ++ (codes "," ++ (decimal (height_of top hundredths) ++ codes " "))
@@ -45,7 +45,7 @@ abbrev pub speed_line : (columns top : ℕ) → (one : Row) → List Row → Lis
 speed_line columns top one rows =
     codes "<polyline class='speed' points='" ++ (flat_map (speed_point columns top one) rows ++ (codes "'/>" ++ 10 ∷ []))
 
--- the beginning of a column, and what is said of it
+-- the beginning of a column, and its title
 abbrev pub place_text : (left units steps : ℕ) → List ℕ
 place_text left units steps =
     codes "<g transform='translate(" ++ (decimal left ++ (codes " 0)'><title>units: " ++ (decimal units ++ (codes ", steps: " ++ decimal steps))))

@@ -1,5 +1,4 @@
--- The part of the file that is the same in every picture: what a colour says, a form or a
--- pattern says too.
+-- The part of the file that every picture has: what a colour says, a form or a pattern says too.
 use Rattle.std.specs.Prelude.{ℕ, List, [], ◌∷◌, ◌++◌, codes, flat_map}
 
 -- lines, each with its LF

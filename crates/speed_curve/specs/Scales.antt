@@ -37,7 +37,7 @@ foot_over point = let foot = point - 12 in foot - (16 - (940 - foot) % 88)
 abbrev pub foot_under : (point : ℕ) → ℕ
 foot_under point = let foot = point + 22 in foot + (16 - (foot + 43) % 88)
 
--- the middle of the column of so many units: each of the columns has its share of 1,160 pixels, from 88 on
+-- the middle of the column of `units` units: each of the columns has its share of 1,160 pixels, from 88 on
 abbrev pub column_of : (columns units : ℕ) → ℕ
 column_of columns units = 88 + (2 * units - 1) * 580 / columns
 

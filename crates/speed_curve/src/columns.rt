@@ -1,4 +1,4 @@
-//! The column of a run: its points, its bar, and what is said of it.
+//! The column of a run: its points, its bar, and its title.
 
 ghost use Rattle.std.specs.Prelude.{◌≡◌, ◌<◌, ◌^◌, ◌++◌, IfSome, OnOk};
 ghost use Rattle.std.specs.String.{string_bytes};
@@ -40,7 +40,7 @@ pub(crate) fn write_speed_point(
     write_point_if(text, columns, top, row.units, speed_up(one, row))
 }
 
-/// Writes where a number of the run on so many units is, if there is one.
+/// Writes where a number of the run on `units` units is, if there is one.
 fn write_point_if(
     text: &mut String,
     columns: u64,
@@ -59,7 +59,7 @@ fn write_point_if(
     }
 }
 
-/// Writes where a number of the run on so many units is.
+/// Writes where a number of the run on `units` units is.
 fn write_point(
     text: &mut String,
     columns: u64,
@@ -101,7 +101,7 @@ pub(crate) fn write_column(
     write_values(text, under, row)
 }
 
-/// Writes the beginning of a column, and what is said of it where a pointer rests on it.
+/// Writes the beginning of a column, and its title, which shows where a pointer rests on it.
 fn write_opening(
     text: &mut String,
     left: u64,
@@ -159,7 +159,7 @@ fn write_bar(text: &mut String, from: u64, top: u64, high: u64) -> Result<(), Al
     )
 }
 
-/// Writes the rate's point of a run that stands so: a disc if it halted, else a diamond.
+/// Writes the rate's point of a run, by its standing: a disc if it halted, else a diamond.
 fn write_mark(text: &mut String, point: u64, standing: Standing) -> Result<(), AllocError>
     ensures { OnOk result (string_bytes text.new ≡ string_bytes text.old ++ mark_text point standing) }
 {

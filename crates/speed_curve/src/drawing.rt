@@ -11,12 +11,11 @@ use crate::scale::top;
 use crate::sheet::fixed_text;
 use std::alloc::{AllocError, Global};
 
-/// Draws what runs of a program in steps came to, a column for each row: one SVG file, with no script and no
-/// font of its own. Above, one line joins how many instructions retired in a step, and a dashed one how many
-/// times as many steps the run on one unit took, which is the first row; below, a bar says which share was
-/// thrown away. All are rounded as in the table (`crate::table`), and a run has a speed-up where it has
-/// one there. The row of so many units stands in the column of that number, and there are as many columns as
-/// rows. The error says that memory was refused.
+/// Draws the results of runs of a program in steps, a column for each row: one SVG file, with no script and no font
+/// of its own. Above, one line joins how many instructions retired in a step, and a dashed one how many times as many
+/// steps the run on one unit took, which is the first row; below, a bar says which share was thrown away. All are
+/// rounded as in the table (`crate::table`), and a run has a speed-up where it has one there. The row of n units
+/// stands in column n, and there are as many columns as rows. The error says that memory was refused.
 pub fn draw(alloc: Global, rows: &[Row]) -> Result<String, AllocError>
     ensures { IfOk result (λ text. string_bytes text ≡ curve_text rows.now) }
 {

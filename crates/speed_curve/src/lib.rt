@@ -1,5 +1,5 @@
-//! How far the marks of a program let its tasks overlap: what its runs in steps come to on 1, 2, 3 units
-//! and more, as a table and as a picture.
+//! How far the marks of a program let its tasks overlap: the results of its runs in steps on 1, 2, 3 units and more,
+//! as a table and as a picture.
 #![tactic(auto)]
 
 mod columns;

@@ -1,4 +1,4 @@
-//! What a run in steps came to.
+//! The result of a run in steps.
 
 ghost use Rattle.std.specs.Prelude.{◌≡◌, ◌≤◌, IfOk};
 ghost use Rattle.sequencer.specs.Machines.{state, units_of};
@@ -15,7 +15,7 @@ use unit_turns::predictor::Predictor;
 use unit_turns::report::{StepsFault, StepsReport};
 use unit_turns::runner::run_steps;
 
-/// What a run of a program in steps came to.
+/// The result of a run of a program in steps.
 #[derive(Clone, Copy, Debug, PartialEq, Eq)]
 pub struct Row {
     /// How many units the machine has, 1 to 16.
@@ -31,8 +31,8 @@ pub struct Row {
     pub standing: Standing,
 }
 
-/// Runs the accepted program in steps, as `run_steps` does, on a machine of so many units, 1 to 16, up to
-/// this many events, 1 to 1,000,000, and says what the run came to. The error says that memory was refused.
+/// Runs the accepted program in steps, as `run_steps` does, on a machine of `units` units, 1 to 16, up to `budget`
+/// events, 1 to 1,000,000, and answers the result. The error says that memory was refused.
 pub fn row_of(
     alloc: Global,
     accepted: &Accepted,

@@ -64,7 +64,7 @@ pub(crate) fn foot_under(point: u64) -> u64
     foot + 16_u64.saturating_sub((foot + 43) % 88)
 }
 
-/// The middle of the column of so many units, of so many columns, from the left.
+/// The middle of the column of `units` units, of `columns` columns, from the left.
 pub(crate) fn column(columns: u64, units: u32) -> u64
     requires { 0 < columns }
     ensures { result ≡ column_of columns units }

@@ -1,4 +1,4 @@
-//! The part of the file that is the same in every picture.
+//! The part of the file that every picture has.
 
 ghost use Rattle.std.specs.Prelude.{◌≡◌};
 ghost use Rattle.speed_curve.specs.FixedText.{fixed_text};

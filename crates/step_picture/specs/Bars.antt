@@ -26,7 +26,7 @@ is_halted halted life = if nat_eq life.unit halted then is_unfinished life.endin
 abbrev pub bar_style : (halted : ℕ) → Life → Style
 bar_style halted life = if is_halted halted life then Halted else Bar life.ending
 
--- the bar of a life of a run of so many steps, in its unit's lane, as wide as its steps
+-- the bar of a life of a run of `count` steps, in its unit's lane, as wide as its steps
 abbrev pub bar_of : (count halted : ℕ) → Life → Shape
 bar_of count halted life =
     rectangle (bar_style halted life) (left_edge_of count life.first) (top_of life.unit) (width_of count life) 4000
@@ -35,6 +35,6 @@ unfoldable pub bar_text : List Descriptor → (count halted : ℕ) → Life → 
 bar_text tasks count halted life =
     element_text tasks (bar_of count halted life) (life_text (name_of tasks life.task) life (is_halted halted life))
 
--- one bar for each life, in the same order
+-- one bar for each life, in the order of the lives
 abbrev pub bars_text : List Descriptor → (count halted : ℕ) → List Life → List ℕ
 bars_text tasks count halted lives = flat_map (bar_text tasks count halted) lives

@@ -1,5 +1,5 @@
 -- Worked examples, computed by the checker: the steps of events, a life in steps, the bar of the task that halted, the
--- strips of waits, the marks of events, what is said of them, and what a predictor is called.
+-- strips of waits, the marks of events, their titles, and what a predictor is called.
 use Rattle.std.specs.Prelude.{◌≡◌, ℕ, List, [], ◌∷◌, ◌++◌, true, false, Bool, codes, replicate}
 use Rattle.std.specs.Fmt.{digits}
 use Rattle.std.proofs.Common.{refl}

@@ -13,7 +13,7 @@ abbrev pub is_squash : Event → Bool
 is_squash (Squash k) = true
 is_squash _ = false
 
--- there is room for the marks of an event in a run of so many steps
+-- there is room for the marks of an event in a run of `count` steps
 abbrev pub is_marked : (count : ℕ) → Event → Bool
 is_marked count e = nat_le count 300 || is_squash e
 
@@ -21,7 +21,7 @@ is_marked count e = nat_le count 300 || is_squash e
 abbrev pub marks_in : (units count step unit : ℕ) → Event → List Shape
 marks_in units count step unit e = if is_marked count e then marks_at Steps units count step unit e else []
 
--- of events of which the first has this number, from 0, and before which so many tasks have retired
+-- of the events from event `number` (from 0) on, after `retired` Retires
 abbrev pub marks_from : (units count : ℕ) → (steps : List ℕ) → (retired number : ℕ) → List Event → List Shape
 marks_from units count steps retired number [] = []
 marks_from units count steps retired number (e ∷ es) =

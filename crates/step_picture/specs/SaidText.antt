@@ -1,4 +1,4 @@
--- What is said of shapes where a pointer rests on them, and the SVG element of such a shape.
+-- The titles of shapes, which show where a pointer rests on them, and the SVG element of such a shape.
 use Rattle.std.specs.Fmt.{decimal}
 use Rattle.std.specs.Prelude.{ℕ, ◌+◌, ◌-◌, List, ◌++◌, Bool, codes, nat_eq, if◌then◌else◌}
 use Rattle.task_descriptor.specs.declared.descriptor.Descriptor.{Descriptor}
@@ -53,6 +53,6 @@ why_text tasks reason = reason_text tasks reason ++ codes "</title>"
 abbrev pub waited_text : List Descriptor → Strip → List ℕ
 waited_text tasks s = steps_text s.first.step s.last ++ why_text tasks s.first.reason
 
--- ---- the element of a shape of which this is said
+-- ---- the element of a shape with this title
 abbrev pub element_text : List Descriptor → Shape → (said : List ℕ) → List ℕ
 element_text tasks shape said = beginning_text (style_text shape.style) shape.form ++ (said ++ end_text tasks shape.form)

@@ -16,15 +16,16 @@ use Rattle.jobs.specs.declared.job.Prediction.{Prediction}
 use Rattle.run_picture.specs.declared.shape.Shape.{Shape}
 use Rattle.run_picture.specs.declared.shape.Style.TheVariants.{Axis, Caption}
 use Rattle.run_picture.specs.declared.shape.LabelText.TheVariants.{Steps, OneEvent, StretchOfSteps}
+use Rattle.run_picture.specs.declared.shape.Counted.TheVariants as counted
 use Rattle.run_picture.specs.Scales.{bottom_of, step_of}
 use Rattle.run_picture.specs.Shapes.{line, label}
 use Rattle.run_picture.specs.Frame.{lanes_of, numbers_of, note_of}
 use Rattle.run_picture.specs.Bars.{names_of}
 use Rattle.run_picture.specs.Stretches.{length_of, stretches_of}
-use Rattle.run_picture.specs.WordsText.{plural}
 use Rattle.run_picture.specs.ShapeText.{shapes_text}
+use Rattle.run_picture.specs.Titles.{called_text, title_text}
 use Rattle.run_picture.specs.Picture.{height_of, root_text}
-use Rattle.step_picture.specs.Numbers.{all_in_steps, count_of, steps_of}
+use Rattle.step_picture.specs.Numbers.{all_in_steps, count_of, executed_steps, steps_of}
 use Rattle.step_picture.specs.Bars.{bars_text, halted_unit}
 use Rattle.step_picture.specs.Strips.{strips_text}
 use Rattle.step_picture.specs.Marks.{marks_of}
@@ -33,7 +34,7 @@ use Rattle.step_picture.specs.FixedText.{style_sheet, single_legend, marks_legen
 
 -- ---- the frame
 
--- a lane for each unit, and the axis of so many steps
+-- a lane for each unit, and the axis of `count` steps
 abbrev pub axis_of : (units count : ℕ) → List Shape
 axis_of units count =
     line Axis 8800 (bottom_of units) 124800 (bottom_of units)
@@ -61,23 +62,16 @@ single_text p units count halted steps history lives =
     ++ shapes_text p.tasks (labels_of p.tasks units count lives)
 
 -- a long run, summed as in a picture of events
-abbrev pub summed_of : (units count : ℕ) → List Life → List Shape
-summed_of units count lives = stretches_of units count lives ++ note_of units (StretchOfSteps (length_of count))
+abbrev pub summed_of : (units count : ℕ) → (places : List ℕ) → List Life → List Shape
+summed_of units count places lives = stretches_of counted.Steps units count places lives ++ note_of units (StretchOfSteps (length_of count))
 
 -- up to 2,000 steps are drawn singly
 abbrev pub inner_text : Listing → (units count halted : ℕ) → (steps : List ℕ) → List Event → List Life → List ℕ
 inner_text p units count halted steps history lives =
     if nat_le count 2000 then single_text p units count halted steps history lives
-    else shapes_text p.tasks (summed_of units count lives)
+    else shapes_text p.tasks (summed_of units count (executed_steps steps history) lives)
 
 -- ---- the opening: the size, what the file is called, the style sheet and the legend, and two lines
-
-abbrev pub title_text : (units count : ℕ) → List ℕ
-title_text units count =
-    codes "Run on " ++ (decimal units ++ (codes " unit" ++ (plural units ++ (codes ": " ++ (decimal count ++ (codes " step" ++ plural count))))))
-
-abbrev pub called_text : (units count : ℕ) → List ℕ
-called_text units count = codes "<title>" ++ (title_text units count ++ (codes "</title>" ++ 10 ∷ []))
 
 abbrev pub legend_text : (count : ℕ) → List ℕ
 legend_text count =
@@ -89,8 +83,9 @@ ended_legend count = legend_text count ++ (codes "</g>" ++ 10 ∷ [])
 abbrev pub sheet_text : (count : ℕ) → List ℕ
 sheet_text count = style_sheet ++ ended_legend count
 
-abbrev pub heading_text : (units count : ℕ) → List ℕ
-heading_text units count = codes "<text class='title' x='88' y='46'>" ++ (title_text units count ++ (codes "</text>" ++ 10 ∷ []))
+abbrev pub heading_text : (name : List ℕ) → (units count : ℕ) → List ℕ
+heading_text name units count =
+    codes "<text class='title' x='88' y='46'>" ++ (title_text name counted.Steps units count ++ (codes "</text>" ++ 10 ∷ []))
 
 -- how the run ended
 abbrev pub ending_text : Standing → List ℕ
@@ -111,32 +106,34 @@ predicted_text predict = codes "; predictor: " ++ (predictor_text predict ++ (co
 abbrev pub caption_text : Prediction → Standing → Tally → List ℕ
 caption_text predict standing tally = outcome_text tally (ending_text standing) ++ predicted_text predict
 
-abbrev pub lines_text : (units count : ℕ) → Prediction → Standing → Tally → List ℕ
-lines_text units count predict standing tally = heading_text units count ++ caption_text predict standing tally
+abbrev pub lines_text : (name : List ℕ) → (units count : ℕ) → Prediction → Standing → Tally → List ℕ
+lines_text name units count predict standing tally = heading_text name units count ++ caption_text predict standing tally
 
-abbrev pub front_text : (units count : ℕ) → List ℕ
-front_text units count = root_text (height_of units) ++ (called_text units count ++ sheet_text count)
+abbrev pub front_text : (name : List ℕ) → (units count : ℕ) → List ℕ
+front_text name units count = root_text (height_of units) ++ (called_text name counted.Steps units count ++ sheet_text count)
 
-abbrev pub opening_text : (units count : ℕ) → Prediction → Standing → Tally → List ℕ
-opening_text units count predict standing tally = front_text units count ++ lines_text units count predict standing tally
+abbrev pub opening_text : (name : List ℕ) → (units count : ℕ) → Prediction → Standing → Tally → List ℕ
+opening_text name units count predict standing tally = front_text name units count ++ lines_text name units count predict standing tally
 
 -- ---- the text of a history, by the steps of its events, the lives in steps, and the tally of the lives
 abbrev pub closing : List ℕ
 closing = codes "</svg>" ++ 10 ∷ []
 
-abbrev pub head_text : List Descriptor → (units count : ℕ) → Prediction → Standing → Tally → List ℕ
-head_text tasks units count predict standing tally =
-    opening_text units count predict standing tally ++ shapes_text tasks (frame_of units count)
+abbrev pub head_text : (name : List ℕ) → List Descriptor → (units count : ℕ) → Prediction → Standing → Tally → List ℕ
+head_text name tasks units count predict standing tally =
+    opening_text name units count predict standing tally ++ shapes_text tasks (frame_of units count)
 
-abbrev pub file_text : Listing → (units count : ℕ) → Prediction → Standing → (steps : List ℕ) → List Event → List Life → Tally → List ℕ
-file_text p units count predict standing steps history lives tally =
-    head_text p.tasks units count predict standing tally
+abbrev pub file_text : (name : List ℕ) → Listing → (units count : ℕ) → Prediction → Standing → (steps : List ℕ) → List Event → List Life → Tally → List ℕ
+file_text name p units count predict standing steps history lives tally =
+    head_text name p.tasks units count predict standing tally
     ++ (inner_text p units count (halted_unit units tally.retired standing) steps history lives ++ closing)
 
-abbrev pub text_by : Listing → (units : ℕ) → Prediction → Standing → (steps : List ℕ) → List Event → List Life → List ℕ
-text_by p units predict standing steps history lives =
-    file_text p units (count_of steps) predict standing steps history (all_in_steps steps lives) (tally_of lives)
+abbrev pub text_by : (name : List ℕ) → Listing → (units : ℕ) → Prediction → Standing → (steps : List ℕ) → List Event → List Life → List ℕ
+text_by name p units predict standing steps history lives =
+    file_text name p units (count_of steps) predict standing steps history (all_in_steps steps lives) (tally_of lives)
 
--- the whole text, of a history of a program on so many units that was predicted so, and then stands so
-unfoldable pub step_picture_text : Listing → (units : ℕ) → Prediction → Standing → (history : List Event) → List ℕ
-step_picture_text p units predict standing history = text_by p units predict standing (steps_of history) history (lives_of units history)
+-- the whole text, of a history of a program of this name, which may be empty, on so many units that was predicted so, and
+-- then stands so
+unfoldable pub step_picture_text : (name : List ℕ) → Listing → (units : ℕ) → Prediction → Standing → (history : List Event) → List ℕ
+step_picture_text name p units predict standing history =
+    text_by name p units predict standing (steps_of history) history (lives_of units history)

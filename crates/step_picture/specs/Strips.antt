@@ -1,12 +1,12 @@
 -- Why units wait, as strips in the lower part of their bars: one for each stretch of steps in which a unit waits for one
 -- reason.
-use Rattle.std.specs.Prelude.{ℕ, ◌+◌, ◌-◌, List, [], ◌∷◌, ◌++◌, Bool, true, false, not, ◌&&◌, filter, flat_map, nat_eq, if◌then◌else◌, Option, Some, None}
+use Rattle.std.specs.Prelude.{ℕ, ◌+◌, ◌-◌, List, [], ◌∷◌, ◌++◌, Bool, ◌&&◌, filter, flat_map, nat_eq, if◌then◌else◌, Option, Some, None}
 use Rattle.std.specs.List.{range_with_len}
 use Rattle.task_descriptor.specs.declared.descriptor.Descriptor.{Descriptor}
-use Rattle.unit_waits.specs.declared.waiting.Owed.{Owed}
 use Rattle.unit_waits.specs.declared.waiting.Reason.{Reason}
 use Rattle.unit_waits.specs.declared.waiting.Reason.TheVariants.{NeedsRegister, NeedsHead, HasToPass, HasFinished, CouldGoOn}
 use Rattle.unit_waits.specs.declared.waiting.Waiting.{Waiting}
+use Rattle.unit_waits.specs.Counts.{is_same_reason}
 use Rattle.run_picture.specs.declared.shape.Shape.{Shape}
 use Rattle.run_picture.specs.declared.shape.Style.{Style}
 use Rattle.run_picture.specs.declared.shape.Style.TheVariants.{WaitForRegister, WaitForTurn, WaitToPass}
@@ -15,25 +15,24 @@ use Rattle.run_picture.specs.Shapes.{rectangle}
 use Rattle.step_picture.specs.declared.strip.Strip.{Strip}
 use Rattle.step_picture.specs.SaidText.{element_text, waited_text}
 
--- the same register, owed by the same task on the same unit, which both times has sent it or has not
-abbrev pub is_one_debt : (r : ℕ) → Owed → (q : ℕ) → Owed → Bool
-is_one_debt r o q d = nat_eq r q && nat_eq o.task d.task && nat_eq o.unit d.unit && (if o.is_sent then d.is_sent else not d.is_sent)
-
-abbrev pub is_one_reason : Reason → Reason → Bool
-is_one_reason (NeedsRegister r o) (NeedsRegister q d) = is_one_debt r o q d
-is_one_reason NeedsHead NeedsHead = true
-is_one_reason (HasToPass r o) (HasToPass q d) = is_one_debt r o q d
-is_one_reason HasFinished HasFinished = true
-is_one_reason CouldGoOn CouldGoOn = true
-is_one_reason _ _ = false
+-- the unit that owes the register of a reason; 0 where there is no such register
+abbrev pub owing_unit : Reason → ℕ
+owing_unit (NeedsRegister r owed) = owed.unit
+owing_unit NeedsHead = 0
+owing_unit (HasToPass r owed) = owed.unit
+owing_unit HasFinished = 0
+owing_unit CouldGoOn = 0
 
 -- the strip that a wait begins
 abbrev pub begun : Waiting → Strip
 begun w = record { first = w; last = w.step }
 
--- a wait lengthens a strip: it is that of the next step, of the same task and for the same reason
+-- a wait lengthens a strip: it is that of the next step, of the same task and for the same reason, and a register is owed
+-- by the same unit
 abbrev pub lengthens : Strip → Waiting → Bool
-lengthens s w = nat_eq w.step (s.last + 1) && nat_eq s.first.task w.task && is_one_reason s.first.reason w.reason
+lengthens s w =
+    nat_eq w.step (s.last + 1) && nat_eq s.first.task w.task && nat_eq (owing_unit s.first.reason) (owing_unit w.reason)
+    && is_same_reason s.first.reason w.reason
 
 -- the strip up to a wait, and what ends before it
 abbrev pub next_strip : Strip → Waiting → Strip
@@ -62,7 +61,7 @@ shade_of (HasToPass r owed) = Some WaitToPass
 shade_of HasFinished = Some WaitForTurn
 shade_of CouldGoOn = None
 
--- the strip in a run of so many steps, as wide as its steps
+-- the strip in a run of `count` steps, as wide as its steps
 abbrev pub shape_of : (count : ℕ) → Strip → Style → Shape
 shape_of count s style =
     rectangle style (left_edge_of count (s.first.step - 1)) (top_of s.first.unit + 2400) (left_edge_of count s.last - left_edge_of count (s.first.step - 1)) 1300

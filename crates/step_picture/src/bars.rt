@@ -15,8 +15,8 @@ use std::alloc::AllocError;
 use task_descriptor::descriptor::Descriptor;
 use task_lives::life::{Ending, Life};
 
-/// The unit that halted in a run that stands so and in which so many tasks retired; if none did, a number that no unit
-/// has.
+/// The unit that halted in a run with this final state in which `retired` tasks retired; if none did, a number that
+/// no unit has.
 pub(crate) fn halted_unit(units: u32, retired: u32, standing: Standing) -> u32
     requires { 0 < units }
     ensures { result ≡ halted_unit_of units retired standing }
@@ -89,7 +89,7 @@ fn write_bar(
     write_end(text, tasks, bar.form)
 }
 
-/// Writes a bar for each life of a run of so many steps, in the same order.
+/// Writes a bar for each life of a run of `count` steps, in the order of the lives.
 pub(crate) fn write_bars(
     text: &mut String,
     tasks: &[Descriptor],

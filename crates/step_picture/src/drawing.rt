@@ -8,7 +8,7 @@ ghost use Rattle.machine_model.specs.Answer.{most_events};
 ghost use Rattle.machine_model.specs.Replay.{Replays};
 ghost use Rattle.task_lives.specs.Sums.{AreFew};
 ghost use Rattle.step_picture.specs.Marks.{marks_of};
-ghost use Rattle.step_picture.specs.Numbers.{all_in_steps as lives_in_steps, count_of, steps_of};
+ghost use Rattle.step_picture.specs.Numbers.{all_in_steps as lives_in_steps, count_of, executed_steps as executed_steps_of, steps_of};
 ghost use Rattle.step_picture.specs.StepPicture.{closing, drawn_text, file_text, frame_of, head_text, inner_text, labels_of, single_text, step_picture_text, summed_of, text_by};
 ghost use Rattle.run_picture.specs.ShapeText.{shapes_text};
 
@@ -16,7 +16,7 @@ use crate::bars::{halted_unit, write_bars};
 use crate::frame::frame;
 use crate::heading::write_opening;
 use crate::marks::push_marks;
-use crate::numbers::{all_in_steps, count, steps};
+use crate::numbers::{all_in_steps, count, executed_steps, steps};
 use crate::strips::write_strips;
 use jobs::job::Prediction;
 use machine_model::event::{Event, EventRun, Standing};
@@ -25,7 +25,7 @@ use run_picture::bars::push_names;
 use run_picture::drawing::MOST_SINGLE;
 use run_picture::events::single_events;
 use run_picture::lanes::push_note;
-use run_picture::shape::LabelText;
+use run_picture::shape::{Counted, LabelText};
 use run_picture::shape_text::write_shapes;
 use run_picture::stretches::{push_stretches, stretch_length};
 use std::alloc::{AllocError, Global};
@@ -37,13 +37,14 @@ use task_lives::tally::{Tally, add_up};
 use unit_waits::waiting::Waiting;
 use unit_waits::waits::waits;
 
-/// Draws the history of a run in steps of an accepted program on so many units, 1 to 16, which was predicted so, and
-/// then stands so: one SVG file, with no script and no font of its own. Each event of the history is allowed where it
+/// Draws the history of a run in steps of an accepted program of this name, which may be empty, on so many units, 1 to
+/// 16, which was predicted so, and then stands so: one SVG file, with no script and no font of its own. Each event of the history is allowed where it
 /// comes, and there are at most 1,000,000. An event at position 0 ends a step. The error says that memory was refused.
 #[tactic(auto, unfolding(crate::specs::StepPicture::step_picture_text))]
 pub fn draw(
     alloc: Global,
     accepted: &Accepted,
+    name: &str,
     units: u32,
     predict: &Prediction,
     standing: Standing,
@@ -53,14 +54,14 @@ pub fn draw(
     requires few { units ≤ 16 }
     requires replay { (s : State) × Replays accepted.now.program units (events_of runs.now) s }
     requires room { length (events_of runs.now) ≤ most_events }
-    ensures { IfOk result (λ text. string_bytes text ≡ step_picture_text accepted.now.program units predict.now standing (events_of runs.now)) }
+    ensures { IfOk result (λ text. string_bytes text ≡ step_picture_text name.now accepted.now.program units predict.now standing (events_of runs.now)) }
 {
     histories_fit();
     let events = single_events(alloc, runs)?;
     let lives = lives_of_runs(alloc, runs, units)?;
     let steps = steps(alloc, &events)?;
     let text = draw_lives(
-        alloc, accepted, units, predict, standing, &steps, &events, &lives,
+        alloc, accepted, name, units, predict, standing, &steps, &events, &lives,
     )?;
     Ok(text)
 }
@@ -69,6 +70,7 @@ pub fn draw(
 fn draw_lives(
     alloc: Global,
     accepted: &Accepted,
+    name: &str,
     units: u32,
     predict: &Prediction,
     standing: Standing,
@@ -81,13 +83,13 @@ fn draw_lives(
     requires room { length events.now ≤ most_events }
     requires steps { steps.now ≡ steps_of events.now }
     requires few { AreFew lives.now }
-    ensures { IfOk result (λ text. string_bytes text ≡ text_by accepted.now.program units predict.now standing steps.now events.now lives.now) }
+    ensures { IfOk result (λ text. string_bytes text ≡ text_by name.now accepted.now.program units predict.now standing steps.now events.now lives.now) }
 {
     let found = all_in_steps(alloc, steps, lives)?;
     let tally = add_up(lives);
     let mut text = String::new(alloc);
     write_file(
-        alloc, &mut text, accepted, units, predict, standing, steps, events, &found, tally,
+        alloc, &mut text, accepted, name, units, predict, standing, steps, events, &found, tally,
     )?;
     Ok(text)
 }
@@ -97,6 +99,7 @@ fn write_file(
     alloc: Global,
     text: &mut String,
     accepted: &Accepted,
+    name: &str,
     units: u32,
     predict: &Prediction,
     standing: Standing,
@@ -111,13 +114,14 @@ fn write_file(
     requires steps { steps.now ≡ steps_of events.now }
     requires few { AreFew lives.now }
     ensures { OnOk result (string_bytes text.new ≡ string_bytes text.old
-        ++ file_text accepted.now.program units (count_of steps.now) predict.now standing steps.now events.now lives.now tally) }
+        ++ file_text name.now accepted.now.program units (count_of steps.now) predict.now standing steps.now events.now lives.now tally) }
 {
     let halted = halted_unit(units, tally.retired, standing);
     write_head(
         alloc,
         text,
         accepted.program().tasks(),
+        name,
         units,
         count(steps),
         predict,
@@ -133,15 +137,16 @@ fn write_head(
     alloc: Global,
     text: &mut String,
     tasks: &[Descriptor],
+    name: &str,
     units: u32,
     count: u32,
     predict: &Prediction,
     standing: Standing,
     tally: Tally,
 ) -> Result<(), AllocError>
-    ensures { OnOk result (string_bytes text.new ≡ string_bytes text.old ++ head_text tasks.now units count predict.now standing tally) }
+    ensures { OnOk result (string_bytes text.new ≡ string_bytes text.old ++ head_text name.now tasks.now units count predict.now standing tally) }
 {
-    write_opening(text, units, count, predict, standing, tally)?;
+    write_opening(text, name, units, count, predict, standing, tally)?;
     write_frame(alloc, text, tasks, units, count)
 }
 
@@ -189,7 +194,16 @@ fn write_inner(
     if count as usize <= MOST_SINGLE {
         write_single(alloc, text, accepted, units, halted, steps, events, lives)
     } else {
-        write_summed(alloc, text, accepted.program().tasks(), units, count, lives)
+        write_summed(
+            alloc,
+            text,
+            accepted.program().tasks(),
+            units,
+            count,
+            steps,
+            events,
+            lives,
+        )
     }
 }
 
@@ -285,14 +299,27 @@ fn write_summed(
     tasks: &[Descriptor],
     units: u32,
     count: u32,
+    steps: &[u32],
+    events: &[Event],
     lives: &[Life],
 ) -> Result<(), AllocError>
     requires room { count ≤ most_events }
     requires few { AreFew lives.now }
-    ensures { OnOk result (string_bytes text.new ≡ string_bytes text.old ++ shapes_text tasks.now (summed_of units count lives.now)) }
+    requires events { length events.now ≤ most_events }
+    ensures { OnOk result (string_bytes text.new ≡ string_bytes text.old
+        ++ shapes_text tasks.now (summed_of units count (executed_steps_of steps.now events.now) lives.now)) }
 {
+    let places = executed_steps(alloc, steps, events)?;
     let mut shapes = Vec::new(alloc);
-    push_stretches(alloc, &mut shapes, units, count, lives)?;
+    push_stretches(
+        alloc,
+        &mut shapes,
+        Counted::Steps,
+        units,
+        count,
+        &places,
+        lives,
+    )?;
     push_note(
         &mut shapes,
         units,

@@ -8,7 +8,7 @@ use run_picture::scale::{AXIS_LEFT, AXIS_WIDTH, axis_step, bottom};
 use run_picture::shape::{Geometry, LabelText, Shape, Style};
 use std::alloc::{AllocError, Global};
 
-/// Adds the axis of so many steps below the lanes of so many units: its line, what it counts, and its numbers.
+/// Adds the axis of `count` steps below the lanes of `units` units: its line, what it counts, and its numbers.
 fn push_axis(shapes: &mut Vec<Shape>, units: u32, count: u32) -> Result<(), AllocError>
     ensures { OnOk result (shapes.new.items ≡ shapes.old.items ++ axis_of units count) }
 {
@@ -20,7 +20,7 @@ fn push_axis(shapes: &mut Vec<Shape>, units: u32, count: u32) -> Result<(), Allo
     push_numbers(shapes, units, count, axis_step(count).max(1))
 }
 
-/// The lanes and the axis of a run of so many steps.
+/// The lanes and the axis of a run of `count` steps.
 pub(crate) fn frame(alloc: Global, units: u32, count: u32) -> Result<Vec<Shape>, AllocError>
     ensures { IfOk result (λ shapes. shapes.items ≡ frame_of units count) }
 {

@@ -2,7 +2,7 @@
 
 ghost use Rattle.std.specs.Prelude.{◌≡◌, ◌++◌, OnOk};
 ghost use Rattle.std.specs.String.{string_bytes};
-ghost use Rattle.step_picture.specs.StepPicture.{called_text, caption_text, ended_legend, ending_text, front_text, heading_text, legend_text, lines_text, opening_text, outcome_text, predicted_text, sheet_text, title_text};
+ghost use Rattle.step_picture.specs.StepPicture.{caption_text, ended_legend, ending_text, front_text, heading_text, legend_text, lines_text, opening_text, outcome_text, predicted_text, sheet_text};
 
 use crate::marks::MOST_MARKED;
 use crate::predictor_text::write_predictor;
@@ -10,50 +10,35 @@ use crate::sheet::{marks_legend, single_legend, style_sheet, summed_legend};
 use jobs::job::Prediction;
 use machine_model::event::Standing;
 use run_picture::drawing::{MOST_SINGLE, height, write_root};
-use run_picture::words_text::plural;
+use run_picture::shape::Counted;
+use run_picture::title::{write_called, write_title};
 use std::alloc::AllocError;
 use task_lives::tally::Tally;
 
-/// Writes the opening of the picture of a run of so many steps, which was predicted so, and then stands so.
+/// Writes the opening of the picture of a run of a program of this name, of so many steps, which was predicted so, and
+/// then stands so.
 pub(crate) fn write_opening(
     text: &mut String,
+    name: &str,
     units: u32,
     count: u32,
     predict: &Prediction,
     standing: Standing,
     tally: Tally,
 ) -> Result<(), AllocError>
-    ensures { OnOk result (string_bytes text.new ≡ string_bytes text.old ++ opening_text units count predict.now standing tally) }
+    ensures { OnOk result (string_bytes text.new ≡ string_bytes text.old ++ opening_text name.now units count predict.now standing tally) }
 {
-    write_front(text, units, count)?;
-    write_lines(text, units, count, predict, standing, tally)
+    write_front(text, name, units, count)?;
+    write_lines(text, name, units, count, predict, standing, tally)
 }
 
 /// Writes the beginning of the file.
-fn write_front(text: &mut String, units: u32, count: u32) -> Result<(), AllocError>
-    ensures { OnOk result (string_bytes text.new ≡ string_bytes text.old ++ front_text units count) }
+fn write_front(text: &mut String, name: &str, units: u32, count: u32) -> Result<(), AllocError>
+    ensures { OnOk result (string_bytes text.new ≡ string_bytes text.old ++ front_text name.now units count) }
 {
     write_root(text, height(units))?;
-    write_called(text, units, count)?;
+    write_called(text, name, Counted::Steps, units, count as usize)?;
     write_sheet(text, count)
-}
-
-/// Writes what the file is called.
-fn write_called(text: &mut String, units: u32, count: u32) -> Result<(), AllocError>
-    ensures { OnOk result (string_bytes text.new ≡ string_bytes text.old ++ called_text units count) }
-{
-    text.push_str("<title>")?;
-    write_title(text, units, count)?;
-    text.push_str("</title>\n")
-}
-
-/// Writes what the picture is called.
-fn write_title(text: &mut String, units: u32, count: u32) -> Result<(), AllocError>
-    ensures { OnOk result (string_bytes text.new ≡ string_bytes text.old ++ title_text units count) }
-{
-    let s = plural(units as usize);
-    let of_steps = plural(count as usize);
-    write!(text, "Run on {units} unit{s}: {count} step{of_steps}")
 }
 
 /// Writes the style sheet and the legend.
@@ -89,15 +74,16 @@ fn write_legend(text: &mut String, count: u32) -> Result<(), AllocError>
 /// Writes the two lines above the picture.
 fn write_lines(
     text: &mut String,
+    name: &str,
     units: u32,
     count: u32,
     predict: &Prediction,
     standing: Standing,
     tally: Tally,
 ) -> Result<(), AllocError>
-    ensures { OnOk result (string_bytes text.new ≡ string_bytes text.old ++ lines_text units count predict.now standing tally) }
+    ensures { OnOk result (string_bytes text.new ≡ string_bytes text.old ++ lines_text name.now units count predict.now standing tally) }
 {
-    write_heading(text, units, count)?;
+    write_heading(text, name, units, count)?;
     write_caption(text, predict, standing, tally)
 }
 
@@ -114,12 +100,12 @@ fn write_caption(
     write_predicted(text, predict)
 }
 
-/// Writes how many units and steps there are.
-fn write_heading(text: &mut String, units: u32, count: u32) -> Result<(), AllocError>
-    ensures { OnOk result (string_bytes text.new ≡ string_bytes text.old ++ heading_text units count) }
+/// Writes the title.
+fn write_heading(text: &mut String, name: &str, units: u32, count: u32) -> Result<(), AllocError>
+    ensures { OnOk result (string_bytes text.new ≡ string_bytes text.old ++ heading_text name.now units count) }
 {
     text.push_str("<text class='title' x='88' y='46'>")?;
-    write_title(text, units, count)?;
+    write_title(text, name, Counted::Steps, units, count as usize)?;
     text.push_str("</text>\n")
 }
 

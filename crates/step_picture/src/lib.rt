@@ -8,7 +8,6 @@ mod frame;
 mod heading;
 mod marks;
 mod numbers;
-mod one_reason;
 mod predictor_text;
 mod said;
 mod sheet;

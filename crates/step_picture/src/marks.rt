@@ -10,7 +10,7 @@ use run_picture::marks::{push_mark, retired_with};
 use run_picture::shape::{Counted, Shape};
 use std::alloc::AllocError;
 
-/// Up to so many steps have room for all marks; more, for squashes alone.
+/// Up to this many steps have room for all marks; more, for squashes alone.
 pub(crate) const MOST_MARKED: u32 = 300;
 
 /// Whether an event is a squash.
@@ -23,14 +23,14 @@ fn is_squash(event: Event) -> bool
     }
 }
 
-/// Whether there is room for the marks of an event in a run of so many steps.
+/// Whether there is room for the marks of an event in a run of `count` steps.
 fn is_marked(count: u32, event: Event) -> bool
     ensures { result ≡ is_marked_in count event }
 {
     count <= MOST_MARKED || is_squash(event)
 }
 
-/// Adds the marks of an event of this step, before which so many tasks retired, if there is room for them.
+/// Adds the marks of an event of this step, before which `retired` tasks retired, if there is room for them.
 fn push_marks_in(
     shapes: &mut Vec<Shape>,
     units: u32,
@@ -49,7 +49,7 @@ fn push_marks_in(
     }
 }
 
-/// Adds the marks of a history of so many units, at least one, in a run of so many steps.
+/// Adds the marks of a history of `units` units, at least one, in a run of `count` steps.
 pub(crate) fn push_marks(
     shapes: &mut Vec<Shape>,
     units: u32,

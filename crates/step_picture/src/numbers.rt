@@ -1,12 +1,14 @@
 //! The steps in which the events of a history come.
 
-ghost use Rattle.std.specs.Prelude.{◌≡◌, ◌+◌, ◌<◌, ◌≤◌, ◌^◌, IfOk, length};
-ghost use Rattle.machine_model.specs.HeadEvent.{active_after, position_of as position_of_event};
+ghost use Rattle.std.specs.Prelude.{◌≡◌, ◌+◌, ◌<◌, ◌≤◌, ◌^◌, IfOk, length, map};
+ghost use Rattle.machine_model.specs.Answer.{most_events};
 ghost use Rattle.unit_waits.specs.Waits.{ends_step as ends_step_of};
 ghost use Rattle.task_lives.specs.Sums.{AreFew};
-ghost use Rattle.step_picture.specs.Numbers.{all_in_steps, count_of, in_steps as in_steps_of, step_after, step_at as step_of_event, steps_of};
+ghost use Rattle.step_picture.specs.Numbers.{all_in_steps, count_of, executed_steps as executed_steps_of, in_steps as in_steps_of, place_in_steps, step_after, step_at as step_of_event, steps_of};
 
 use machine_model::event::Event;
+use run_picture::queue::{active_with, position_of};
+use run_picture::stretch_tallies::executed_places;
 use std::alloc::{AllocError, Global};
 use task_lives::life::Life;
 
@@ -26,7 +28,7 @@ pub(crate) fn steps(alloc: Global, events: &[Event]) -> Result<Vec<u32>, AllocEr
     Ok(steps)
 }
 
-/// The step after an event of this step, where so many units are at work.
+/// The step after an event of this step, where `active` units are at work.
 fn step_with(active: u64, step: u32, event: Event) -> u32
     requires { step ≤ 2 ^ 31 }
     ensures value { result ≡ step_after active step event }
@@ -39,45 +41,11 @@ fn step_with(active: u64, step: u32, event: Event) -> u32
     }
 }
 
-/// Whether an event ends a step, where so many units are at work.
+/// Whether an event ends a step, where `active` units are at work.
 fn ends_step(active: u64, event: Event) -> bool
     ensures { result ≡ ends_step_of active event }
 {
     position_of(active, event) == 0
-}
-
-/// The position that an event is at, where so many units are at work.
-fn position_of(active: u64, event: Event) -> u64
-    ensures { result ≡ position_of_event active event }
-{
-    match event {
-        Event::Assign(_) => active,
-        Event::Exec(position) => u64::from(position),
-        Event::Transfer(position, _) => u64::from(position),
-        Event::Drain(position, _) => u64::from(position),
-        Event::Squash(position) => u64::from(position),
-        Event::Retire => 0,
-        Event::Fault => 0,
-        Event::Drop(position) => u64::from(position),
-    }
-}
-
-/// How many units are at work after an event, where so many were.
-fn active_with(active: u64, event: Event) -> u64
-    requires { active < 2 ^ 63 }
-    ensures value { result ≡ active_after active event }
-    ensures bound { result ≤ active + 2 ^ 32 }
-{
-    match event {
-        Event::Assign(_) => active + 1,
-        Event::Exec(_) => active,
-        Event::Transfer(_, _) => active,
-        Event::Drain(_, _) => active,
-        Event::Squash(position) => u64::from(position) + 1,
-        Event::Retire => active.saturating_sub(1),
-        Event::Fault => active,
-        Event::Drop(position) => u64::from(position),
-    }
 }
 
 /// The step of the event of this number.
@@ -95,6 +63,33 @@ pub(crate) fn count(steps: &[u32]) -> u32
     ensures { result ≡ count_of steps.now }
 {
     step_at(steps, steps.len().saturating_sub(1))
+}
+
+/// The steps, numbered from 0, in which instructions are executed.
+pub(crate) fn executed_steps(
+    alloc: Global,
+    steps: &[u32],
+    events: &[Event],
+) -> Result<Vec<u32>, AllocError>
+    requires { length events.now ≤ most_events }
+    ensures places { IfOk result (λ places. places.items ≡ executed_steps_of steps.now events.now) }
+    ensures few { IfOk result (λ places. length places.items ≤ most_events) }
+{
+    let executed = executed_places(alloc, events)?;
+    let places = places_in_steps(alloc, steps, &executed)?;
+    Ok(places)
+}
+
+/// The steps, numbered from 0, of the events of these numbers.
+fn places_in_steps(alloc: Global, steps: &[u32], events: &[u32]) -> Result<Vec<u32>, AllocError>
+    ensures places { IfOk result (λ places. places.items ≡ map (place_in_steps steps.now) events.now) }
+    ensures as_many { IfOk result (λ places. length places.items ≡ length events.now) }
+{
+    let mut places = Vec::new(alloc);
+    for event in events {
+        places.push(step_at(steps, *event as usize).saturating_sub(1))?;
+    }
+    Ok(places)
 }
 
 /// Lives by their first and last steps, numbered from 0, in place of their events.

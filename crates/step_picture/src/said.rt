@@ -1,4 +1,4 @@
-//! What is said of shapes where a pointer rests on them.
+//! The titles of shapes, which show where a pointer rests on them.
 
 ghost use Rattle.std.specs.Prelude.{◌≡◌, ◌+◌, ◌++◌, OnOk};
 ghost use Rattle.std.specs.String.{string_bytes};
@@ -13,7 +13,7 @@ use task_descriptor::descriptor::Descriptor;
 use task_lives::life::Life;
 use unit_waits::waiting::{Owed, Reason};
 
-/// Writes what is said of a life; its steps are numbered from 1.
+/// Writes the title of a life; its steps are numbered from 1.
 pub(crate) fn write_life(
     text: &mut String,
     name: &str,
@@ -72,7 +72,7 @@ fn write_steps(text: &mut String, first: u32, last: u32) -> Result<(), AllocErro
     write!(text, "<title>steps {first} to {last} ({steps} steps): ")
 }
 
-/// Writes what keeps a unit, and the end of what is said.
+/// Writes what keeps a unit, and the end of the title.
 fn write_why(text: &mut String, tasks: &[Descriptor], reason: &Reason) -> Result<(), AllocError>
     ensures { OnOk result (string_bytes text.new ≡ string_bytes text.old ++ why_text tasks.now reason.now) }
 {

@@ -1,4 +1,4 @@
-//! The parts of the file that are the same in every picture.
+//! The parts of the file that every picture has.
 
 ghost use Rattle.std.specs.Prelude.{◌≡◌};
 ghost use Rattle.step_picture.specs.FixedText.{marks_legend, single_legend, style_sheet, summed_legend};

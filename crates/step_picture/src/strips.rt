@@ -2,9 +2,8 @@
 
 ghost use Rattle.std.specs.Prelude.{◌≡◌, ◌++◌, IfOk, OnOk, Some, flat_map};
 ghost use Rattle.std.specs.String.{string_bytes};
-ghost use Rattle.step_picture.specs.Strips.{begun as begun_by, lane_text, lengthens as is_lengthened, next_strip as next_strip_by, shade_of as shade_of_reason, shaded_text, shape_of as shape_of_strip, strip_text, strips_from as strips_from_strip, strips_of as strips_of_waits, strips_text, waits_on as waits_on_unit};
+ghost use Rattle.step_picture.specs.Strips.{begun as begun_by, lane_text, lengthens as is_lengthened, next_strip as next_strip_by, owing_unit as owing_unit_of, shade_of as shade_of_reason, shaded_text, shape_of as shape_of_strip, strip_text, strips_from as strips_from_strip, strips_of as strips_of_waits, strips_text, waits_on as waits_on_unit};
 
-use crate::one_reason::is_one_reason;
 use crate::said::write_waited;
 use crate::strip::Strip;
 use run_picture::scale::{left_edge, top};
@@ -12,6 +11,7 @@ use run_picture::shape::{Geometry, Shape, Style};
 use run_picture::shape_text::{write_beginning, write_end};
 use std::alloc::{AllocError, Global};
 use task_descriptor::descriptor::Descriptor;
+use unit_waits::alike::is_same_reason;
 use unit_waits::waiting::{Reason, Waiting};
 
 /// The strip that a wait begins.
@@ -24,7 +24,21 @@ fn begun(waiting: &Waiting) -> Strip
     }
 }
 
-/// Whether a wait lengthens a strip: whether it is that of the next step, of the same task and for the same reason.
+/// The unit that owes the register of a reason; 0 where there is no such register.
+fn owing_unit(reason: &Reason) -> u32
+    ensures { result ≡ owing_unit_of reason.now }
+{
+    match *reason {
+        Reason::NeedsRegister(_, owed) => owed.unit,
+        Reason::NeedsHead => 0,
+        Reason::HasToPass(_, owed) => owed.unit,
+        Reason::HasFinished => 0,
+        Reason::CouldGoOn => 0,
+    }
+}
+
+/// Whether a wait lengthens a strip: whether it is that of the next step, of the same task and for the same reason, and a
+/// register is owed by the same unit.
 fn lengthens(strip: &Strip, waiting: &Waiting) -> bool
     ensures { result ≡ is_lengthened strip.now waiting.now }
 {
@@ -34,7 +48,10 @@ fn lengthens(strip: &Strip, waiting: &Waiting) -> bool
     if strip.first.task != waiting.task {
         return false;
     }
-    is_one_reason(&strip.first.reason, &waiting.reason)
+    if owing_unit(&strip.first.reason) != owing_unit(&waiting.reason) {
+        return false;
+    }
+    is_same_reason(&strip.first.reason, &waiting.reason)
 }
 
 /// The strip up to a wait.
@@ -134,7 +151,7 @@ fn write_strip(
     }
 }
 
-/// Writes a strip that is shaded so.
+/// Writes a strip in this style.
 fn write_shaded(
     text: &mut String,
     tasks: &[Descriptor],
@@ -181,7 +198,7 @@ fn write_lane(
     write_all(text, tasks, count, &strips)
 }
 
-/// Writes the strips of so many units in a run of so many steps, lane by lane.
+/// Writes the strips of `units` units in a run of `count` steps, lane by lane.
 pub(crate) fn write_strips(
     alloc: Global,
     text: &mut String,

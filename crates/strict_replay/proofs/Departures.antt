@@ -15,6 +15,7 @@ use Rattle.event_trace.specs.declared.change.Change.{Change}
 use Rattle.event_trace.specs.declared.told.Told.TheVariants as told
 use Rattle.event_trace.specs.Entries.{Tells, state_behind}
 use Rattle.event_trace.specs.Following.{GoesOn}
+use Rattle.event_trace.specs.Ring.{ring_in}
 use Rattle.event_trace.specs.Trace.{entry_text}
 use Rattle.event_trace.specs.TraceText.{refused_text, taken_text}
 use Rattle.strict_replay.specs.declared.unmet.Unmet.{Unmet}
@@ -24,50 +25,50 @@ use Rattle.strict_replay.specs.StrictReplay.{answer_departure, at_line, count_af
 
 taken_by : (p : Listing) (places : List Position) (units number : ℕ) (parts : List (List ℕ)) (s : State) (e : Event) (a : Result (Unit {0}) Refused) (changes : Vec Change Global) (u : Option Unmet)
     → Tells p s e a (told.Taken changes) → u ≡ first_unmet changes.items 1 parts
-    → answer_departure p number parts (entry_text p places units number s e a ++ stand_text p places (state_behind p s e a)) s e a
-    ≡ unmet_departure number (taken_text p places number e changes.items ++ stand_text p places (state_behind p s e a)) u
+    → answer_departure p number parts (entry_text p places units number s e a ++ stand_text p places (ring_in units (state_behind p s e a)) (state_behind p s e a)) s e a
+    ≡ unmet_departure number (taken_text p places number (ring_in units s) e changes.items ++ stand_text p places (ring_in units (state_behind p s e a)) (state_behind p s e a)) u
 taken_by p places units number parts s e (Ok done) changes u tells is =
-    let stand = stand_text p places (state_behind p s e (Ok done)) in
-    ap (λ (cs : List Change). unmet_departure number (taken_text p places number e cs ++ stand) (first_unmet cs 1 parts)) (sym tells)
-    ∙ ap (λ (v : Option Unmet). unmet_departure number (taken_text p places number e changes.items ++ stand) v) (sym is)
+    let stand = stand_text p places (ring_in units (state_behind p s e (Ok done))) (state_behind p s e (Ok done)) in
+    ap (λ (cs : List Change). unmet_departure number (taken_text p places number (ring_in units s) e cs ++ stand) (first_unmet cs 1 parts)) (sym tells)
+    ∙ ap (λ (v : Option Unmet). unmet_departure number (taken_text p places number (ring_in units s) e changes.items ++ stand) v) (sym is)
 taken_by p places units number parts s e (Err why) changes u tells is = absurd tells
 
 refused_by : (p : Listing) (places : List Position) (units number : ℕ) (parts : List (List ℕ)) (s : State) (e : Event) (a : Result (Unit {0}) Refused) (refusal : Refused)
     → Tells p s e a (told.Refused refusal)
-    → answer_departure p number parts (entry_text p places units number s e a ++ stand_text p places (state_behind p s e a)) s e a
-    ≡ Some (at_line number (codes "this event is not allowed") ++ (refused_text p number e refusal ++ stand_text p places (state_behind p s e a)))
+    → answer_departure p number parts (entry_text p places units number s e a ++ stand_text p places (ring_in units (state_behind p s e a)) (state_behind p s e a)) s e a
+    ≡ Some (at_line number (codes "this event is not allowed") ++ (refused_text p number e refusal ++ stand_text p places (ring_in units (state_behind p s e a)) (state_behind p s e a)))
 refused_by p places units number parts s e (Ok done) refusal tells = absurd tells
 refused_by p places units number parts s e (Err why) refusal tells =
-    ap (λ (r : Refused). Some (at_line number (codes "this event is not allowed") ++ (refused_text p number e r ++ stand_text p places s))) (sym tells)
+    ap (λ (r : Refused). Some (at_line number (codes "this event is not allowed") ++ (refused_text p number e r ++ stand_text p places (ring_in units s) s))) (sym tells)
 
 -- an event that was taken departs as its first part does that is not met
 pub taken_departs : (p : Listing) (places : List Position) (number : ℕ) (parts : List (List ℕ)) (m m' : MachineView) (e : Event) (changes : Vec Change Global) (u : Option Unmet)
     → m.accepted.program ≡ p → GoesOn m e m' → Tells m.accepted.program (state m) e (answer_to m e) (told.Taken changes) → u ≡ first_unmet changes.items 1 parts
     → event_departure p places (units_of m) number (length m.history) parts (state m) e
-    ≡ unmet_departure number (taken_text p places number e changes.items ++ stand_text p places (state m')) u
+    ≡ unmet_departure number (taken_text p places number (ring_in (units_of m) (state m)) e changes.items ++ stand_text p places (ring_in (units_of m) (state m')) (state m')) u
 taken_departs p places number parts m m' e changes u over on tells is =
     let q = m.accepted.program in
     let own : event_departure q places (units_of m) number (length m.history) parts (state m) e
-    ≡ unmet_departure number (taken_text q places number e changes.items ++ stand_text q places (state m')) u =
+    ≡ unmet_departure number (taken_text q places number (ring_in (units_of m) (state m)) e changes.items ++ stand_text q places (ring_in (units_of m) (state m')) (state m')) u =
     taken_by q places (units_of m) number parts (state m) e (answer_to m e) changes u tells is
-    ∙ ap (λ (t : State). unmet_departure number (taken_text q places number e changes.items ++ stand_text q places t) u) (sym on.state) in
+    ∙ ap (λ (t : State). unmet_departure number (taken_text q places number (ring_in (units_of m) (state m)) e changes.items ++ stand_text q places (ring_in (units_of m) t) t) u) (sym on.state) in
     subst (λ (r : Listing). event_departure r places (units_of m) number (length m.history) parts (state m) e
-    ≡ unmet_departure number (taken_text r places number e changes.items ++ stand_text r places (state m')) u) over own
+    ≡ unmet_departure number (taken_text r places number (ring_in (units_of m) (state m)) e changes.items ++ stand_text r places (ring_in (units_of m) (state m')) (state m')) u) over own
 
 -- one that was refused departs
 pub refused_departs : (p : Listing) (places : List Position) (number : ℕ) (parts : List (List ℕ)) (m m' : MachineView) (e : Event) (refusal : Refused)
     → m.accepted.program ≡ p → GoesOn m e m' → Tells m.accepted.program (state m) e (answer_to m e) (told.Refused refusal)
     → event_departure p places (units_of m) number (length m.history) parts (state m) e
-    ≡ Some (at_line number (codes "this event is not allowed") ++ (refused_text p number e refusal ++ stand_text p places (state m')))
+    ≡ Some (at_line number (codes "this event is not allowed") ++ (refused_text p number e refusal ++ stand_text p places (ring_in (units_of m) (state m')) (state m')))
 refused_departs p places number parts m m' e refusal over on tells =
     let q = m.accepted.program in
     let said = at_line number (codes "this event is not allowed") in
     let own : event_departure q places (units_of m) number (length m.history) parts (state m) e
-    ≡ Some (said ++ (refused_text q number e refusal ++ stand_text q places (state m'))) =
+    ≡ Some (said ++ (refused_text q number e refusal ++ stand_text q places (ring_in (units_of m) (state m')) (state m'))) =
     refused_by q places (units_of m) number parts (state m) e (answer_to m e) refusal tells
-    ∙ ap (λ (t : State). Some (said ++ (refused_text q number e refusal ++ stand_text q places t))) (sym on.state) in
+    ∙ ap (λ (t : State). Some (said ++ (refused_text q number e refusal ++ stand_text q places (ring_in (units_of m) t) t))) (sym on.state) in
     subst (λ (r : Listing). event_departure r places (units_of m) number (length m.history) parts (state m) e
-    ≡ Some (said ++ (refused_text r number e refusal ++ stand_text r places (state m')))) over own
+    ≡ Some (said ++ (refused_text r number e refusal ++ stand_text r places (ring_in (units_of m) (state m')) (state m')))) over own
 
 -- ---- a line
 

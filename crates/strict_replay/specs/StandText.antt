@@ -9,6 +9,7 @@ use Rattle.machine_model.specs.declared.event.Spot.{Spot}
 use Rattle.machine_model.specs.declared.event.Spot.TheVariants.{Inside, Stopped}
 use Rattle.annotated_asm.specs.declared.position.Position.{Position}
 use Rattle.event_trace.specs.Changes.{register_count}
+use Rattle.event_trace.specs.Ring.{RingView, number_at}
 use Rattle.event_trace.specs.TraceText.{exit_text, place_text, register_text, unit_name}
 use Rattle.strict_replay.specs.declared.held.HeldWords.{HeldWords}
 use Rattle.strict_replay.specs.declared.held.HeldWords.TheVariants.{Has, Arrived, Sent}
@@ -48,18 +49,20 @@ reserved_text r (Some word) = []
 abbrev pub waiting_text : Active → List ℕ
 waiting_text u = labelled (codes "not there yet:") (flat_map (λ r. reserved_text r (value u r)) (range_with_len 0 register_count))
 
-abbrev pub unit_spot : Listing → List Position → (k : ℕ) → Active → List ℕ
-unit_spot p places k u = codes "    " ++ (unit_name p k u.task ++ (codes ": " ++ (spot_text p places u.place ++ 10 ∷ [])))
+abbrev pub unit_spot : Listing → List Position → (unit : ℕ) → Active → List ℕ
+unit_spot p places unit u = codes "    " ++ (unit_name p unit u.task ++ (codes ": " ++ (spot_text p places u.place ++ 10 ∷ [])))
 
 abbrev pub unit_registers : Active → List ℕ
 unit_registers u = words_text Has u ++ (words_text Arrived u ++ (words_text Sent u ++ waiting_text u))
 
-abbrev pub unit_stand : Listing → List Position → (k : ℕ) → Active → List ℕ
-unit_stand p places k u = unit_spot p places k u ++ unit_registers u
+-- a unit, by its number round the ring
+abbrev pub unit_stand : Listing → List Position → (unit : ℕ) → Active → List ℕ
+unit_stand p places unit u = unit_spot p places unit u ++ unit_registers u
 
-abbrev pub units_stand : Listing → List Position → (k : ℕ) → List Active → List ℕ
-units_stand p places k [] = []
-units_stand p places k (u ∷ us) = unit_stand p places k u ++ units_stand p places (suc k) us
+-- those from a position on
+abbrev pub units_stand : Listing → List Position → RingView → (k : ℕ) → List Active → List ℕ
+units_stand p places ring k [] = []
+units_stand p places ring k (u ∷ us) = unit_stand p places (number_at ring k) u ++ units_stand p places ring (suc k) us
 
-abbrev pub stand_text : Listing → List Position → State → List ℕ
-stand_text p places s = codes "the units then, without registers of 0:" ++ (10 ∷ units_stand p places 0 s.queue)
+abbrev pub stand_text : Listing → List Position → RingView → State → List ℕ
+stand_text p places ring s = codes "the units then, without registers of 0:" ++ (10 ∷ units_stand p places ring 0 s.queue)

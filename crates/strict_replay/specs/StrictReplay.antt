@@ -17,6 +17,7 @@ use Rattle.event_script.specs.EventScript.{event_in, lines, names_in}
 use Rattle.event_script.specs.declared.fault.EventFault.{EventFault}
 use Rattle.event_trace.specs.Changes.{changes_of}
 use Rattle.event_trace.specs.Entries.{count_behind, places_of, state_behind}
+use Rattle.event_trace.specs.Ring.{ring_in}
 use Rattle.event_trace.specs.Trace.{entry_text}
 use Rattle.event_trace.specs.TraceText.{address_text, ending_text, register_text}
 use Rattle.report_texts.specs.JudgedTexts.{judged}
@@ -110,10 +111,12 @@ abbrev pub unmet_departure : (number : ℕ) → (told : List ℕ) → Option Unm
 unmet_departure number told None = None
 unmet_departure number told (Some unmet) = Some (at_line number (unmet_said unmet) ++ told)
 
--- what is told with a departure: the event with the machine's answer and what it changed, and how the units then stand
+-- what follows the line of a departure: the event with the machine's answer and what it changed, and how the units
+-- then stand
 abbrev pub told_after : Listing → List Position → (units number n : ℕ) → State → Event → List ℕ
 told_after p places units number n s e =
-    entry_text p places units number s e (answer p units s n e) ++ stand_text p places (state_behind p s e (answer p units s n e))
+    let next = state_behind p s e (answer p units s n e) in
+    entry_text p places units number s e (answer p units s n e) ++ stand_text p places (ring_in units next) next
 
 abbrev pub answer_departure : Listing → (number : ℕ) → (parts : List (List ℕ)) → (told : List ℕ) → State → Event → Result (Unit {0}) Refused → Option (List ℕ)
 answer_departure p number parts told s e (Ok done) = unmet_departure number told (first_unmet (changes_of p s e (after p s e)) 1 parts)
@@ -144,7 +147,7 @@ count_after p units n s other = n
 
 -- ---- a script
 
--- what is told at its end, where each line is as the machine does it
+-- the report at the end of a script, where each line is as the machine does it
 abbrev pub as_expected : (n : ℕ) → State → Report
 as_expected n s = record {
   bytes = codes "as expected: " ++ (decimal n ++ (codes " events; " ++ (ending_text s.outcome ++ 10 ∷ [])));
@@ -154,7 +157,7 @@ as_expected n s = record {
 abbrev pub departed : (told : List ℕ) → Report
 departed told = record { bytes = told; status = 1 }
 
--- what is told of a departure, or else of the lines after it
+-- the report of a departure, or else of the lines after it
 abbrev pub unless_departed : (departure : Option (List ℕ)) → (further : Report) → Report
 unless_departed None further = further
 unless_departed (Some told) further = departed told
@@ -167,7 +170,8 @@ report_from p places units number n s (line ∷ more) =
     unless_departed (departure_of p places units number n (expected_parts (content line)) s meaning)
     (report_from p places units (suc number) (count_after p units n s meaning) (state_after p units n s meaning) more)
 
--- the report of a script on a machine of so many units at the start of a program, whose instructions stand at these places
+-- the report of a script on a machine of `units` units at the start of a program, whose instructions stand at these
+-- places
 abbrev pub strict_report : Listing → List Position → (units : ℕ) → (script : List ℕ) → Report
 strict_report p places units script = report_from p places units 1 0 (opening p) (lines script)
 

@@ -1,5 +1,5 @@
 -- A script for a strict replay: the lines of an event script, each perhaps with what its event must have
--- done behind a colon (`exec 1 : $9=7, $10=8`), and beside them comments from `#` on, blank lines, and lines such as
+-- done after a colon (`exec 1 : $9=7, $10=8`), and beside them comments from `#` on, blank lines, and lines such as
 -- `step 3`, which mark where a step of the hardware begins. Spaces at the ends of a part do not count.
 use Rattle.std.specs.Prelude.{ℕ, zero, suc, ◌+◌, ◌-◌, ◌^◌, Bool, true, ◌&&◌, List, [], ◌∷◌, length, map, take, drop, position, slice_index, Option, None, Some, nat_lt, nat_eq, ◌==◌, if◌then◌else◌, codes}
 use Rattle.std.specs.List.{list_all, slice_split, starts_with}
@@ -45,7 +45,7 @@ content line = trimmed (in_front_of (position is_hash line) line)
 abbrev pub is_step_mark : List ℕ → Bool
 is_step_mark text = starts_with nat_eq text (codes "step ") && list_all is_ascii_digit (without_first_spaces (drop 5 text))
 
--- a line that says nothing of an event
+-- a line without an event
 abbrev pub is_silent : (content : List ℕ) → Bool
 is_silent [] = true
 is_silent (b ∷ bs) = is_step_mark (b ∷ bs)
@@ -61,7 +61,7 @@ is_comma b = b == 44
 abbrev pub event_text : (content : List ℕ) → List ℕ
 event_text content = without_last_spaces (in_front_of (position is_colon content) content)
 
--- the parts behind the colon, one for each expectation
+-- the parts after the colon, one for each expectation
 abbrev pub parts_behind : (colon : Option ℕ) → (content : List ℕ) → List (List ℕ)
 parts_behind None content = []
 parts_behind (Some k) content = slice_split is_comma (drop (k + 1) content)
@@ -89,7 +89,7 @@ address_in name =
     then word_in (take (length name - 2) (drop 1 name))
     else None
 
--- what must have come to this word: `[A]` or `$R`
+-- the register that must have got this word, or the address at which it must have been loaded or stored: `$R` or `[A]`
 abbrev pub place_of : (name : List ℕ) → (word : ℕ) → Option Expectation
 place_of name word = option_or (option_map (λ address. Memory address word) (address_in name)) (option_map (λ r. Register r word) (register_in name))
 

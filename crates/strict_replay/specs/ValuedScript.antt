@@ -71,6 +71,6 @@ valued_line p number ring e changes = event_text p e ++ (parts_written true chan
 abbrev pub refused_line : Listing → (number : ℕ) → RingView → Event → Refused → List ℕ
 refused_line p number ring e why = codes "# refused: " ++ (event_text p e ++ 10 ∷ [])
 
--- the script of some events on a machine of so many units at the start of a program
+-- the script of some events on a machine of `units` units at the start of a program
 abbrev pub valued_script : Listing → (units : ℕ) → List Event → List ℕ
 valued_script p units events = entries_from (entry_of (valued_line p) (refused_line p) p units) p units 1 0 (opening p) events

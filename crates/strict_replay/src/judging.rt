@@ -16,6 +16,7 @@ use event_script::reading::{event_of, next_line};
 use event_script::task_names::TaskNames;
 use event_trace::change::Change;
 use event_trace::places::places;
+use event_trace::ring::Ring;
 use event_trace::text::{write_ending, write_refused, write_taken};
 use event_trace::told::Told;
 use event_trace::walk::Walk;
@@ -39,34 +40,40 @@ impl Referee<'_, '_> {
     ghost use Rattle.std.specs.String.{string_bytes};
     ghost use Rattle.event_script.specs.EventScript.{lines as lines_of};
     ghost use Rattle.event_trace.specs.Following.{GoesOn};
+    ghost use Rattle.event_trace.specs.Ring.{ring_in};
     ghost use Rattle.event_trace.specs.TraceText.{refused_text, taken_text};
     ghost use Rattle.sequencer.specs.Machines.{SameRing, state, units_of};
     ghost use Rattle.strict_replay.specs.StandText.{stand_text};
     ghost use Rattle.strict_replay.specs.StrictScript.{content, expected_parts};
     ghost use Rattle.strict_replay.specs.StrictReplay.{at_line, count_after, departure_of, event_departure, meaning_of, report_from, state_after, unmet_said};
 
-    /// What is told of an event that did not do what is expected.
+    /// What is told of an event that did not do what is expected; `ring` is the ring before it.
     fn missed(
         &self,
         alloc: Global,
         walk: Walk<'_>,
         number: usize,
+        ring: &Ring,
         event: Event,
         changes: &[Change],
         unmet: Unmet,
     ) -> Result<String, AllocError>
         ensures { IfOk result (λ text. string_bytes text ≡ at_line number (unmet_said unmet)
-            ++ (taken_text self.now.program.now self.now.places.now number event changes.now ++ stand_text self.now.program.now self.now.places.now (state walk.entry))) }
+            ++ (taken_text self.now.program.now self.now.places.now number ring.now event changes.now
+            ++ stand_text self.now.program.now self.now.places.now (ring_in (units_of walk.entry) (state walk.entry)) (state walk.entry))) }
     {
         let mut text = String::new(alloc);
         write_unmet(&mut text, number, unmet)?;
-        write_taken(&mut text, self.program, self.places, number, event, changes)?;
+        let program = self.program;
+        let places = self.places;
+        write_taken(&mut text, program, places, number, ring, event, changes)?;
+        let after = walk.ring();
         let machine = walk.into_machine();
-        write_stand(alloc, &mut text, self.program, self.places, &machine)?;
+        write_stand(alloc, &mut text, program, places, &after, &machine)?;
         Ok(text)
     }
 
-    /// What is told of an event that is not allowed.
+    /// The message about an event that is not allowed.
     fn refused(
         &self,
         alloc: Global,
@@ -76,13 +83,17 @@ impl Referee<'_, '_> {
         refusal: Refused,
     ) -> Result<String, AllocError>
         ensures { IfOk result (λ text. string_bytes text ≡ at_line number (codes "this event is not allowed")
-            ++ (refused_text self.now.program.now number event refusal ++ stand_text self.now.program.now self.now.places.now (state walk.entry))) }
+            ++ (refused_text self.now.program.now number event refusal
+            ++ stand_text self.now.program.now self.now.places.now (ring_in (units_of walk.entry) (state walk.entry)) (state walk.entry))) }
     {
         let mut text = String::new(alloc);
         writeln!(text, "line {number}: this event is not allowed")?;
         write_refused(&mut text, self.program, number, event, refusal)?;
+        let program = self.program;
+        let places = self.places;
+        let after = walk.ring();
         let machine = walk.into_machine();
-        write_stand(alloc, &mut text, self.program, self.places, &machine)?;
+        write_stand(alloc, &mut text, program, places, &after, &machine)?;
         Ok(text)
     }
 
@@ -102,12 +113,13 @@ impl Referee<'_, '_> {
             (λ text. event_departure self.now.program.now self.now.places.now (units_of walk.entry) number (length walk.entry.history) (expected_parts content.now) (state walk.entry) event
             ≡ Some (string_bytes text))) }
     {
+        let ring = walk.ring();
         let (next, told) = walk.step(alloc, &event)?;
         match told {
             Told::Taken(changes) => match unmet_in(&changes, content) {
                 None => Ok(Ok(next)),
                 Some(unmet) => {
-                    let text = self.missed(alloc, next, number, event, &changes, unmet)?;
+                    let text = self.missed(alloc, next, number, &ring, event, &changes, unmet)?;
                     Ok(Err(text))
                 }
             },
@@ -176,7 +188,7 @@ impl Referee<'_, '_> {
     }
 }
 
-/// What is told of a line that spells no event.
+/// The message about a line that spells no event.
 fn no_event(alloc: Global, number: usize) -> Result<String, AllocError>
     ensures { IfOk result (λ text. string_bytes text ≡ at_line number (codes "this spells no event")) }
 {
@@ -185,7 +197,7 @@ fn no_event(alloc: Global, number: usize) -> Result<String, AllocError>
     Ok(text)
 }
 
-/// What is told at the end of a script, where each line is as the machine does it.
+/// The report at the end of a script, where each line is as the machine does it.
 fn as_expected(alloc: Global, walk: Walk<'_>) -> Result<JobReport, AllocError>
     ensures { IfOk result (λ report. report ≡ as_expected (length walk.entry.history) (state walk.entry)) }
 {
@@ -194,7 +206,7 @@ fn as_expected(alloc: Global, walk: Walk<'_>) -> Result<JobReport, AllocError>
     Ok(report)
 }
 
-/// What is told of a machine that has done as expected.
+/// The report of a machine that has done as expected.
 fn as_expected_of(alloc: Global, machine: &Machine<'_>) -> Result<JobReport, AllocError>
     ensures { IfOk result (λ report. report ≡ as_expected (length machine.now.history) (state machine.now)) }
 {
@@ -214,9 +226,9 @@ fn names_of(alloc: Global, program: &Program) -> Result<TaskNames, AllocError>
     TaskNames::of(alloc, program.tasks())
 }
 
-/// Judges a script with expectations on a machine of so many units at the start of an accepted program, whose text is given:
-/// status 0 exactly where each of its events is allowed and has done what is expected (`laws::as_expected_where_all_hold`), and
-/// else 1, with the first line that departs.
+/// Judges a script with expectations on a machine of `units` units at the start of an accepted program, whose text is
+/// given: status 0 exactly where each of its events is allowed and has done what is expected
+/// (`laws::as_expected_where_all_hold`), and else 1, with the first line that departs.
 ///
 /// # Errors
 ///

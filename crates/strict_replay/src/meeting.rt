@@ -1,4 +1,4 @@
-//! Whether an event did what was expected, and what is said if it did not.
+//! Whether an event did what was expected, and the message if it did not.
 
 ghost use Rattle.std.specs.Prelude.{◌≡◌, ◌++◌, ◌∷◌, [], OnOk};
 ghost use Rattle.std.specs.List.{list_any, slice_split};
@@ -123,7 +123,7 @@ fn is_trap(trap: Trap, other: Trap) -> bool
     }
 }
 
-/// Whether a run stands so.
+/// Whether two standings are equal.
 fn is_standing(standing: Standing, other: Standing) -> bool
     ensures { result ≡ same_standing standing other }
 {
@@ -244,7 +244,7 @@ fn write_expectation(text: &mut String, expected: Expectation) -> Result<(), All
     }
 }
 
-/// Adds what is said of an expectation that is not met, on a line.
+/// Adds the message about an expectation that is not met, on a line.
 pub(crate) fn write_unmet(text: &mut String, number: usize, unmet: Unmet) -> Result<(), AllocError>
     ensures { OnOk result (string_bytes text.new ≡ string_bytes text.old ++ at_line number (unmet_said unmet)) }
 {

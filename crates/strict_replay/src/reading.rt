@@ -91,7 +91,7 @@ fn is_step_mark(text: &[u8]) -> bool
     text.starts_with(b"step ".as_slice()) && are_digits(without_first_spaces(&text[5..]))
 }
 
-/// Whether a line says nothing of an event.
+/// Whether a line has no event.
 pub(crate) fn is_silent(content: &[u8]) -> bool
     ensures { result ≡ is_silent content.now }
 {
@@ -157,7 +157,7 @@ fn address_in(name: &[u8]) -> Option<u32>
     }
 }
 
-/// That the register or the address of this name came to a word.
+/// That the register of this name got a word, or that the word was loaded or stored at this address.
 fn place_of(name: &[u8], word: u32) -> Option<Expectation>
     ensures { result ≡ place_of name.now word }
 {
@@ -178,7 +178,7 @@ fn sending_in(after: &[u8], word: u32) -> Option<Expectation>
     Some(Expectation::Sends { register, word })
 }
 
-/// That what has this name came to a word, or was sent or put out.
+/// What is expected of this name and word: a register, an address, a sending or an output.
 fn expectation_of(name: &[u8], word: u32) -> Option<Expectation>
     ensures { result ≡ expectation_of name.now word }
 {
@@ -191,7 +191,7 @@ fn expectation_of(name: &[u8], word: u32) -> Option<Expectation>
     place_of(name, word)
 }
 
-/// What stands before the equals sign, and after it; nothing where there is none.
+/// What stands before the equals sign, and what after it; without one all of the part stands before.
 fn equated(part: &[u8]) -> (&[u8], &[u8])
     ensures before { result.0.now ≡ in_front_of (position is_equals part.now) part.now }
     ensures after { result.1.now ≡ behind (position is_equals part.now) part.now }

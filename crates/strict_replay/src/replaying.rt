@@ -11,8 +11,8 @@ use report_texts::judging::{Judged, judge};
 use report_texts::report::JobReport;
 use std::alloc::{AllocError, Global};
 
-/// What `replay --strict` writes of a program text, the text of its certificate and the text of a script, on a machine of so
-/// many units.
+/// What `replay --strict` writes of a program text, the text of its certificate and the text of a script, on a
+/// machine of `units` units.
 ///
 /// # Errors
 ///

@@ -8,24 +8,26 @@ ghost use Rattle.strict_replay.specs.StandText.{stand_text};
 
 use crate::text::write_stand;
 use event_trace::places::places;
+use event_trace::ring::Ring;
 use sequencer::machine::Machine;
 use std::alloc::{AllocError, Global};
 use task_descriptor::program::Program;
 
 /// How the units of a machine stand that runs a program with this text, after a line that says so, the head first: the
 /// task of each and its line in the text; the registers that it has, that arrived and that it sent, with their words
-/// unless these are 0; and the registers that it waits for. An error says that memory was refused.
+/// unless these are 0; and the registers that it waits for. The ring names the units. An error says that memory was refused.
 pub fn stand(
     alloc: Global,
     program: &Program,
     program_text: &[u8],
+    ring: &Ring,
     machine: &Machine<'_>,
 ) -> Result<String, AllocError>
     ensures { IfOk result (λ text. string_bytes text
-        ≡ stand_text program.now (places_of program_text.now) (state machine.now)) }
+        ≡ stand_text program.now (places_of program_text.now) ring.now (state machine.now)) }
 {
     let places = places(alloc, program_text)?;
     let mut text = String::new(alloc);
-    write_stand(alloc, &mut text, program, &places, machine)?;
+    write_stand(alloc, &mut text, program, &places, ring, machine)?;
     Ok(text)
 }

@@ -11,6 +11,7 @@ ghost use Rattle.strict_replay.specs.StandText.{label_of, labelled, reserved_tex
 
 use crate::held::HeldWords;
 use annotated_asm::position::Position;
+use event_trace::ring::Ring;
 use event_trace::text::{write_exit, write_place, write_register, write_unit};
 use machine_model::event::Spot;
 use mips_instructions::number::Reg;
@@ -168,18 +169,18 @@ fn write_waiting(alloc: Global, text: &mut String, unit: &Unit) -> Result<(), Al
     write_labelled(text, "not there yet:", &list)
 }
 
-/// Adds where the unit at a position stands.
+/// Adds where the unit of this number round the ring stands.
 fn write_unit_spot(
     text: &mut String,
     program: &Program,
     places: &[Position],
-    position: u32,
+    number: usize,
     unit: &Unit,
 ) -> Result<(), AllocError>
-    ensures { OnOk result (string_bytes text.new ≡ string_bytes text.old ++ unit_spot program.now places.now position (active_of unit.now)) }
+    ensures { OnOk result (string_bytes text.new ≡ string_bytes text.old ++ unit_spot program.now places.now number (active_of unit.now)) }
 {
     write!(text, "    ")?;
-    write_unit(text, program, position, unit.task())?;
+    write_unit(text, program, number, unit.task())?;
     write!(text, ": ")?;
     write_spot(text, program, places, unit.spot())?;
     writeln!(text, "")
@@ -195,18 +196,18 @@ fn write_registers(alloc: Global, text: &mut String, unit: &Unit) -> Result<(), 
     write_waiting(alloc, text, unit)
 }
 
-/// Adds how the unit at a position stands.
+/// Adds how the unit of this number round the ring stands.
 fn write_unit_stand(
     alloc: Global,
     text: &mut String,
     program: &Program,
     places: &[Position],
-    position: u32,
+    number: usize,
     unit: &Unit,
 ) -> Result<(), AllocError>
-    ensures { OnOk result (string_bytes text.new ≡ string_bytes text.old ++ unit_stand program.now places.now position (active_of unit.now)) }
+    ensures { OnOk result (string_bytes text.new ≡ string_bytes text.old ++ unit_stand program.now places.now number (active_of unit.now)) }
 {
-    write_unit_spot(text, program, places, position, unit)?;
+    write_unit_spot(text, program, places, number, unit)?;
     write_registers(alloc, text, unit)
 }
 
@@ -216,16 +217,18 @@ fn write_unit_at(
     text: &mut String,
     program: &Program,
     places: &[Position],
+    ring: &Ring,
     machine: &Machine<'_>,
     position: u32,
 ) -> Result<(), AllocError>
-    ensures { OnOk result (string_bytes text.new ++ units_stand program.now places.now (position + 1) (drop (position + 1) (state machine.now).queue)
-        ≡ string_bytes text.old ++ units_stand program.now places.now position (drop position (state machine.now).queue)) }
+    ensures { OnOk result (string_bytes text.new ++ units_stand program.now places.now ring.now (position + 1) (drop (position + 1) (state machine.now).queue)
+        ≡ string_bytes text.old ++ units_stand program.now places.now ring.now position (drop position (state machine.now).queue)) }
 {
     let Some(unit) = machine.unit(position) else {
         return Ok(());
     };
-    write_unit_stand(alloc, text, program, places, position, unit)?;
+    let number = ring.number_at(position);
+    write_unit_stand(alloc, text, program, places, number, unit)?;
     Ok(())
 }
 
@@ -235,26 +238,28 @@ fn write_units(
     text: &mut String,
     program: &Program,
     places: &[Position],
+    ring: &Ring,
     machine: &Machine<'_>,
 ) -> Result<(), AllocError>
-    ensures { OnOk result (string_bytes text.new ≡ string_bytes text.old ++ units_stand program.now places.now 0 (state machine.now).queue) }
+    ensures { OnOk result (string_bytes text.new ≡ string_bytes text.old ++ units_stand program.now places.now ring.now 0 (state machine.now).queue) }
 {
     for position in 0..machine.active() {
-        write_unit_at(alloc, text, program, places, machine, position)?;
+        write_unit_at(alloc, text, program, places, ring, machine, position)?;
     }
     Ok(())
 }
 
-/// Adds how the units of a machine stand, after a line that says so.
+/// Adds how the units of a machine stand, after a line that says so. The ring names the units.
 pub(crate) fn write_stand(
     alloc: Global,
     text: &mut String,
     program: &Program,
     places: &[Position],
+    ring: &Ring,
     machine: &Machine<'_>,
 ) -> Result<(), AllocError>
-    ensures { OnOk result (string_bytes text.new ≡ string_bytes text.old ++ stand_text program.now places.now (state machine.now)) }
+    ensures { OnOk result (string_bytes text.new ≡ string_bytes text.old ++ stand_text program.now places.now ring.now (state machine.now)) }
 {
     writeln!(text, "the units then, without registers of 0:")?;
-    write_units(alloc, text, program, places, machine)
+    write_units(alloc, text, program, places, ring, machine)
 }

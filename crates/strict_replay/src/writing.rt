@@ -15,7 +15,7 @@ use mark_checker::accept::Accepted;
 use std::alloc::{AllocError, Global};
 use task_descriptor::program::Program;
 
-/// Events on a machine of so many units that is at the start of an accepted program, each with what it did, one on a line.
+/// Events on a machine of `units` units at the start of an accepted program, each with what it did, one on a line.
 ///
 /// # Errors
 ///

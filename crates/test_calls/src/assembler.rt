@@ -93,7 +93,7 @@ fn longest_text(rt: HostRuntime) {
     }
 }
 
-// Asserts how the text of `COUNT` with blanks behind it, so many bytes in all, is answered.
+// Asserts how the text of `COUNT` with blanks after it, `length` bytes in all, is answered.
 fn expect_read(rt: &impl Abort, alloc: Global, length: usize, fault: Option<AsmFault>) {
     let blanks = " ".repeat(alloc, length.saturating_sub(COUNT.len())).ok();
     let blanks = blanks.expect(rt, "room for blanks");

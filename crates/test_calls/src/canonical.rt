@@ -3,8 +3,8 @@
 use crate::test_texts_count::{COUNT, assembled};
 use canonical_text::print::print;
 
-// The same program in another spelling: the other section first, names of registers, labels on the
-// lines of instructions, a number with base 16, and no `.start`.
+// The program in another spelling: the other section first, names of registers, labels on the lines of instructions,
+// a number with base 16, and no `.start`.
 const OTHER: &str =
     ".rodata\n.byte 7\n.text\n.task A create=$t2,$t0,$t1 targets=A,B\n.task B create=- targets=-\nA: addiu $t0,$t0,0x1 !f\naddu $t1,$t1,$t0 !f\nslti $t2,$t0,4\nbne $t2,$zero,A !s\nB: out $t1\nhalt\n";
 

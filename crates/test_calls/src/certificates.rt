@@ -1,5 +1,5 @@
-//! The certificate of the program `count` in both spellings, every beginning of them, and texts that
-//! are none.
+//! The certificate of the program `count` in both spellings, every beginning of them, and texts that are no
+//! certificates.
 
 use crate::given::{assembled, cert, expect_counted};
 use mask_certificate::certificate::{Cert, ListFault};
@@ -54,7 +54,7 @@ fn beginnings_are_refused(rt: HostRuntime) {
     }
 }
 
-// Asserts what is said of each beginning of a text.
+// Asserts the fault of each beginning of a text.
 fn expect_beginnings(rt: &impl Abort, alloc: Global, program: &Program, text: &[u8]) {
     for len in 0..text.len() {
         let beginning = &text[..len];
@@ -98,8 +98,7 @@ fn list(rt: &impl Abort, alloc: Global, entries: &[(u32, u64)]) -> Vec<(u32, Reg
     list
 }
 
-// The certificate with this list behind so many empty ones, or what is wrong and how many lists came
-// back.
+// The certificate with this list after `empty` empty ones, or what is wrong and how many lists came back.
 fn build(
     rt: &impl Abort,
     alloc: Global,

@@ -1,4 +1,4 @@
-//! What is said of a certificate and of an event script.
+//! Diagnostics for a certificate and for an event script.
 
 use annotated_asm::assembler::assemble;
 use annotator::certify::certify;

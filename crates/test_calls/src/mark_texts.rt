@@ -1,4 +1,4 @@
-//! What is said of marks that are wrong, and of marks that could be better; and nothing of marks that are right. The
+//! Diagnostics for marks that are wrong, and for marks that could be better; and none for marks that are right. The
 //! texts were written by hand, by what FORMATS says.
 
 use annotated_asm::assembler::assemble;
@@ -38,7 +38,7 @@ p.s:6:1: note: $8 is written again here, on the path 3 -> 4 -> 5 -> 6
 p.s:3:17: help: remove !f here, and put !f on line 6; put release $8 at C, on the path that does not write it
 ";
 
-// The tab is told as a tab below the line too, and of the line break nothing is told.
+// The tab stands as a tab below the line too, and the line break is left out.
 const TABBED: &str = ".task A create=- targets=-\r\nA:\taddiu $8,$0,1\r\n\thalt\r\n";
 
 const SAID_OF_TABBED: &str = "p.s:1:9: error: the create mask of task A lacks $8 [rule 5]
@@ -84,7 +84,7 @@ p.s:6:1: note: $s1 is written again here, on the path 4 -> 5 -> 6
 p.s:4:1: help: write release $ra here, and put !f on line 6
 ";
 
-// Of B nothing is told: no task follows it.
+// There is no warning for B: no task follows it.
 const LOOSE: &str = ".task A create=$8,$9,$11 targets=B
 .task B create=$10,$12 targets=-
 A: addiu $9,$0,1 !f
@@ -138,7 +138,7 @@ fn told(alloc: Global, warns: bool, text: &[u8]) -> Option<Vec<Diagnostic>> {
     }
 }
 
-// The same in text form.
+// The diagnostics of `told` in text form.
 fn said(alloc: Global, warns: bool, text: &str) -> Option<String> {
     let list = told(alloc, warns, text.as_bytes())?;
     let mut rows = Vec::new(alloc);
@@ -153,7 +153,7 @@ fn said(alloc: Global, warns: bool, text: &str) -> Option<String> {
     text_of(alloc, &files, list.as_slice(), Colour::Never).ok()
 }
 
-// Program texts, whether warnings are asked for, and what is said.
+// Program texts, whether warnings are asked for, and the diagnostics.
 const TEXTS: [(&str, bool, &str); 5] = [
     (FORWARDED_AGAIN, false, SAID),
     (TABBED, false, SAID_OF_TABBED),
@@ -172,7 +172,7 @@ fn marks_are_judged(rt: HostRuntime) {
     assert!(rt; said.expect(&rt, "room").is_empty());
 }
 
-/// A text in which a part stands many times, and what is said of it.
+/// A text in which a part stands many times, and its diagnostics.
 struct Long<'a> {
     /// What stands before the part.
     head: &'a str,
@@ -184,7 +184,7 @@ struct Long<'a> {
     tail: &'a str,
     /// Whether warnings are asked for.
     warns: bool,
-    /// How many lines are said of the text.
+    /// How many lines the diagnostics have.
     lines: usize,
     /// How they end.
     end: &'a str,
@@ -201,7 +201,7 @@ impl Long<'_> {
         Ok(text)
     }
 
-    // Asserts the number of lines that are said, and how they end.
+    // Asserts the number of lines, and how they end.
     fn expect_said(&self, rt: &impl Abort, said: &str) {
         let lines = said.as_bytes().iter();
         let lines = lines.filter(|byte| **byte == b'\n').count();
@@ -222,7 +222,7 @@ const FORWARDING_1001: Long<'static> = Long {
     end: "\np.s:1002:14: help: remove !f here: line 1003 forwards $8\n",
 };
 
-/// A task that releases 13 registers in each line: each time but the first in vain, of which one warning tells. 1,002 lines
+/// A task that releases 13 registers in each line: each time but the first in vain, in one warning. 1,002 lines
 /// are 1,001 warnings. Of each warning that is shown there are four lines.
 const RELEASING_1002: Long<'static> = Long {
     head: ".task A create=$1,$2,$3,$4,$5,$6,$7,$8,$9,$10,$11,$12,$13 targets=B

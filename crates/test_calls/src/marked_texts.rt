@@ -34,7 +34,7 @@ fn marks_are_put_in(rt: HostRuntime) {
     expect_text(&rt, rt.alloc(), text, wanted);
 }
 
-// Register 8 is written again behind each `!f`, up to the last instruction.
+// Register 8 is written again after each `!f`, up to the last instruction.
 #[test]
 fn marks_are_taken_away(rt: HostRuntime) {
     let text =

@@ -7,7 +7,7 @@ use finding_paths::search::costly_marks;
 use mips_instructions::number::Reg;
 use std::process::Abort;
 
-// Of B nothing is told: no task follows it.
+// There is no warning for B: no task follows it.
 const LOOSE: &str = ".task A create=$8,$9,$11 targets=B
 .task B create=$10,$12 targets=-
 A: addiu $9,$0,1 !f

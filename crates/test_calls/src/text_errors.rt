@@ -1,4 +1,4 @@
-//! What is said of texts that spell no program. The sentences are those that FORMATS promises; that the nearest word
+//! Diagnostics for texts that spell no program. The sentences are those that FORMATS promises; that the nearest word
 //! with these operands is offered, before a label, is what rustc and clang do.
 
 use diagnostics::colour::Colour;
@@ -43,8 +43,6 @@ p.s:1:29: error: there is no label `E` [9 Unknown line 1]
 p.s:1:29: help: a label is a name with a colon after it; a task has the name of the label where it begins
 p.s:2:6: error: !st or !sn is on an instruction that is no conditional branch [10 Build 6 BadMark]
 p.s:2:12: help: write !s, which stops always
-p.s:2:6: error: the program starts where no task begins [10 Build 7 BadStart]
-p.s:2:6: help: add a line for the task that begins there, such as .task A create=$8 targets=A,B
 ";
 
 // The text form without the lines of the text.

@@ -6,7 +6,7 @@ use machine_model::event::{Refused, Standing};
 use sequencer::machine::Machine;
 use unit_core::burst::Burst;
 
-// Bursts of the head, as long as they get, and one head event behind each.
+// Bursts of the head, as long as they get, and one head event after each.
 pub(crate) fn bursts(given: &Given<'_>, hands_in: bool) -> Option<()> {
     let accepted = given.accepted()?;
     let mut machine = Machine::new(given.alloc(), &accepted, 1).ok()?;

@@ -1,4 +1,4 @@
-//! What the calls are given, and what is told of them.
+//! What the calls are given, and the lines about them.
 
 use annotated_asm::assembler::assemble;
 use canonical_text::print::print;

@@ -63,7 +63,7 @@ impl<'a> Trial<'a> {
         }
     }
 
-    /// A burst of at most so many steps that its reads are copied, or of as many as there may be.
+    /// A burst of so few steps that its reads are copied, or of as many as there may be.
     fn burst(&self, is_short: bool) -> Burst<'a> {
         let lease = self.unit.lease(self.accepted);
         if is_short {

@@ -1,4 +1,4 @@
-//! Pictures of what runs in steps came to.
+//! Pictures of the results of runs in steps.
 
 use machine_model::event::Standing;
 use speed_curve::drawing::draw;
@@ -6,7 +6,7 @@ use speed_curve::row::Row;
 use std::alloc::Global;
 use std::process::Abort;
 
-/// What stands behind the fixed part, as `fuzz/curve_picture.py` computes it for these rows.
+/// What stands after the fixed part, as `fuzz/curve_picture.py` computes it for these rows.
 const TWO_COLUMNS: &str = "<text class='scale' x='78' y='492'>0.00</text>
 <text class='scale' x='78' y='404'>0.25</text>
 <text class='scale' x='78' y='316'>0.50</text>

@@ -13,7 +13,7 @@ use task_lives::laws::histories_fit;
 use test_programs::certificates::{COUNT_CERTIFICATE, DIAMOND_CERTIFICATE};
 use test_programs::programs::{COUNT, DIAMOND};
 
-// The picture of a machine of so many units after some events.
+// The picture of a machine of `units` units after some events.
 fn picture(
     rt: &impl Abort,
     alloc: Global,
@@ -37,7 +37,7 @@ fn drawing_of(
     requires { 0 < units }
 {
     histories_fit();
-    let text = draw(alloc, accepted.program(), units, machine.history()).ok();
+    let text = draw(alloc, accepted.program(), "", units, machine.history()).ok();
     text.expect(rt, "room for a picture")
 }
 
@@ -51,7 +51,7 @@ fn expect_times(rt: &impl Abort, picture: &str, piece: &str, times: usize) {
     assert!(rt; picture.matches(piece).count() == times, "{piece}");
 }
 
-// Each of the three lives has a bar; the axis has 1,160 pixels behind the first 88, so 72.5 for each of 16
+// Each of the three lives has a bar; the axis has 1,160 pixels after the first 88, so 72.5 for each of 16
 // events. The second task is squashed by event 10.
 #[test]
 fn bars_of_two_rounds(rt: HostRuntime) {

@@ -25,7 +25,7 @@ pub(crate) fn accepted(
     acceptance::accepted(alloc, program, certificate).expect(rt, "accepted")
 }
 
-/// A machine of so many units at the start of its program.
+/// A machine of `units` units at the start of its program.
 pub(crate) fn machine<'a>(
     rt: &impl Abort,
     alloc: Global,
@@ -39,7 +39,7 @@ pub(crate) fn machine<'a>(
     machine.expect(rt, "a machine")
 }
 
-/// The same after some events, none of which was refused.
+/// As `machine`, after some events, none of which was refused.
 pub(crate) fn played<'a>(
     rt: &impl Abort,
     alloc: Global,
@@ -73,7 +73,7 @@ pub(crate) const A_DROP: [Event; 5] = [
     Event::Assign(0),
 ];
 
-/// Two rounds of `COUNT` on two units. Its second task is predicted behind the first round and squashed;
+/// Two rounds of `COUNT` on two units. Its second task is predicted after the first round and squashed;
 /// its unit takes the next round, which is unfinished.
 pub(crate) fn two_rounds(rt: &impl Abort) -> [Event; 16] {
     let (r8, r9, r10) = (register(rt, 8), register(rt, 9), register(rt, 10));

@@ -1,5 +1,5 @@
-//! Tests of what is told of the history of a run, worked out by hand: the lives of tasks, their summaries,
-//! pictures of runs and of curves, and traces.
+//! Tests of the views of the history of a run, worked out by hand: the lives of tasks, their summaries, pictures of
+//! runs and of curves, and traces.
 #![tactic(auto)]
 
 #[cfg(test)]

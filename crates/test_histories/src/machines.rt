@@ -13,7 +13,7 @@ use task_lives::lives::lives_of_runs;
 use test_programs::certificates::{COUNT_CERTIFICATE, DIAMOND_CERTIFICATE};
 use test_programs::programs::{COUNT, DIAMOND};
 
-// Asserts the lives of a machine of so many units after some events.
+// Asserts the lives of a machine of `units` units after some events.
 fn expect_lives(
     rt: &impl Abort,
     alloc: Global,
@@ -37,7 +37,7 @@ fn lives_of(rt: &impl Abort, alloc: Global, machine: &Machine<'_>, units: u32) -
     lives.expect(rt, "room for lives")
 }
 
-// The second task of `COUNT` is predicted behind its first round and squashed; its unit takes the next
+// The second task of `COUNT` is predicted after its first round and squashed; its unit takes the next
 // round, which is unfinished.
 #[test]
 fn rounds_and_a_squash(rt: HostRuntime) {
@@ -57,7 +57,7 @@ fn rounds_and_a_squash(rt: HostRuntime) {
     );
 }
 
-// The wrong side of `DIAMOND` is predicted, and what stands behind it; the units of the tasks that begin
+// The wrong side of `DIAMOND` is predicted, and what follows it; the units of the tasks that begin
 // anew come nearer to the head.
 #[test]
 fn both_sides_of_the_diamond(rt: HostRuntime) {

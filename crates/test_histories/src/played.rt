@@ -6,6 +6,7 @@ use annotated_asm::assembler::assemble;
 use annotator::certify::certify;
 use event_json::last_line::LastLine;
 use event_json::lines::lines;
+use event_json::source::EventSource;
 use event_trace::trace::trace;
 use machine_model::event::Event;
 use mark_checker::accept::Accepted;
@@ -21,7 +22,7 @@ fn certified(rt: &impl Abort, alloc: Global, program: &str) -> Accepted {
     Accepted::new(program, cert).ok().expect(rt, "accepted")
 }
 
-/// Compares the trace of the events on a machine of so many units.
+/// Compares the trace of the events on a machine of `units` units.
 pub(crate) fn expect_trace(
     rt: &impl Abort,
     alloc: Global,
@@ -39,7 +40,7 @@ pub(crate) fn expect_trace(
     assert!(rt; text.as_str() == expected);
 }
 
-/// Compares the lines of JSON of the events on a machine of so many units.
+/// Compares the lines of JSON of the events on a machine of `units` units.
 pub(crate) fn expect_lines(
     rt: &impl Abort,
     alloc: Global,
@@ -53,7 +54,16 @@ pub(crate) fn expect_lines(
 {
     let accepted = certified(rt, alloc, program);
     let last = LastLine::AsItStands;
-    let text = lines(alloc, &accepted, units, program.as_bytes(), events, last);
+    let text = lines(
+        alloc,
+        &accepted,
+        "",
+        EventSource::Script,
+        units,
+        program.as_bytes(),
+        events,
+        last,
+    );
     let text = text.ok().expect(rt, "room for lines");
     assert!(rt; text.as_str() == expected);
 }

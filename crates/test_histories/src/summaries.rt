@@ -1,4 +1,4 @@
-//! What lives come to, and the summaries of machines that were given some events.
+//! Tallies of lives, and the summaries of machines that were given some events.
 
 ghost use Rattle.std.specs.Prelude.{◌<◌};
 
@@ -16,7 +16,7 @@ use task_lives::tally::{Tally, add_up, by_task};
 use test_programs::certificates::{COUNT_CERTIFICATE, DIAMOND_CERTIFICATE};
 use test_programs::programs::{COUNT, DIAMOND};
 
-// Asserts the summary of a machine of so many units after some events.
+// Asserts the summary of a machine of `units` units after some events.
 fn expect_summary(
     rt: &impl Abort,
     alloc: Global,
@@ -79,7 +79,7 @@ fn rounds_and_a_squash(rt: HostRuntime) {
     );
 }
 
-// The wrong side of `DIAMOND` and what stands behind it execute an instruction each, and are squashed.
+// The wrong side of `DIAMOND` and what follows it execute an instruction each, and are squashed.
 #[test]
 fn wasted_work(rt: HostRuntime) {
     let events = [
@@ -137,7 +137,7 @@ fn a_drop(rt: HostRuntime) {
     );
 }
 
-// Four lives, one of each ending, of which the last is of a task behind the others.
+// Four lives, one of each ending, of which the last is of a task after the others.
 #[test]
 fn tallies_of_four_lives(rt: HostRuntime) {
     let lives = [

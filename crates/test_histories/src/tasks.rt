@@ -61,23 +61,23 @@ fn a_wrong_prediction(rt: HostRuntime) {
     unit 1, task C: becomes the head
     takes $8 = 1
 12 exec 0: ok
-    unit 0, task C: executes line 8
+    unit 1, task C: executes line 8
     stops; its exit is line 9
 13 retire: ok
-    unit 0, task C: retires; its exit is line 9
-    unit 1, task D: becomes the head
+    unit 1, task C: retires; its exit is line 9
+    unit 2, task D: becomes the head
     takes $8 = 1
 14 exec 0: ok
-    unit 0, task D: executes line 9
+    unit 2, task D: executes line 9
     writes $9 = 7
     sends $9 = 7
     goes on at line 10
 15 exec 0: ok
-    unit 0, task D: executes line 10
+    unit 2, task D: executes line 10
     puts out 7
     goes on at line 11
 16 exec 0: ok
-    unit 0, task D: executes line 11
+    unit 2, task D: executes line 11
     the run has halted
 17 retire: refused 1 Ended
 at the end: the run has halted
@@ -168,7 +168,7 @@ at the end: the run goes on
     expect_trace(&rt, rt.alloc(), COUNT, 2, &events, expected);
 }
 
-// The two tasks of a pair need nothing of each other; the last is given up. Nothing is said of events that
+// The two tasks of a pair need nothing of each other; the last is given up. The trace has nothing of events that
 // could not be.
 #[test]
 fn a_pair_and_a_task_given_up(rt: HostRuntime) {

@@ -37,7 +37,7 @@ const PROPOSALS: [AnswerRow<'static>; 4] = [
     },
 ];
 
-// Register 8 is written last by the second instruction of `li`, register 9 by the one behind it.
+// Register 8 is written last by the second instruction of `li`, register 9 by the one after it.
 const LAID_OUT: &str =
     ".task A create=- targets=B # !f\r\n.task B create=$5 targets=-\r\nA:\tli $t0, 70000\t# two\r\naddiu $9,$8,1!s\nB: out $9\nhalt\n";
 

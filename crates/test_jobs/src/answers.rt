@@ -17,7 +17,7 @@ impl<R: Abort + Threads + Wait + Sync> Bench for R {}
 /// A run of the program: its command line, its texts, and what it answers.
 #[derive(Clone, Copy)]
 pub struct AnswerRow<'a> {
-    /// The words behind the program's own name, split at blanks.
+    /// The words after the program's own name, split at blanks.
     pub words: &'a str,
     /// The program text.
     pub program: &'a str,
@@ -42,12 +42,12 @@ pub const EMPTY: AnswerRow<'static> = AnswerRow {
 };
 
 impl AnswerRow<'_> {
-    /// Asserts the answer, and that a certificate in `cert 1` gives the same in `cert 2`.
+    /// Asserts the answer, and that a certificate in `cert 1` gives it in `cert 2` too.
     pub fn runs(&self, rt: &impl Bench, alloc: Global) {
         self.runs_as(rt, alloc, self.words);
     }
 
-    /// The same where the words are these.
+    /// As `runs`, where the words are these.
     pub fn runs_as(&self, rt: &impl Bench, alloc: Global, words: &str) {
         self.runs_with(rt, alloc, words, self.certificate);
         if self.certificate.starts_with("cert 1") {
@@ -129,6 +129,7 @@ pub fn texts_of(
     script: &[u8],
 ) -> Texts {
     Texts {
+        name: String::new(alloc),
         program: copy(rt, alloc, program),
         certificate: Text::new(alloc, copy(rt, alloc, certificate)),
         script: copy(rt, alloc, script),

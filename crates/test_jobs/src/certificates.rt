@@ -20,7 +20,7 @@ fn said_of(rt: &impl Abort, alloc: Global, beginning: &[u8]) -> String {
     said.ok().expect(rt, "room for a line")
 }
 
-// The same where the beginning is so many whole lines.
+// The report of `check` where the beginning is this many whole lines.
 fn said_of_lines(lines: usize) -> &'static str {
     match lines {
         7 => "B 4 rule 1 -\nrefused 1\n",

@@ -131,7 +131,7 @@ const FINDINGS: [AnswerRow<'static>; 16] = [
         expected: FIVE_FOUND,
         ..REFUSED
     },
-    // A jump to the index behind the last that an instruction may have, and entries there.
+    // A jump to the index after the last that an instruction may have, and entries there.
     AnswerRow {
         program: END_OF_CODE,
         certificate: "cert 1\ntask A\n0 00000000\n",
@@ -176,7 +176,7 @@ fn finds_what_is_wrong(rt: HostRuntime) {
 }
 
 const REFUSALS: [AnswerRow<'static>; 7] = [
-    // The certificate is none; bit 34 is no register.
+    // This is no certificate: bit 34 is no register.
     AnswerRow {
         program: PRODUCT,
         certificate: "cert 2\ntask A\n0 0000000400000100\n1 0000000300000000\ntask B\n2 0000000000000200\n3 0000000000000200\n4 0000000000000200\n5 0000000000000000\n6 0000000000000000\n",

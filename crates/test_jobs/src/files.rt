@@ -47,8 +47,8 @@ impl Read for Worn {
     }
 }
 
-// Interruptions, bytes and whether a fault is behind them, and how many bytes are fetched: at most six, with
-// which no further read is made.
+// Interruptions, bytes and whether a fault follows them, and how many bytes are fetched: at most six, with which no
+// further read is made.
 const FETCHED: [(u32, u32, bool, Result<usize, FetchFault>); 10] = [
     (0, 3, false, Ok(3)),
     (1000, 3, false, Ok(3)),
@@ -167,7 +167,7 @@ fn copy_from(bytes: &[u8], offset: usize, buffer: &mut [u8]) -> usize
 // How many bytes a file has that is long enough to be shared out.
 const LONG: usize = 300_000;
 
-// A file of as many bytes, in which lines of 70 bytes differ from those beside them.
+// A file of `LONG` bytes, in which lines of 70 bytes differ from those beside them.
 fn long_file(rt: &impl Abort, alloc: Global) -> HeldFile {
     let mut bytes = Vec::new(alloc);
     for offset in 0..LONG {
@@ -187,8 +187,8 @@ fn long_file(rt: &impl Abort, alloc: Global) -> HeldFile {
     }
 }
 
-// Asserts that a file of this size, whose positioned reads fail from an offset on, is fetched the same by each
-// number of workers.
+// Asserts that each number of workers fetches equal bytes of a file of this size, whose positioned reads fail from an
+// offset on.
 fn expect_shared<R: Bench>(rt: &R, alloc: Global, file: &mut HeldFile, fails_from: u64, most: u64) {
     assert!(rt; most <= 134_217_728);
     file.fails_from = fails_from;

@@ -1,6 +1,6 @@
 //! Tests of the program's jobs, from the words of a command line to the bytes that are written and
 //! the status. The expected bytes are those of the formats and of the instructions' own rules, worked
-//! out by hand. Writers that keep back what is not flushed show that reports, and what is told of faults, arrive. Files in
+//! out by hand. Writers that keep back what is not flushed show that reports and messages about faults arrive. Files in
 //! memory show that a result that goes to a file is there whole, or that the file is as it was.
 #![tactic(auto)]
 

@@ -128,7 +128,7 @@ impl Folder for Shelf {
     }
 }
 
-// What words come to.
+// The result of words.
 #[derive(Clone, Copy)]
 struct Wanted<'a> {
     // What stands in `b.s` in the end, where `old` stood.
@@ -138,7 +138,7 @@ struct Wanted<'a> {
     status: u8,
 }
 
-// Asserts what words come to, of a program text and a shelf.
+// Asserts the result of words, of a program text and a shelf.
 fn expect(
     rt: &impl Bench,
     alloc: Global,

@@ -1,4 +1,4 @@
-//! `run`: what threads come to is the same whatever their order.
+//! `run`: the result does not depend on the order of the threads.
 
 use crate::answers::{AnswerRow, Bench, EMPTY, answer, expect, run_all, texts_of};
 use std::alloc::Global;
@@ -162,7 +162,7 @@ fn replays_on_each(rt: &impl Bench, alloc: Global, row: &AnswerRow<'_>) {
     }
 }
 
-// The answers to so many events that are allowed, and then the closing lines.
+// The answers to `events` events that are allowed, and then the closing lines.
 fn allowed(rt: &impl Bench, alloc: Global, events: usize, closing: &str) -> String {
     let mut text = String::new(alloc);
     for number in 1..=events {

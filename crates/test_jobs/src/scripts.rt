@@ -13,7 +13,7 @@ pub fn events_of(rt: &impl Abort, alloc: Global, answered: &str) -> String {
     script
 }
 
-/// The answers, each behind the number of its event, and then the closing lines.
+/// The answers, each after the number of its event, and then the closing lines.
 pub fn answers_of(rt: &impl Abort, alloc: Global, answered: &str, closing: &str) -> String {
     let mut written = String::new(alloc);
     for (index, line) in answered.lines().enumerate() {

@@ -1,4 +1,4 @@
-//! `check` of a certificate that is long enough to be shared out: the same for any number of workers.
+//! `check` of a certificate that is long enough to be shared out: equal reports for any number of workers.
 
 use crate::answers::{Bench, expect, texts_of};
 use std::alloc::Global;
@@ -38,7 +38,7 @@ const CASES: [Case; 4] = [
         expected: "certificate refused: 2 Line 3963\n",
         status: 1,
     },
-    // A second entry of the same index.
+    // A second entry of one index.
     Case {
         mask: "0000000000000000\n60 0000000000000000",
         expected: "certificate refused: 5 Shape\n",
@@ -47,7 +47,7 @@ const CASES: [Case; 4] = [
 ];
 
 impl Case {
-    // Asserts what is said with one worker, with two and with as many as there may be.
+    // Asserts the report with one worker, with two and with as many as there may be.
     fn runs(&self, rt: &impl Bench, alloc: Global) {
         let program = program(rt, alloc);
         let certificate = certificate(rt, alloc, self.mask);

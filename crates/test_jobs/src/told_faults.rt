@@ -1,4 +1,4 @@
-//! What is told of each fault, and on which stream.
+//! The message about each fault, and its stream.
 
 use crate::answers::words_of;
 use crate::held_back::HeldBack;
@@ -10,7 +10,7 @@ use std::alloc::Global;
 use std::process::Abort;
 use verdict_report::fault::ServeFault;
 
-// What arrives on standard output and on standard error of a fault that is told, and the status.
+// What arrives on standard output and on standard error for a fault, and the status.
 fn told(rt: &impl Abort, alloc: Global, fault: &Fault) -> (Vec<u8>, Vec<u8>, u8) {
     let mut output = HeldBack::new(alloc);
     let mut errors = HeldBack::new(alloc);

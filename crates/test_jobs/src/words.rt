@@ -514,7 +514,7 @@ const PLACES: [(&str, Option<&str>); 9] = [
     ("annotate --in-place --emit text a.s", Some("a.s")),
 ];
 
-// Whether it is asked for that what is left to mend by hand is told, and whether that each run is.
+// Whether the words ask for what is left to mend by hand, and for a line for each run.
 const REPORTS: [(&str, bool, bool); 7] = [
     ("annotate a.s", false, false),
     ("annotate --report a.s", true, false),
@@ -532,7 +532,7 @@ fn reads_what_is_told(rt: HostRuntime) {
     }
 }
 
-// Asserts what is told.
+// Asserts what the words ask for.
 fn expect_told(rt: &impl Abort, alloc: Global, line: &str, report: bool, progress: bool) {
     let request = read(rt, alloc, line).ok().expect(rt, "a job");
     assert!(rt; request.report == report, "{line}");

@@ -32,7 +32,7 @@ impl Expected {
         }
     }
 
-    /// Anything may stand here: what is added from here on is how the text ends. False if that was said before.
+    /// Anything may stand here: what is added from here on is how the text ends. False if this was called before.
     pub fn skip(&mut self) -> bool {
         if self.end.is_some() {
             return false;

@@ -1,4 +1,4 @@
-//! A row of a table: command lines, and what each of them is to come to.
+//! A row of a table: command lines, and the output that each of them is to have.
 
 use crate::expected::Expected;
 use program_edge::answer::answer_reader;
@@ -31,7 +31,7 @@ pub struct Command<'a> {
     pub is_terminal: bool,
 }
 
-/// Command lines that come to the same.
+/// Command lines with equal expected output.
 #[derive(Drop)]
 pub struct TableRow<'a> {
     /// The command lines.
@@ -42,7 +42,7 @@ pub struct TableRow<'a> {
     pub errors: Expected,
 }
 
-// What a command line came to.
+// What a command line wrote, and its status.
 #[derive(Drop)]
 struct Written {
     output: Vec<u8>,
@@ -60,11 +60,11 @@ impl<'a> TableRow<'a> {
         }
     }
 
-    /// Runs each command line, and tells of those that come to something else; whether there is none.
+    /// Runs each command line, and reports those whose output differs from the row; answers whether there is none.
     ///
     /// # Errors
     ///
-    /// If memory runs out, or what is told cannot be written.
+    /// If memory runs out, or the report cannot be written.
     pub fn run(
         &self,
         host: &HostRuntime,
@@ -80,7 +80,7 @@ impl<'a> TableRow<'a> {
         Ok(is_right)
     }
 
-    // Runs a command line, and tells of it if it comes to something else; whether it does not.
+    // Runs a command line, and reports it if its output differs from the row; answers whether it does not.
     fn judge(
         &self,
         host: &HostRuntime,

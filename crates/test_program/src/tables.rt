@@ -18,17 +18,17 @@ struct Table<'a, R> {
     row: TableRow<'a>,
     // How many command lines were run.
     count: usize,
-    // Whether nothing was told so far.
+    // Whether nothing was reported so far.
     is_right: bool,
 }
 
-/// Runs the rows of the table of this name in the order in which they stand, tells of those that come to something
-/// else and of lines that it does not understand, and then how many command lines it ran. False if there was anything
-/// else to tell.
+/// Runs the rows of the table of this name in the order in which they stand. Reports the command lines whose output
+/// differs from their row, the lines that it does not understand, and last how many command lines it ran. False if
+/// there was a difference or such a line.
 ///
 /// # Errors
 ///
-/// If the table cannot be read, a file of its rows or what is told cannot be written, or memory runs out.
+/// If the table cannot be read, a file of its rows or the report cannot be written, or memory runs out.
 pub fn run_table(
     host: &HostRuntime,
     rt: &impl Runtime,
@@ -52,7 +52,7 @@ pub fn run_table(
 }
 
 impl<'a, R: Runtime> Table<'a, R> {
-    // Does what a line says, or tells that it does not understand it.
+    // Does what a line says, or reports that it does not understand it.
     fn read(&mut self, number: usize, line: &'a str, told: &mut impl Write) -> io::Result<()> {
         let is_understood = match line_of(line) {
             Some(line) => self.take(number, line, told)?,

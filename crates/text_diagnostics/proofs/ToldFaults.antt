@@ -1,4 +1,5 @@
--- The fault at which the assembler stops is told; so something is said exactly of a text that spells no program.
+-- The fault at which the assembler stops is reported; so there is a diagnostic exactly for a text that spells no
+-- program.
 use Rattle.std.specs.Prelude.{nat_lt, nat_eq}
 use Rattle.std.specs.List.{list_any}
 use Rattle.std.proofs.Common.{◌≡◌, ℕ, List, [], ◌∷◌, Bool, true, false, cond, length, Result, Ok, Err, refl, ap, sym, ◌∙◌, arith}

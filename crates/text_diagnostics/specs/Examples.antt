@@ -20,6 +20,7 @@ use Rattle.syntax_tree.specs.declared.item.Item.{Item}
 use Rattle.operand_forms.specs.Candidates.{candidates, word_candidates}
 use Rattle.operand_forms.specs.ForeignWords.{instead, word_instead, sign_instead, operand_row, operand_instead}
 use Rattle.text_diagnostics.specs.Mending.{goes_further, mended, may_be_label}
+use Rattle.text_diagnostics.specs.Comments.{is_meant, comment_words}
 use Rattle.text_diagnostics.specs.Sections.{fault_in, line_kind, meant_after}
 
 abbrev pub at : (column len : ℕ) → TokenSpan
@@ -53,6 +54,15 @@ another_word = refl
 pub another_operand : operand_instead (codes "addu") (codes " $8,$9,$10") (codes "-4") ≡ Some (codes "with a number write addiu rt,rs,n")
 unfolding operand_instead operand_row
 another_operand = refl
+
+-- in place of `!F`
+pub small_letters : mended kind.Token Text (codes "nop !F") (at 5 2) ≡ codes "!f" ∷ []
+unfolding mended candidates fault_in line_tokens tokens_after token_of kind_of number_of magnitude_of number_in register_of register_named operands_of nop as_shown is_readable is_utf8 chars encode
+small_letters = refl
+
+pub after_hash : comment_words Text (codes "addiu $8,$8,#1") (at 13 0) ≡ Some (codes "# begins a comment: write 1")
+unfolding comment_words is_meant fault_in line_tokens tokens_after token_of kind_of number_of magnitude_of number_in register_of register_named operands_of after_one after_two operand_at base_at imm as_shown is_readable is_utf8 chars encode
+after_hash = refl
 
 pub missing_operand : mended kind.Operand Text (codes "addu $8,$9") (at 11 0) ≡ []
 unfolding mended candidates

@@ -1,6 +1,7 @@
--- What to do about each mistake (own words).
+-- What to do about each mistake.
 use Rattle.std.specs.Prelude.{ℕ, List, [], ◌∷◌, ◌++◌, ◌&&◌, ◌||◌, ◌==◌, codes, take, find, position, slice_get, nat_lt, length, Bool, true, false, not, Option, Some, None, is_some, unwrap_or, if◌then◌else◌}
 use Rattle.std.specs.List.{flat_map}
+use Rattle.std.specs.Option.{option_or}
 use Rattle.std.specs.Str.{byte, bytes_eq, str_to_ascii_lowercase}
 use Rattle.program_tokens.specs.Numbers.{begins_with_digit}
 use Rattle.program_tokens.specs.declared.span.TokenSpan.{TokenSpan as Place}
@@ -14,7 +15,7 @@ use Rattle.program_statements.specs.declared.statement.Statement.TheVariants as 
 use Rattle.operand_forms.specs.Bytes.{bytes_at, byte_at, byte_help, token_help}
 use Rattle.operand_forms.specs.Meant.{span_at, number_index, mark_index, is_directive}
 use Rattle.diagnostics.specs.Near.{is_near}
-use Rattle.operand_forms.specs.Shapes.{shape_of, form_text, range_text}
+use Rattle.operand_forms.specs.Shapes.{shape_of, form_text, takes_none, range_text}
 use Rattle.operand_forms.specs.declared.shape.OperandShape.{OperandShape}
 use Rattle.syntax_tree.specs.declared.item.LineFaultKind.{LineFaultKind}
 use Rattle.syntax_tree.specs.declared.item.LineFaultKind.TheVariants as kind
@@ -32,6 +33,8 @@ use Rattle.operand_forms.specs.Rows.{reading_of}
 use Rattle.operand_forms.specs.ForeignWords.{instead, operand_instead}
 use Rattle.operand_forms.specs.OwnWords.{own_words}
 use Rattle.operand_forms.specs.LinePlaces.{word_in, shape_named}
+use Rattle.text_diagnostics.specs.Comments.{comment_words}
+use Rattle.text_diagnostics.specs.Starts.{start_name, start_words}
 use Rattle.text_diagnostics.specs.Mending.{mended, may_be_label}
 use Rattle.text_diagnostics.specs.Messages.{is_no_mark}
 use Rattle.text_diagnostics.specs.Places.{span_in}
@@ -45,15 +48,20 @@ meant_text text = codes "did you mean " ++ (text ++ codes "?")
 abbrev pub either : (first : List ℕ) → (others : List (List ℕ)) → List ℕ
 either first others = first ++ flat_map (λ other. codes " or " ++ other) others
 
--- what is said of the one text that mends a line
+-- the help that names the one text that mends a line
 abbrev pub begins_with_comma : List ℕ → Bool
 begins_with_comma [] = false
 begins_with_comma (b ∷ bs) = b == byte ","
+
+abbrev pub begins_with_mark : List ℕ → Bool
+begins_with_mark [] = false
+begins_with_mark (b ∷ bs) = b == byte "!"
 
 abbrev pub mending_text : (text : List ℕ) → List ℕ
 mending_text text =
     if bytes_eq text (codes " ") then codes "remove it"
     else if begins_with_comma text then codes "a comma is missing: write " ++ text
+    else if begins_with_mark text then codes "write " ++ text
     else meant_text text
 
 -- where a word of another section may stand
@@ -99,11 +107,15 @@ mark_words false true (Some text) t = text
 mark_words false true None t = codes "the marks are !f (forward), !s (stop), !st (stop if taken) and !sn (stop if not taken)"
 mark_words false false other t = stop_words t
 
--- of an operand: what is written instead, or how operands may be written
+-- of an operand: what is written instead, or how operands may be written, or that there are none
+unfoldable pub form_words : (word : List ℕ) → (none : Bool) → (form : List ℕ) → List ℕ
+form_words word true form = as_shown word ++ codes " takes no operand"
+form_words word false form = codes "write it as in " ++ (as_shown word ++ form)
+
 abbrev pub operand_words : (word meant : List ℕ) → List ℕ
 operand_words word meant =
-    let form = form_text (shape_named word) in
-    unwrap_or (operand_instead word form meant) (codes "write it as in " ++ (as_shown word ++ form))
+    let shape = shape_named word in
+    unwrap_or (operand_instead word (form_text shape) meant) (form_words word (takes_none shape) (form_text shape))
 
 unfoldable pub general_words : LineFaultKind → Section → (line : List ℕ) → Reading → Place → List ℕ
 general_words kind.NotAscii here line r at = byte_help (byte_at line at)
@@ -119,14 +131,14 @@ general_words kind.Mark here line r at =
     mark_words (is_directive r.tokens) (is_no_mark found) (instead (bytes_at line at)) found
 
 -- of operands, of what is no token, and of a word that is of no section: in the line's own words, where they are known
-abbrev pub words_of_line : LineFaultKind → (line : List ℕ) → Reading → Place → Option (List ℕ)
-words_of_line kind.Token line r at = own_words line r
-words_of_line kind.Operand line r at = own_words line r
-words_of_line kind.Mnemonic line r at = if is_some (shape_of (bytes_at line at)) then None else own_words line r
-words_of_line _ line r at = None
+abbrev pub words_of_line : LineFaultKind → Section → (line : List ℕ) → Reading → Place → Option (List ℕ)
+words_of_line kind.Token here line r at = own_words line r
+words_of_line kind.Operand here line r at = option_or (comment_words here line at) (own_words line r)
+words_of_line kind.Mnemonic here line r at = if is_some (shape_of (bytes_at line at)) then None else own_words line r
+words_of_line _ here line r at = None
 
 unfoldable pub line_words : LineFaultKind → Section → (line : List ℕ) → Reading → Place → List ℕ
-line_words k here line r at = unwrap_or (words_of_line k line r at) (general_words k here line r at)
+line_words k here line r at = unwrap_or (words_of_line k here line r at) (general_words k here line r at)
 
 -- a text that mends the line, if one is known; if several are, a question
 abbrev pub help_by : (words : List ℕ) → Span → (mended : List (List ℕ)) → Help
@@ -196,7 +208,6 @@ item_words CreatesZero = codes "leave $0 out of the create mask"
 item_words ReleasesZero = codes "leave $0 out, or write nop in place of a release of nothing else"
 item_words NoInstruction = codes "write an instruction after the label"
 item_words SameEntry = codes "remove one of the tasks, or write an instruction between their labels"
-item_words NoTaskThere = codes "add a line for the task that begins there, such as .task A create=$8 targets=A,B"
 item_words _ = []
 
 -- with a text to write, where it is known
@@ -206,4 +217,5 @@ item_help items item line StopOnHalt name span = mark_help item.line line true (
 item_help items item line OneSidedStop name span = mark_help item.line line true (codes "write !s, which stops always") (codes "!s")
 item_help items item line (NoLabel as_what) name span = near_help (NoLabel as_what) span (near_item (is_loaded item.said) name items)
 item_help items item line (DataLabel as_what) name span = near_help (DataLabel as_what) span (near_item (is_loaded item.said) name items)
+item_help items item line NoTaskThere name span = in_words (start_words (start_name items (Some item)))
 item_help items item line kind name span = in_words (item_words kind)

@@ -2,6 +2,8 @@ pub mod Knowledge
 pub mod Mistakes
 pub mod Sections
 pub mod Mending
+pub mod Comments
+pub mod Starts
 pub mod Messages
 pub mod Places
 pub mod Helps

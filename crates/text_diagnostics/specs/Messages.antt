@@ -1,4 +1,4 @@
--- What is said of each mistake (own words): one sentence. What is quoted is the name or the bytes that are meant.
+-- The message about each mistake: one sentence. What is quoted is the name or the bytes that are meant.
 use Rattle.std.specs.Prelude.{ℕ, nat_eq, List, [], ◌++◌, ◌==◌, codes, Bool, true, false, Option, Some, is_some, slice_get, if◌then◌else◌}
 use Rattle.std.specs.Str.{byte}
 use Rattle.std.specs.Fmt.{decimal}

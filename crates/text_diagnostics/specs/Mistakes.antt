@@ -1,6 +1,7 @@
 -- What is wrong with each item of a text. What would only follow from a line that cannot be read is not told:
 -- where there is one, nothing is said of unknown names, since a label may be missing, and nothing of where tasks and the
--- program begin, since an instruction may be missing.
+-- program begin, since an instruction may be missing; and where the name of a task is no label, nothing of where the
+-- program begins, since that task may be meant to begin there.
 use Rattle.std.specs.Prelude.{ℕ, ◌+◌, Bool, true, false, not, ◌&&◌, ◌||◌, nat_eq, nat_lt, nat_le, List, [], ◌∷◌, ◌++◌, map, find, slice_get, Option, Some, None, is_some, is_none, if◌then◌else◌}
 use Rattle.std.specs.Option.{option_map}
 use Rattle.mips_instructions.specs.Words.{has}
@@ -38,7 +39,7 @@ twice_kind (said.Label name) = LabelTwice
 twice_kind (said.Statement (statement.Task task)) = TaskTwice
 twice_kind _ = StartTwice
 
--- with the first item that defines the same
+-- with the first item that defines it
 abbrev pub twice : Known → (k : ℕ) → Said → Option (Kind × ℕ)
 twice known k s = option_map (λ first. (twice_kind s, first)) (repeated known.defined k s)
 
@@ -157,9 +158,9 @@ abbrev pub start_by : Known → Option ℕ → Option Kind
 start_by known None = None
 start_by known (Some index) = if is_some (first_at known.entries index) then None else Some NoTaskThere
 
--- where there is a task at all
+-- where there is a task at all, and each is known to begin somewhere
 abbrev pub start_kind : List Item → Known → (k : ℕ) → Said → Option Kind
-start_kind items known k s = if known.is_read && known.has_task then start_by known (start_index items known k s) else None
+start_kind items known k s = if known.is_read && known.has_task && known.is_placed then start_by known (start_index items known k s) else None
 
 -- All of them.
 

@@ -1,5 +1,5 @@
 -- What is said of a text that spells no program: all that is wrong with it, in the order of its lines.
-use Rattle.std.specs.Prelude.{ℕ, ◌-◌, Bool, true, false, not, ◌&&◌, List, [], ◌∷◌, ◌++◌, codes, take, length, slice_get, nat_eq, nat_lt, Option, Some, None, Result, Ok, Err, if◌then◌else◌}
+use Rattle.std.specs.Prelude.{ℕ, ◌-◌, Bool, true, false, not, ◌&&◌, List, [], ◌∷◌, ◌++◌, codes, take, length, find, slice_get, nat_eq, nat_lt, Option, Some, None, Result, Ok, Err, if◌then◌else◌}
 use Rattle.std.specs.List.{flat_map, list_any}
 use Rattle.std.specs.Str.{bytes_eq}
 use Rattle.task_descriptor.specs.Listing.{Listing}
@@ -36,6 +36,7 @@ use Rattle.text_diagnostics.specs.Mistakes.{mistakes}
 use Rattle.operand_forms.specs.Rows.{line_at, reading_of}
 use Rattle.operand_forms.specs.LinePlaces.{line_place}
 use Rattle.text_diagnostics.specs.Messages.{line_message, item_message}
+use Rattle.text_diagnostics.specs.Starts.{is_start, start_name, task_words}
 use Rattle.text_diagnostics.specs.Places.{shown_span, span_in, place_in, item_span}
 use Rattle.text_diagnostics.specs.Helps.{line_help, item_help}
 
@@ -134,24 +135,24 @@ said_of rows items m = said_at rows items m (slice_get items m.item)
 
 -- All of them.
 
-abbrev pub no_task_error : Diagnostic
-no_task_error =
+abbrev pub no_task_error : List Item → Diagnostic
+no_task_error items =
     error_of code.NoTask None (codes "the program has no task") []
-    (Some (in_words (codes "add a line for each task, such as .task A create=$8 targets=A,B")))
+    (Some (in_words (task_words (start_name items (find is_start items)))))
 
 -- a program has a task, where each line can be read
-abbrev pub no_task : Known → List Diagnostic
-no_task known =
-    if known.is_read && not known.has_task then no_task_error ∷ [] else []
+abbrev pub no_task : List Item → Known → List Diagnostic
+no_task items known =
+    if known.is_read && not known.has_task then no_task_error items ∷ [] else []
 
--- how many are shown; of any more it is said how many they are
+-- how many are shown; of the rest only the number is
 abbrev pub most_shown : ℕ
 most_shown = 1000
 
 unfoldable pub told_of : (rows : List (List ℕ)) → List Item → Known → List Mistake → List Diagnostic
 told_of rows items known all =
     flat_map (said_of rows items) (take most_shown all)
-    ++ (no_task known ++ more_note Program (length all - most_shown) (codes "error") (codes "errors"))
+    ++ (no_task items known ++ more_note Program (length all - most_shown) (codes "error") (codes "errors"))
 
 unfoldable pub told : (text : List ℕ) → List Diagnostic
 told text =
@@ -159,7 +160,7 @@ told text =
     let known = known_in items in
     told_of (lines text) items known (mistakes (lines text) items known)
 
--- The first fault, at which the assembler stops, is always told: where it is not among these, by itself.
+-- The first fault, at which the assembler stops, is always reported: where it is not among these, by itself.
 
 -- of this code, and of the fault's line, if it has one
 abbrev pub is_on : Option ℕ → Option Span → Bool
@@ -182,7 +183,7 @@ plain f = error_of (told_as f).0 (line_start (told_as f).1) (codes "this is what
 abbrev pub with_first : AsmFault → List Diagnostic → List Diagnostic
 with_first f list = if list_any (tells f) list then list else plain f ∷ list
 
--- All that is said of a text whose first fault this is; one that is too long is not taken apart.
+-- All diagnostics for a text whose first fault this is; one that is too long is not taken apart.
 unfoldable pub refusal : (text : List ℕ) → AsmFault → List Diagnostic
 refusal text f = if nat_lt 4194304 (length text) then plain f ∷ [] else with_first f (told text)
 

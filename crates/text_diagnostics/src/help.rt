@@ -2,16 +2,22 @@
 
 ghost use Rattle.std.specs.Prelude.{◌≡◌, ◌++◌, codes, find, take, position, slice_get, IfOk, OnOk};
 ghost use Rattle.std.specs.List.{flat_map};
-ghost use Rattle.std.specs.Option.{option_copied, option_map};
+ghost use Rattle.std.specs.Option.{option_copied, option_map, option_or};
 ghost use Rattle.std.specs.Str.{bytes_eq, str_to_ascii_lowercase};
 ghost use Rattle.std.specs.String.{string_bytes};
 ghost use Rattle.diagnostics.specs.Quotations.{as_shown};
-ghost use Rattle.text_diagnostics.specs.Helps.{meant_text, either, mending_text, move_help, section_help, word_help, token_words, stop_words, mark_words, operand_words, number_help, general_words, words_of_line, line_words, help_by, line_help, is_mark_of, mark_place, mark_help, is_loaded, is_code, is_near_said, is_near_label, near_item, name_words, said_help, near_help, item_words, item_help};
+ghost use Rattle.operand_forms.specs.OwnWords.{own_words};
+ghost use Rattle.diagnostics.specs.Helps.{in_words};
+ghost use Rattle.text_diagnostics.specs.Comments.{comment_words};
+ghost use Rattle.text_diagnostics.specs.Starts.{start_name, start_words};
+ghost use Rattle.text_diagnostics.specs.Helps.{meant_text, either, mending_text, move_help, section_help, word_help, token_words, stop_words, mark_words, form_words, operand_words, number_help, general_words, words_of_line, line_words, help_by, line_help, is_mark_of, mark_place, mark_help, is_loaded, is_code, is_near_said, is_near_label, near_item, name_words, said_help, near_help, item_words, item_help};
 
+use crate::comment::comment_words;
 use crate::mending::{may_be_label, mended};
 use crate::message::is_no_mark;
 use crate::mistake::Kind;
 use crate::place::span_in;
+use crate::start::{start_name, start_words};
 use diagnostics::diagnostic::{Help, Span};
 use diagnostics::helps::{by_text, in_words};
 use diagnostics::near::is_near;
@@ -25,7 +31,7 @@ use operand_forms::line_place::{shape_named, word_in};
 use operand_forms::meant::{is_directive, mark_index, number_index, span_at};
 use operand_forms::own_words::own_words;
 use operand_forms::rows::{Reading, read};
-use operand_forms::shape::{OperandShape, form_text, range_text, shape_of};
+use operand_forms::shape::{OperandShape, form_text, range_text, shape_of, takes_none};
 use operand_forms::slices::first;
 use program_statements::statement::{Instruction, Section, Statement};
 use program_tokens::span::TokenSpan as Place;
@@ -62,13 +68,14 @@ fn either(alloc: Global, first: &Words, others: &[Words]) -> Result<Words, Alloc
     Ok(Words::new(text))
 }
 
-/// What is said of the one text that mends a line.
+/// The help that names the one text that mends a line.
 fn mending_text(alloc: Global, text: &str) -> Result<Words, AllocError>
     ensures { IfOk result (λ words. words ≡ mending_text text.now) }
 {
     match text.as_bytes() {
         b" " => Words::of(alloc, "remove it"),
         [b',', ..] => words!(in alloc; "a comma is missing: write {text}"),
+        [b'!', ..] => words!(in alloc; "write {text}"),
         _ => meant_text(alloc, text),
     }
 }
@@ -173,17 +180,27 @@ fn mark_words(
     }
 }
 
+/// How the operands of a word may be written, or that it takes none.
+#[tactic(auto, unfolding(crate::specs::Helps::form_words))]
+fn form_words(alloc: Global, word: &[u8], none: bool, form: &str) -> Result<Words, AllocError>
+    ensures { IfOk result (λ words. words ≡ form_words word.now none form.now) }
+{
+    let word = as_shown(alloc, word)?;
+    if none {
+        return words!(in alloc; "{word} takes no operand");
+    }
+    words!(in alloc; "write it as in {word}{form}")
+}
+
 /// What to do about an operand that does not fit.
 fn operand_words(alloc: Global, word: &[u8], meant: &[u8]) -> Result<Words, AllocError>
     ensures { IfOk result (λ words. words ≡ operand_words word.now meant.now) }
 {
-    let form = form_text(shape_named(word));
+    let shape = shape_named(word);
+    let form = form_text(shape);
     match operand_instead(word, form, meant) {
         Some(text) => Words::of(alloc, text),
-        None => {
-            let word = as_shown(alloc, word)?;
-            words!(in alloc; "write it as in {word}{form}")
-        }
+        None => form_words(alloc, word, takes_none(shape), form),
     }
 }
 
@@ -240,18 +257,37 @@ fn general_words(
     }
 }
 
-/// What to do about a line, in its own words, where they are known.
-fn words_of_line(
+/// What to do about operands: the number of a comment, or the line's own words, where they are known.
+fn words_of_operands(
     alloc: Global,
-    kind: LineFaultKind,
+    section: Section,
     line: &[u8],
     reading: &Reading,
     place: Place,
 ) -> Result<Option<Words>, AllocError>
-    ensures { IfOk result (λ words. words ≡ words_of_line kind line.now reading.now place) }
+    ensures { IfOk result (λ words. words
+        ≡ option_or (comment_words section line.now place) (own_words line.now reading.now)) }
+{
+    match comment_words(alloc, section, line, place)? {
+        Some(words) => Ok(Some(words)),
+        None => own_words(alloc, line, reading),
+    }
+}
+
+/// What to do about a line, in its own words, where they are known.
+fn words_of_line(
+    alloc: Global,
+    kind: LineFaultKind,
+    section: Section,
+    line: &[u8],
+    reading: &Reading,
+    place: Place,
+) -> Result<Option<Words>, AllocError>
+    ensures { IfOk result (λ words. words ≡ words_of_line kind section line.now reading.now place) }
 {
     match kind {
-        LineFaultKind::Token | LineFaultKind::Operand => own_words(alloc, line, reading),
+        LineFaultKind::Token => own_words(alloc, line, reading),
+        LineFaultKind::Operand => words_of_operands(alloc, section, line, reading, place),
         LineFaultKind::Mnemonic if shape_of(bytes_at(line, place)).is_none() => {
             own_words(alloc, line, reading)
         }
@@ -271,7 +307,7 @@ fn line_words(
 ) -> Result<Words, AllocError>
     ensures { IfOk result (λ words. words ≡ line_words kind section line.now reading.now place) }
 {
-    match words_of_line(alloc, kind, line, reading, place)? {
+    match words_of_line(alloc, kind, section, line, reading, place)? {
         Some(words) => Ok(words),
         None => general_words(alloc, kind, section, line, reading, place),
     }
@@ -448,9 +484,6 @@ fn item_words(kind: Kind) -> &'static str
         Kind::ReleasesZero => "leave $0 out, or write nop in place of a release of nothing else",
         Kind::NoInstruction => "write an instruction after the label",
         Kind::SameEntry => "remove one of the tasks, or write an instruction between their labels",
-        Kind::NoTaskThere => {
-            "add a line for the task that begins there, such as .task A create=$8 targets=A,B"
-        }
         _ => "",
     }
 }
@@ -474,6 +507,14 @@ fn mark_help(
         span_in(number, place),
         Words::of(alloc, text)?,
     )
+}
+
+/// What to do about an item that says that the program starts where no task begins.
+fn start_help(alloc: Global, items: &[Item], item: &Item) -> Result<Help, AllocError>
+    ensures { IfOk result (λ help. help ≡ in_words (start_words (start_name items.now (Some item.now)))) }
+{
+    let name = start_name(alloc, items, Some(item))?;
+    Ok(in_words(alloc, start_words(alloc, name)?))
 }
 
 /// What to do about an item of a line, where a name stands at a place.
@@ -504,6 +545,7 @@ pub(crate) fn item_help(
                 near_item(is_loaded(&item.said), name, items),
             )
         }
+        Kind::NoTaskThere => start_help(alloc, items, item),
         _ => Ok(in_words(alloc, Words::of(alloc, item_words(kind))?)),
     }
 }

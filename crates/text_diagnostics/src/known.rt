@@ -4,15 +4,17 @@ ghost use Rattle.std.specs.Prelude.{◌≡◌, take, length, IfOk};
 ghost use Rattle.std.specs.List.{list_any};
 ghost use Rattle.syntax_tree.specs.ProgramItems.{code_items};
 ghost use Rattle.syntax_tree.specs.WholeFaults.{task_entries};
-ghost use Rattle.text_diagnostics.specs.Knowledge.{is_task, is_fault, known_in};
+ghost use Rattle.text_diagnostics.specs.Knowledge.{is_task, is_fault, is_unplaced_said, is_unplaced, has_unplaced, known_in};
 
 use diagnostics::listed::Listed;
 use program_statements::statement::Statement;
 use std::alloc::{AllocError, Global};
 use syntax_tree::amounts::{Amounts, amounts_before};
+use syntax_tree::firsts::Firsts;
 use syntax_tree::item::{Item, Said};
 use syntax_tree::program_items::code_items;
 use syntax_tree::repeats::{Defined, defined_in};
+use syntax_tree::unknown_names::is_code_label;
 use syntax_tree::whole_faults::{TaskEntry, task_entries};
 
 /// How many tasks a program has at most; where further tasks begin is not judged.
@@ -31,6 +33,8 @@ pub(crate) struct Known {
     pub(crate) code: usize,
     /// Whether it has a task.
     pub(crate) has_task: bool,
+    /// Whether the name of each task is a label of code.
+    pub(crate) is_placed: bool,
     /// Whether each line can be read, so that no label and no instruction is missing.
     pub(crate) is_read: bool,
 }
@@ -63,6 +67,32 @@ fn has_fault(items: &[Item]) -> bool
     items.iter().any(|item| is_fault(item))
 }
 
+/// Whether it is a task whose name is no label of code.
+fn is_unplaced_said(items: &[Item], labels: &Firsts, said: &Said) -> bool
+    ensures { result ≡ is_unplaced_said items.now labels.now said.now }
+{
+    match said {
+        Said::Statement(Statement::Task(task)) => !is_code_label(items, labels, &task.name),
+        _ => false,
+    }
+}
+
+/// Whether an item is one.
+fn is_unplaced(items: &[Item], labels: &Firsts, item: &Item) -> bool
+    ensures { result ≡ is_unplaced items.now labels.now item.now }
+{
+    is_unplaced_said(items, labels, &item.said)
+}
+
+/// Whether one of some items is.
+#[tactic(auto, unfolding(crate::specs::Knowledge::has_unplaced))]
+fn has_unplaced(items: &[Item], defined: &Defined) -> bool
+    ensures { result ≡ has_unplaced items.now defined.now }
+{
+    let labels = &defined.labels;
+    items.iter().any(|item| is_unplaced(items, labels, item))
+}
+
 /// How many instructions there are.
 fn code_count(alloc: Global, items: &[Item]) -> Result<usize, AllocError>
     ensures { IfOk result (λ count. count ≡ length (code_items items.now)) }
@@ -85,12 +115,15 @@ fn first_entries(alloc: Global, items: &[Item]) -> Result<Vec<TaskEntry>, AllocE
 pub(crate) fn known_in(alloc: Global, items: &[Item]) -> Result<Known, AllocError>
     ensures { IfOk result (λ known. known ≡ known_in items.now) }
 {
+    let defined = defined_in(alloc, items)?;
+    let is_placed = !has_unplaced(items, &defined);
     Ok(Known {
-        defined: defined_in(alloc, items)?,
+        defined,
         amounts: Listed::new(amounts_before(alloc, items)?),
         entries: Listed::new(first_entries(alloc, items)?),
         code: code_count(alloc, items)?,
         has_task: has_task(items),
+        is_placed,
         is_read: !has_fault(items),
     })
 }

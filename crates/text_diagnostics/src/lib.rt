@@ -2,6 +2,7 @@
 //! and what to do.
 #![tactic(auto)]
 
+mod comment;
 mod help;
 mod known;
 pub mod laws;
@@ -12,3 +13,4 @@ mod mistakes;
 mod place;
 pub mod refusal;
 mod section;
+mod start;

@@ -56,7 +56,7 @@ fn taken_by(place: TokenSpan, text: &[u8]) -> TokenSpan
 }
 
 /// Whether a text mends a line in a section, in place of what is wrong in it.
-fn mends(
+pub(crate) fn mends(
     alloc: Global,
     kind: LineFaultKind,
     section: Section,

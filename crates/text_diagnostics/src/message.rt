@@ -1,4 +1,4 @@
-//! What is said of each mistake: one sentence.
+//! The message about each mistake: one sentence.
 
 ghost use Rattle.std.specs.Prelude.{◌≡◌, is_some, IfOk};
 ghost use Rattle.std.specs.Option.{option_copied};
@@ -54,7 +54,7 @@ fn token_message(alloc: Global, first: u8, meant: &Words) -> Result<Words, Alloc
     words!(in alloc; "this is not a name, a register or a number: {meant}")
 }
 
-/// Of operands of a word: that they end, or that this is none.
+/// That a word needs more operands, or that it cannot take this one.
 fn operand_message(
     alloc: Global,
     is_early: bool,

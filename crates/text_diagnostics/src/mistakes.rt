@@ -29,7 +29,7 @@ fn twice_kind(said: &Said) -> Kind
     }
 }
 
-/// What stands a second time, with the first item that defines the same.
+/// What stands a second time, with the first item that defines it.
 fn twice(known: &Known, number: usize, said: &Said) -> Option<(Kind, usize)>
     ensures { result ≡ twice known.now number said.now }
 {
@@ -294,7 +294,7 @@ fn start_by(known: &Known, index: Option<u64>) -> Option<Kind>
 fn start_kind(items: &[Item], known: &Known, number: usize, said: &Said) -> Option<Kind>
     ensures { result ≡ start_kind items.now known.now number said.now }
 {
-    if known.is_read && known.has_task {
+    if known.is_read && known.has_task && known.is_placed {
         start_by(known, start_index(items, known, number, said))
     } else {
         None

@@ -1,4 +1,4 @@
-//! What is said of a text that spells no program.
+//! Diagnostics for a text that spells no program.
 
 ghost use Rattle.std.specs.Prelude.{◌≡◌, ◌++◌, ◌∷◌, [], take, map as each, IfOk, OnOk};
 ghost use Rattle.std.specs.List.{flat_map, list_any};
@@ -13,6 +13,7 @@ use crate::message::{item_message, line_message};
 use crate::mistake::{Kind, Mistake};
 use crate::mistakes::mistakes;
 use crate::place::{item_span, place_in, shown_span, span_in};
+use crate::start::{first_start, start_name, task_words};
 use annotated_asm::assembler::assemble;
 use annotated_asm::fault::AsmFault;
 use diagnostics::code::Code;
@@ -34,7 +35,7 @@ use syntax_tree::reading::syntax_tree;
 use syntax_tree::tree::TreeFault;
 use task_descriptor::program::BuildFault;
 
-/// The most errors that are shown of a text; of any more it is said how many they are.
+/// The most errors that are shown of a text; of the rest only the number is shown.
 pub const MOST_SHOWN: usize = 1_000;
 
 /// The code of what is wrong with an item that can be read.
@@ -53,7 +54,7 @@ fn kind_code(kind: Kind) -> Code
     }
 }
 
-/// What is said of another item that shows it.
+/// The message of the note on another item that shows it.
 fn note_text(kind: Kind) -> &'static str
     ensures { result.now ≡ note_text kind }
 {
@@ -108,7 +109,7 @@ fn error_of(
     }
 }
 
-/// What is said of a line that cannot be read.
+/// The diagnostic for a line that cannot be read.
 #[tactic(auto, unfolding(crate::specs::Refusals::line_diagnostic))]
 fn line_diagnostic(
     alloc: Global,
@@ -129,7 +130,7 @@ fn line_diagnostic(
     Ok(error_of(code, Some(span), message, notes, Some(help)))
 }
 
-/// What is said of an item of a line.
+/// The diagnostic for an item of a line.
 #[tactic(auto, unfolding(crate::specs::Refusals::item_diagnostic))]
 fn item_diagnostic(
     alloc: Global,
@@ -151,7 +152,7 @@ fn item_diagnostic(
     Ok(error_of(kind_code(kind), Some(span), message, notes, Some(help)))
 }
 
-/// What is said of a mistake.
+/// The diagnostic for a mistake.
 fn diagnostic_by(
     alloc: Global,
     items: &[Item],
@@ -167,7 +168,7 @@ fn diagnostic_by(
     }
 }
 
-/// Adds what is said of a mistake of an item, if there is one.
+/// Adds the diagnostic for a mistake of an item, if there is one.
 fn add_said_at(
     alloc: Global,
     list: &mut Vec<Diagnostic>,
@@ -186,7 +187,7 @@ fn add_said_at(
     Ok(())
 }
 
-/// Adds what is said of a mistake.
+/// Adds the diagnostic for a mistake.
 fn add_said(
     alloc: Global,
     list: &mut Vec<Diagnostic>,
@@ -201,7 +202,7 @@ fn add_said(
     add_said_at(alloc, list, rows, items, mistake, item)
 }
 
-/// What is said of mistakes.
+/// The diagnostics for mistakes.
 fn all_said(
     alloc: Global,
     rows: &[&[u8]],
@@ -219,30 +220,33 @@ fn all_said(
 }
 
 /// That there is no task.
-fn no_task_error(alloc: Global) -> Result<Diagnostic, AllocError>
-    ensures { IfOk result (λ said. said ≡ no_task_error) }
+fn no_task_error(alloc: Global, items: &[Item]) -> Result<Diagnostic, AllocError>
+    ensures { IfOk result (λ said. said ≡ no_task_error items.now) }
 {
     let message = Words::of(alloc, "the program has no task")?;
-    let help = Words::of(
-        alloc,
-        "add a line for each task, such as .task A create=$8 targets=A,B",
-    )?;
+    let name = start_name(alloc, items, first_start(items))?;
+    let help = task_words(alloc, name)?;
     let notes = Listed::new(Vec::new(alloc));
     let help = Some(in_words(alloc, help));
     Ok(error_of(Code::NoTask, None, message, notes, help))
 }
 
 /// Adds that there is no task, if there is none.
-fn add_no_task(alloc: Global, list: &mut Vec<Diagnostic>, known: &Known) -> Result<(), AllocError>
-    ensures { OnOk result (list.new.items ≡ list.old.items ++ no_task known.now) }
+fn add_no_task(
+    alloc: Global,
+    list: &mut Vec<Diagnostic>,
+    items: &[Item],
+    known: &Known,
+) -> Result<(), AllocError>
+    ensures { OnOk result (list.new.items ≡ list.old.items ++ no_task items.now known.now) }
 {
     if known.is_read && !known.has_task {
-        list.push(no_task_error(alloc)?)?;
+        list.push(no_task_error(alloc, items)?)?;
     }
     Ok(())
 }
 
-/// What is said of what was found in a text.
+/// The diagnostics for what was found in a text.
 #[tactic(auto, unfolding(crate::specs::Refusals::told_of))]
 fn told_of(
     alloc: Global,
@@ -254,7 +258,7 @@ fn told_of(
     ensures { IfOk result (λ list. list.items ≡ told_of (each (λ row. row.now) rows.now) items.now known.now found.now) }
 {
     let mut list = all_said(alloc, rows, items, first(found, MOST_SHOWN))?;
-    add_no_task(alloc, &mut list, known)?;
+    add_no_task(alloc, &mut list, items, known)?;
     let more = found.len().saturating_sub(MOST_SHOWN);
     add_more(alloc, &mut list, Source::Program, more, "error", "errors")?;
     Ok(list)
@@ -306,7 +310,7 @@ fn is_on(line: Option<u32>, span: Option<Span>) -> bool
     }
 }
 
-/// Whether a diagnostic tells a fault.
+/// Whether a diagnostic reports a fault.
 fn tells(fault: AsmFault, said: &Diagnostic) -> bool
     ensures { result ≡ tells fault said.now }
 {
@@ -335,7 +339,7 @@ fn line_start(line: Option<u32>) -> Option<Span>
     }
 }
 
-/// What is said of a fault by itself.
+/// The diagnostic for a fault by itself.
 fn plain(alloc: Global, fault: AsmFault) -> Result<Diagnostic, AllocError>
     ensures { IfOk result (λ said. said ≡ plain fault) }
 {
@@ -355,7 +359,7 @@ fn plain(alloc: Global, fault: AsmFault) -> Result<Diagnostic, AllocError>
     }
 }
 
-/// All that is said of the items of a text.
+/// All diagnostics for the items of a text.
 #[tactic(auto, unfolding(crate::specs::Refusals::told))]
 fn told(alloc: Global, text: &[u8], items: &[Item]) -> Result<Vec<Diagnostic>, AllocError>
     requires { items.now ≡ tree_of text.now }
@@ -367,7 +371,7 @@ fn told(alloc: Global, text: &[u8], items: &[Item]) -> Result<Vec<Diagnostic>, A
     told_of(alloc, &rows, items, &known, &found)
 }
 
-/// The list with a fault, which is put first where the list does not tell it.
+/// The list with a fault, which is put first where the list does not report it.
 fn with_first(
     alloc: Global,
     fault: AsmFault,
@@ -381,8 +385,8 @@ fn with_first(
     Ok(list)
 }
 
-/// All that is said of a text whose first fault this is: an error for each of at most `MOST_SHOWN` mistakes in the order
-/// of the text, and how many more there are; the first fault is always among them.
+/// All diagnostics for a text whose first fault this is: an error for each of at most `MOST_SHOWN` mistakes in the
+/// order of the text, and how many more there are; the first fault is always among them.
 ///
 /// # Errors
 ///

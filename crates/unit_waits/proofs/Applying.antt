@@ -18,7 +18,7 @@ replay_leaves law p units s s' [] h = h
 replay_leaves law p units s s' (e ∷ es) h =
     replay_leaves law p units h.0 s' es h.2 ∙ ap (λ (x : State). after_all p x es) (law p units s h.0 e h.1)
 
--- a machine that has applied so many of some events, of which others are left
+-- a machine that has applied `count` of some events, of which others are left
 pub record HasApplied (old : MachineView) (all : List Event) (count : ℕ) (left : List Event) (m : MachineView) : Type 0 where
   pub kept : SameRing old m
   pub counted : length m.history ≡ length old.history + count
@@ -33,7 +33,7 @@ none_applied m all replay = record {
   replay = replay;
 }
 
--- the next event, and what comes behind it
+-- the next event, and what comes after it
 pub next_of : (events : List Event) (i : ℕ) (e : Event) → i < length events → e ≡ get_or events i e → drop i events ≡ e ∷ drop (i + 1) events
 next_of events i e within there =
     drop-cons events i e within

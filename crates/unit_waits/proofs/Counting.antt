@@ -33,7 +33,7 @@ counted_found cs w i c found is =
     let first = position-Some (λ (x : Count). is_alike x.first w) cs i c found in
     ap (λ (x : Count). slice_set cs i (with_one x)) is ∙ counted_at cs w c i first.0 first.1 first.2
 
--- behind all others
+-- after all others
 counted_last : (cs : List Count) (w : Waiting) (d : Count) → ((k : ℕ) → k < length cs → is_alike (get_or cs k d).first w ≡ false) → cs ++ one w ∷ [] ≡ counted cs w
 counted_last [] w d none = refl
 counted_last (c ∷ cs) w d none =

@@ -15,7 +15,7 @@ use Rattle.unit_waits.specs.Waits.{ends_step, waits, waits_from}
 use Rattle.unit_waits.specs.Steps.{IsStepDone}
 use Rattle.unit_waits.proofs.Walking.{none_found}
 
--- the machine did so many events, and comes to the step of this number
+-- the machine did `start` events, and comes to the step of this number
 pub record IsOn (a : Checked) (units : ℕ) (events : List Event) (start number : ℕ) (waited : List Waiting) (m : MachineView) : Type 0 where
   pub over : m.accepted ≡ a
   pub ring : units_of m ≡ units

@@ -20,7 +20,7 @@ module _ (p : Listing) (units step : ℕ) (s : State) (events : List Event) wher
       ap (λ (us : List Active). waits_of p units step s events (k + 1) us) (drop_all (k + 1) q (omega (arith, past.0)))
       ∙ sym (ap (λ (us : List Active). waits_of p units step s events k us) (drop_all k q past.0))
 
-  -- behind the last unit there is none
+  -- after the last unit there is none
   pub waits_past : (k : ℕ) (q : List Active) (front : List Waiting) → slice_get q k ≡ None
       → front ++ waits_behind (k + 1) q ≡ front ++ waits_behind k q
   waits_past k q front none = ap (λ (ws : List Waiting). front ++ ws) (past_by k q (slice_get_cases q k).1 none)
@@ -52,7 +52,7 @@ module _ (p : Listing) (units step : ℕ) (s : State) (events : List Event) wher
       ∙ ap (λ (ws : List Waiting). front ++ ws)
       (sym (waits_there k q u there ∙ ap (λ (b : Bool). cond b [] (waiting p units step s k u ∷ []) ++ rest) idle))
 
-  -- behind all units none is left
+  -- after all units none is left
   pub waits_all : (k : ℕ) (q : List Active) (front whole : List Waiting) → length q ≤ k → front ++ waits_behind k q ≡ whole → front ≡ whole
   waits_all k q front whole behind is =
       sym (append-nil front)

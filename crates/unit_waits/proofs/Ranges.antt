@@ -1,4 +1,4 @@
--- One part behind those of the numbers below it.
+-- One part after those of the numbers below it.
 use Rattle.std.proofs.Common.{◌≡◌, ℕ, zero, suc, ◌+◌, List, ◌++◌, ap, ◌∙◌, sym, append_assoc, append-nil, add-one, arith}
 use Rattle.std.specs.List.{range_with_len}
 use Rattle.std.specs.Prelude.{flat_map}

@@ -27,7 +27,7 @@ pub cut_replay : (p : Listing) (units : ℕ) (s s' : State) (n : ℕ) (es : List
 cut_replay p units s s' n es h =
     cut_list p units s s' (take n es) (drop n es) (subst (λ (xs : List Event). ReplaysFrom p units s xs s') (sym (take-append-drop n es)) h)
 
--- what comes behind the first events
+-- what comes after the first events
 behind : NextIsAfter → (p : Listing) (units : ℕ) (s t s' : State) (n : ℕ) (es : List Event) → t ≡ after_all p s (take n es)
     → ReplaysFrom p units s es s' → ReplaysFrom p units t (drop n es) s'
 behind law p units s t s' n es is h =

@@ -16,11 +16,11 @@ module _ (p : Listing) (units : ℕ) (s : State) (d : Event) where
   abbrev ends : Event → Bool
   ends e = ends_step (length s.queue) e
 
-  -- what is shown of a step with these events, and of the steps behind it
+  -- what is shown of a step with these events, and of the steps after it
   abbrev pub step_and_later : (events left : List Event) → List (List Shown)
   step_and_later events left = signals p units s events ∷ moments_from p units (after_all p s events) [] left
 
-  -- what is shown at the end, behind these events
+  -- what is shown at the end, after these events
   abbrev pub at_end : (events : List Event) → List (List Shown)
   at_end events = signals p units (after_all p s events) [] ∷ []
 

@@ -19,8 +19,7 @@ use Rattle.unit_waits.specs.Moments.{moments, moments_from}
 use Rattle.unit_waits.specs.Waveform.{time_text, times_from}
 use Rattle.unit_waits.proofs.Stepwise.{none_found, step_found}
 
--- the machine did so many events, and comes to the step of this time; with what is left, the text becomes the
--- whole
+-- the machine did `start` events, and comes to the step of this time; with what is left, the text becomes the whole
 pub record IsOn (a : Checked) (units : ℕ) (events : List Event) (start time : ℕ) (before : List Shown) (text whole : List ℕ) (m : MachineView) : Type 0 where
   pub over : m.accepted ≡ a
   pub ring : units_of m ≡ units
@@ -44,7 +43,7 @@ begins a units events text before m empty accepted ring none is replay = record 
   all = (λ i. text ++ times_from 0 (empty i) (moments_from a.program units (is i) [] events));
 }
 
--- what comes behind the first events
+-- what comes after the first events
 behind : NextIsAfter → (p : Listing) (units : ℕ) (s t s' : State) (n : ℕ) (es : List Event) → t ≡ after_all p s (take n es)
     → ReplaysFrom p units s es s' → ReplaysFrom p units t (drop n es) s'
 behind law p units s t s' n es is h =

@@ -15,7 +15,7 @@ module _ (p : Listing) (units step : ℕ) (s : State) (d : Event) where
   abbrev ends : Event → Bool
   ends e = ends_step (length s.queue) e
 
-  -- the waits of a step with these events, and those of the steps behind it
+  -- the waits of a step with these events, and those of the steps after it
   abbrev pub done_and_left : (events left : List Event) → List Waiting
   done_and_left events left = waits_in p units step s events ++ waits_from p units (suc step) (after_all p s events) [] left
 

@@ -1,5 +1,5 @@
--- Waits counted (own): those of one task, at one place and for one reason together, in the order in which the
--- first of each comes.
+-- Waits counted: those of one task, at one place and for one reason together, in the order in which the first of each
+-- comes.
 use Rattle.std.specs.Prelude.{ℕ, ◌+◌, ◌^◌, ◌<◌, Bool, true, false, not, ◌&&◌, nat_eq, if◌then◌else◌, List, [], ◌∷◌}
 use Rattle.std.specs.List.{fold}
 use Rattle.machine_model.specs.declared.event.Spot.{Spot}
@@ -15,7 +15,7 @@ is_same_place (Inside i) (Inside j) = nat_eq i j
 is_same_place (Stopped i) (Stopped j) = nat_eq i j
 is_same_place _ _ = false
 
--- the same register, owed by units of one task that both pass it on or both do not
+-- equal registers, owed by units of one task that both pass it on or both do not
 abbrev pub is_same_debt : (r : ℕ) → Owed → (q : ℕ) → Owed → Bool
 is_same_debt r o q d = nat_eq r q && nat_eq o.task d.task && (if o.is_sent then d.is_sent else not d.is_sent)
 

@@ -45,7 +45,7 @@ pub one_waits : waits count 3 five_steps ≡ wait 4 2 0 (Inside 0) (NeedsRegiste
 unfolding address index_of region effective least
 one_waits = refl
 
--- on two units, where the task behind the loop is predicted: what puts a word out waits to be the head, until
+-- on two units, where the task after the loop is predicted: what puts a word out waits to be the head, until
 -- it is squashed
 abbrev last_predicted : List Event
 last_predicted =

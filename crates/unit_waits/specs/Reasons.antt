@@ -1,5 +1,5 @@
--- What keeps a unit behind the head from going on (own): the first refusal of its next instruction, or, where it
--- has stopped, what it still has to send.
+-- What keeps a unit behind the head from going on: the first refusal of its next instruction, or, where it has
+-- stopped, what it still has to send.
 use Rattle.std.specs.Prelude.{ℕ, zero, suc, Bool, true, false, if◌then◌else◌, List, length, slice_get, is_some, is_none, Option, Some, None}
 use Rattle.task_descriptor.specs.Listing.{Listing}
 use Rattle.machine_model.specs.Machine.{Active, State, creates, pass, value}

@@ -22,8 +22,8 @@ Shown = Option ℕ
 abbrev pub last_word : State → Shown
 last_word s = slice_get s.output (length s.output - 1)
 
--- the number of the head's unit, the retired tasks, the instructions of these, the same with the head's, the
--- words that were put out, and the last of them
+-- the number of the head's unit, the retired tasks, their instructions, these with the head's, the words that were
+-- put out, and the last of them
 abbrev pub ring_signals : (units : ℕ) → State → List Shown
 ring_signals units s =
     Some (unit_at units s 0)
@@ -36,7 +36,7 @@ ring_signals units s =
 
 -- ---- a unit
 
--- the number of which bit r, below so many bits, is whether r passes a test
+-- the number of which bit r, below `bits` bits, is whether r passes a test
 abbrev pub bits_below : (ℕ → Bool) → (bits : ℕ) → ℕ
 bits_below test zero = 0
 bits_below test (suc r) = (if test r then 1 else 0) * 2 ^ r + bits_below test r
@@ -63,8 +63,8 @@ by_reason (HasToPass r owed) = (4, Some r)
 by_reason HasFinished = (5, None)
 by_reason CouldGoOn = (0, None)
 
--- the same of the unit at a position, in a step with these events; the head and a unit that does one of them
--- do not wait
+-- why the unit at a position waits in a step with these events, as `by_reason`; the head and a unit that does one of
+-- them do not wait
 abbrev pub wait_of : Listing → (units : ℕ) → State → List Event → (k : ℕ) → Active → ℕ × Shown
 wait_of p units s events k u =
     if nat_eq k 0 then (0, None)

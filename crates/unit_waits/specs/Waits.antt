@@ -1,5 +1,5 @@
--- Who waits in the steps of a history (own). In a run in steps each unit does at most one event in a step, the
--- head last, and the head always does one: so an event at position 0 ends a step.
+-- Who waits in the steps of a history. In a run in steps each unit does at most one event in a step, the head last,
+-- and the head always does one: so an event at position 0 ends a step.
 use Rattle.std.specs.Prelude.{ℕ, suc, List, [], ◌∷◌, ◌++◌, Bool, nat_eq, if◌then◌else◌, length, drop}
 use Rattle.std.specs.List.{fold, list_any}
 use Rattle.task_descriptor.specs.Listing.{Listing}
@@ -10,7 +10,7 @@ use Rattle.machine_model.specs.declared.event.Event.{Event}
 use Rattle.unit_waits.specs.declared.waiting.Waiting.{Waiting}
 use Rattle.unit_waits.specs.Reasons.{unit_at, reason_of}
 
--- the event ends a step that began with so many units at work
+-- the event ends a step that began with `active` units at work
 abbrev pub ends_step : (active : ℕ) → Event → Bool
 ends_step active e = nat_eq (position_of active e) 0
 

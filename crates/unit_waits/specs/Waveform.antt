@@ -1,5 +1,5 @@
--- The waveform of a history as a Value Change Dump (IEEE 1364-2005, section 18; which signals there are is an own
--- choice). One unit of time is one step. The identifier of a signal is its number, in decimal digits.
+-- The waveform of a history as a Value Change Dump (IEEE 1364-2005, section 18; this project chose the signals). One
+-- unit of time is one step. The identifier of a signal is its number, in decimal digits.
 use Rattle.std.specs.Prelude.{ℕ, suc, ◌+◌, ◌*◌, Bool, true, false, nat_eq, if◌then◌else◌, List, [], ◌∷◌, ◌++◌, length, flat_map, slice_get, codes, Option, Some, None}
 use Rattle.std.specs.List.{range_with_len}
 use Rattle.std.specs.Fmt.{decimal, digits}
@@ -94,7 +94,7 @@ is_same (Some m) (Some n) = nat_eq m n
 is_same None None = true
 is_same _ _ = false
 
--- a value is told unless it is the one before
+-- a value is written unless it is the one before
 abbrev pub told : (signal : ℕ) → (before : Option Shown) → (now : Shown) → List ℕ
 told signal None now = change_line signal now
 told signal (Some before) now = if is_same before now then [] else change_line signal now
@@ -120,6 +120,6 @@ abbrev pub times_from : (time : ℕ) → (before : List Shown) → List (List Sh
 times_from time before [] = []
 times_from time before (now ∷ later) = time_text time before now ++ times_from (suc time) now later
 
--- ---- the dump of a history of so many units
+-- ---- the dump of a history of `units` units
 unfoldable pub waveform_text : Listing → (units : ℕ) → (history : List Event) → List ℕ
 waveform_text p units history = header_text p units ++ times_from 0 [] (moments p units history)

@@ -6,7 +6,7 @@ ghost use Rattle.unit_waits.specs.Waits.{acts as acts_in, ends_step as ends_step
 
 use machine_model::event::Event;
 
-/// The position that an event is at, in a queue of so many units.
+/// The position that an event is at, in a queue of `active` units.
 fn position_of(active: u32, event: &Event) -> u32
     ensures { result ≡ position_of_event active event.now }
 {
@@ -22,7 +22,7 @@ fn position_of(active: u32, event: &Event) -> u32
     }
 }
 
-/// Whether an event ends a step that began with so many units at work.
+/// Whether an event ends a step that began with `active` units at work.
 fn ends_step(active: u32, event: &Event) -> bool
     ensures { result ≡ ends_step_of active event.now }
 {
@@ -45,7 +45,7 @@ pub fn last_of_step(active: u32, events: &[Event]) -> Option<usize>
     events.iter().position(|event| ends_step(active, event))
 }
 
-/// The events behind so many.
+/// The events after the first `start`.
 pub fn behind(history: &[Event], start: usize) -> &[Event]
     requires { start ≤ length history.now }
     ensures { result.now ≡ drop start history.now }

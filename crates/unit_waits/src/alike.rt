@@ -54,8 +54,8 @@ fn is_same_duty(register: Reg, owed: &Owed, other: &Reason) -> bool
     }
 }
 
-/// Whether two units wait for one reason.
-fn is_same_reason(reason: &Reason, other: &Reason) -> bool
+/// Whether two units wait for one reason. Where it is a register that is owed, the units that owe it may differ.
+pub fn is_same_reason(reason: &Reason, other: &Reason) -> bool
     ensures { result ≡ is_same_reason_as reason.now other.now }
 {
     match *reason {

@@ -157,7 +157,7 @@ fn write_rest(text: &mut String, units: u32) -> Result<(), AllocError>
     write_closing(text)
 }
 
-/// Adds the header of a dump for a program on so many units.
+/// Adds the header of a dump for a program on `units` units.
 pub(crate) fn write_header(
     text: &mut String,
     program: &Program,

@@ -3,7 +3,7 @@
 #![tactic(auto)]
 
 pub mod acting;
-mod alike;
+pub mod alike;
 mod changes;
 pub mod count;
 pub mod counts;

@@ -51,7 +51,7 @@ fn phase_of(spot: &Spot) -> u64
     }
 }
 
-/// The number of the reason of a unit whose next instruction needs a register that is owed so.
+/// The number of the reason of a unit whose next instruction needs a register, by whether that is on its way.
 fn number_of_need(owed: &Owed) -> u64
     ensures { result ≡ (if owed.now.is_sent then 2 else 1) }
 {
@@ -73,8 +73,8 @@ fn by_reason(reason: &Reason) -> (u64, Option<u64>)
     }
 }
 
-/// The same of the unit at a position, in a step with these events. The head and a unit that does one of them
-/// do not wait.
+/// Why the unit at a position waits in a step with these events, as `by_reason`. The head and a unit that does one of
+/// them do not wait.
 fn wait_of(
     accepted: &Accepted,
     machine: &Machine<'_>,
@@ -97,7 +97,7 @@ fn wait_of(
     by_reason(&reason(accepted, machine, units, position, unit))
 }
 
-/// What the signals of a unit at work show that waits so.
+/// The signals of a unit at work that waits for this reason and register.
 fn signals_at_work(unit: &Unit, number: u64, register: Option<u64>) -> [Option<u64>; OF_UNIT]
     ensures { result ≡ signals_at_work_of (active_of unit.now) (number, register) }
 {

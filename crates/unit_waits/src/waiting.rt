@@ -25,7 +25,7 @@ pub enum Reason {
     HasToPass(Reg, Owed),
     /// It has stopped and has sent all that its task may produce, and is not the head yet.
     HasFinished,
-    /// Nothing does. In a run in steps no unit waits so.
+    /// Nothing does. In a run in steps no unit waits for this reason.
     CouldGoOn,
 }
 

@@ -1,12 +1,11 @@
 //! The waveform of a run in steps.
 
-ghost use Rattle.std.specs.Prelude.{◌≡◌, ℕ, ◌+◌, ◌<◌, ◌≤◌, ◌++◌, [], length, IfOk, OnOk};
+ghost use Rattle.std.specs.Prelude.{◌≡◌, ◌<◌, ◌≤◌, ◌++◌, [], length, IfOk, OnOk};
 ghost use Rattle.std.specs.String.{string_bytes};
 ghost use Rattle.machine_model.specs.Machine.{State};
 ghost use Rattle.machine_model.specs.Answer.{most_events};
-ghost use Rattle.machine_model.specs.Replay.{Replays, ReplaysFrom};
-ghost use Rattle.sequencer.specs.Machines.{SameRing, state, units_of};
-ghost use Rattle.unit_waits.specs.Waits.{after_all};
+ghost use Rattle.machine_model.specs.Replay.{Replays};
+ghost use Rattle.sequencer.specs.Machines.{state};
 ghost use Rattle.unit_waits.specs.Signals.{signals as signals_of};
 ghost use Rattle.unit_waits.specs.Moments.{moments};
 ghost use Rattle.unit_waits.specs.Waveform.{time_text, times_from, waveform_text};
@@ -23,55 +22,27 @@ use mark_checker::accept::Accepted;
 use sequencer::machine::Machine;
 use std::alloc::{AllocError, Global};
 
-/// Adds the time of a step with these events, before which the signals showed this, and does the step. Answers
-/// what the signals show. An error says that memory was refused.
-fn show_step(
+/// Adds a time, before which the signals showed this, with a step of these events. Answers what the signals show. An
+/// error says that memory was refused.
+fn show(
     alloc: Global,
     text: &mut String,
     accepted: &Accepted,
-    machine: &mut Machine<'_>,
+    machine: &Machine<'_>,
     units: u32,
     time: u32,
     before: &[Option<u64>],
     events: &[Event],
 ) -> Result<Vec<Option<u64>>, AllocError>
-    requires over { machine.old.accepted ≡ accepted.now }
-    requires units { (0 < units) × (units ≤ 16) × (units_of machine.old ≡ units) }
-    requires replay { (s : State) × ReplaysFrom machine.old.accepted.program (units_of machine.old) (state machine.old) events.now s }
-    requires room { length machine.old.history + length events.now ≤ most_events }
-    ensures shown { IfOk result (λ shown. shown.items ≡ signals_of accepted.now.program units (state machine.old) events.now) }
-    ensures text { IfOk result (λ shown. string_bytes text.new ≡ string_bytes text.old ++ time_text time before.now shown.items) }
-    ensures state { OnOk result (state machine.new ≡ after_all machine.old.accepted.program (state machine.old) events.now) }
-    ensures count { OnOk result (length machine.new.history ≡ length machine.old.history + length events.now) }
-    ensures kept { SameRing machine.old machine.new }
+    requires over { machine.now.accepted ≡ accepted.now }
+    requires units { (0 < units) × (units ≤ 16) }
+    ensures shown { IfOk result (λ shown. shown.items ≡ signals_of accepted.now.program units (state machine.now) events.now) }
+    ensures text { OnOk result (string_bytes text.new ≡ string_bytes text.old
+        ++ time_text time before.now (signals_of accepted.now.program units (state machine.now) events.now)) }
 {
     let shown = signals(alloc, accepted, machine, units, events)?;
     write_time(text, time, before, &shown)?;
-    apply_all(machine, events)?;
     Ok(shown)
-}
-
-/// Does the events that no step ends, and adds the time of the end. An error says that memory was refused.
-fn show_end(
-    alloc: Global,
-    text: &mut String,
-    accepted: &Accepted,
-    machine: &mut Machine<'_>,
-    units: u32,
-    time: u32,
-    before: &[Option<u64>],
-    left: &[Event],
-) -> Result<(), AllocError>
-    requires over { machine.old.accepted ≡ accepted.now }
-    requires units { (0 < units) × (units ≤ 16) }
-    requires replay { (s : State) × ReplaysFrom machine.old.accepted.program (units_of machine.old) (state machine.old) left.now s }
-    requires room { length machine.old.history + length left.now ≤ most_events }
-    ensures { OnOk result (string_bytes text.new ≡ string_bytes text.old
-        ++ time_text time before.now (signals_of accepted.now.program units (after_all accepted.now.program (state machine.old) left.now) [])) }
-{
-    apply_all(machine, left)?;
-    let shown = signals(alloc, accepted, machine, units, &[])?;
-    write_time(text, time, before, &shown)
 }
 
 /// Adds the times of a history. An error says that memory was refused.
@@ -96,49 +67,28 @@ fn write_times(
     while start < history.len() {
         let left = behind(history, start);
         let Some(last) = last_of_step(machine.active(), left) else {
-            return show_end(
-                alloc,
-                text,
-                accepted,
-                &mut machine,
-                units,
-                time,
-                &before,
-                left,
-            );
+            apply_all(&mut machine, left)?;
+            show(alloc, text, accepted, &machine, units, time, &before, &[])?;
+            return Ok(());
         };
         let (events, _) = left.split_at(last + 1);
-        let shown = show_step(
-            alloc,
-            text,
-            accepted,
-            &mut machine,
-            units,
-            time,
-            &before,
-            events,
+        let shown = show(
+            alloc, text, accepted, &machine, units, time, &before, events,
         )?;
+        apply_all(&mut machine, events)?;
         before = shown;
         start += last + 1;
         time += 1;
     }
-    show_end(
-        alloc,
-        text,
-        accepted,
-        &mut machine,
-        units,
-        time,
-        &before,
-        &[],
-    )
+    show(alloc, text, accepted, &machine, units, time, &before, &[])?;
+    Ok(())
 }
 
-/// The waveform of a history of so many units, 1 to 16, at the start of an accepted program, as a Value Change
-/// Dump. One unit of time is one step. At time N stands what the signals show in step N, counted from 0, by the
-/// state with which the step begins, and at the last time what they show by the state that the history leaves; a
-/// signal that shows what it showed before is left out. Each event of the history is allowed where it comes, and
-/// there are at most 1,000,000. An error says that memory was refused.
+/// The waveform of a history of `units` units, 1 to 16, at the start of an accepted program, as a Value Change Dump.
+/// One unit of time is one step. At time N stands what the signals show in step N, counted from 0, by the state with
+/// which the step begins, and at the last time what they show by the state that the history leaves; a signal that
+/// shows what it showed before is left out. Each event of the history is allowed where it comes, and there are at
+/// most 1,000,000. An error says that memory was refused.
 #[tactic(auto, unfolding(crate::specs::Waveform::waveform_text))]
 pub fn waveform(
     alloc: Global,

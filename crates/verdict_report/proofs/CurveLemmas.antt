@@ -1,4 +1,4 @@
--- What is said of the runs, one after another.
+-- The lines about the runs, one after another.
 use Rattle.std.proofs.Common.{◌≡◌, ◌≤◌, ◌+◌, ◌-◌, ◌∙◌, ℕ, zero, suc, Bool, true, false, List, [], ◌++◌, Option, refl, sym, ap, subst, append_assoc, append-nil, add-one, add-zero, arith, true≢false}
 use Rattle.std.proofs.Math.Nat.{add-suc}
 use Rattle.std.proofs.lemmas.Bool.{false≢true}
@@ -8,7 +8,7 @@ use Rattle.verdict_report.specs.Writing.{Begins}
 use Rattle.verdict_report.specs.CurveProgress.{IsSaidIf, run_line, run_lines}
 use Rattle.verdict_report.proofs.BeginsLemmas.{whole, kept, first, next}
 
--- nothing has been said yet
+-- nothing has been written yet
 pub said_nothing : (asked : Bool) (a : Option (List ℕ)) → IsSaidIf asked asked [] a a
 said_nothing asked a = record {
   whole = λ is. (is, Appends-nil a);
@@ -16,7 +16,7 @@ said_nothing asked a = record {
   silent = λ _. Keeps-refl a;
 }
 
--- a line more is said, or stays unsaid
+-- a line more is written, or stays unwritten
 pub said_more : (asked told told' : Bool) (a b c : Option (List ℕ)) (text line : List ℕ)
     → IsSaidIf asked told text a b → IsSaidIf told told' line b c → IsSaidIf asked told' (text ++ line) a c
 said_more asked true told' a b c text line h k = record {
@@ -30,7 +30,7 @@ said_more asked false told' a b c text line h k = record {
   silent = λ no. Keeps-trans a b c (h.silent no) (k.silent refl);
 }
 
--- what is said of one run more
+-- the line about one run more
 pub lines_of_one_more : (name : List ℕ) (of count : ℕ)
     → run_lines name of (count + 1) ≡ run_lines name of count ++ run_line name (count + 1) of
 lines_of_one_more name of count = ap (λ (n : ℕ). run_lines name of n) (add-one count)
@@ -47,7 +47,7 @@ lines_more name of some (suc more) =
       ap (λ n. run_lines name of n) (add-suc some more) ∙ (ap (λ l. l ++ line) is ∙ append_assoc (run_lines name of some) rest line),
     )
 
--- what has been said so far is a beginning of all
+-- what has been written so far is a beginning of all
 pub begun_longer : (a b : Option (List ℕ)) (name : List ℕ) (of some most : ℕ) → some ≤ most
     → Begins a b (run_lines name of some) → Begins a b (run_lines name of most)
 begun_longer a b name of some most few h =
@@ -59,7 +59,7 @@ begun_longer a b name of some most few h =
 pub begun_with_nothing : (a : Option (List ℕ)) (text : List ℕ) → Begins a a text
 begun_with_nothing a text = first a a [] text (whole a a [] (Appends-nil a))
 
--- what was said so far is a beginning of all
+-- what was written so far is a beginning of all
 pub begun_so_far : (asked is_told : Bool) (a b : Option (List ℕ)) (name : List ℕ) (last most count : ℕ) → last ≡ most → count ≤ last
     → IsSaidIf asked is_told (run_lines name last count) a b → asked ≡ true → Begins a b (run_lines name most most)
 begun_so_far asked is_told a b name last most count is few h for_it =

@@ -47,7 +47,7 @@ pub play_more : (p : Listing) (units : ℕ) (events : List Event) (i : ℕ) (d :
 play_more p units events i d h =
     fold_more (play_event p units) (record { answers = []; state = opening p; count = 0 }) events i d h
 
--- one more answer behind others, and so one more line of the text
+-- one more answer after others, and so one more line of the text
 enumerated_more : {X : Type 0} (n k : ℕ) (xs : List X) (x : X) → k ≡ n + length xs → enumerate_from n xs ++ (k, x) ∷ [] ≡ enumerate_from n (xs ++ x ∷ [])
 enumerated_more n k [] x h = ap (λ (j : ℕ). (j, x) ∷ []) (omega (arith, h))
 enumerated_more n k (y ∷ xs) x h = ap (λ t. (n, y) ∷ t) (enumerated_more (n + 1) k xs x (omega (arith, h)))

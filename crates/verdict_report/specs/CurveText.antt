@@ -1,4 +1,4 @@
--- The text of `curve`: what the runs of a program in steps come to, on 1, 2, 3 units and more.
+-- The text of `curve`: the results of the runs of a program in steps, on 1, 2, 3 units and more.
 use Rattle.std.specs.Prelude.{◌≡◌, ℕ, List, [], ◌∷◌, nat_eq, if◌then◌else◌}
 use Rattle.task_descriptor.specs.Listing.{Listing}
 use Rattle.machine_model.specs.declared.event.Standing.{Standing}
@@ -14,7 +14,7 @@ use Rattle.report_texts.specs.OutputTexts.{Report}
 use Rattle.report_texts.specs.JudgedTexts.{Judgement, refused, accepted, judgement}
 use Rattle.verdict_report.specs.RunText.{predictor_of}
 
--- the status that `run` has for a run that ended so; one that still goes on was out of budget
+-- the status that `run` has for a run with this standing; one that still goes on was out of budget
 abbrev pub end_status : Standing → ℕ
 end_status Running = 3
 end_status Halted = 0

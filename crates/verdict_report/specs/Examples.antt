@@ -48,11 +48,11 @@ count_certificate = lines (
 
 -- that program and its certificate, with a script
 abbrev replayed : ℕ → List (List ℕ) → Report
-replayed units script = replay_text emit.Answers units None count_text count_certificate (lines script)
+replayed units script = replay_text emit.Answers units None (codes "count.s") count_text count_certificate (lines script)
 
 -- what is left to be computed once the program text is read
 abbrev counting : ℕ → List (List ℕ) → Result Listing AsmFault → Report
-counting units script read = goes_on (script_report emit.Answers units None count_text (lines script)) (program_judged read count_certificate)
+counting units script read = goes_on (script_report emit.Answers units None (codes "count.s") count_text (lines script)) (program_judged read count_certificate)
 
 -- the second unit waits for register 8 until it has been transferred
 abbrev waiting : List (List ℕ)
@@ -64,10 +64,10 @@ unfolding digits each address index_of region effective least
 count_waits = ap (counting 2 waiting) count_is
 
 -- the first three of these events
-pub count_until : replay_text emit.Answers 2 (Some 3) count_text count_certificate (lines waiting)
+pub count_until : replay_text emit.Answers 2 (Some 3) [] count_text count_certificate (lines waiting)
     ≡ report (codes "1 ok" ∷ codes "2 ok" ∷ codes "3 refused 6 Waiting $8" ∷ codes "retired 0 c 0 h 0" ∷ codes "running" ∷ []) 0
 unfolding digits each address index_of region effective least
-count_until = ap (λ (r : Result Listing AsmFault). goes_on (script_report emit.Answers 2 (Some 3) count_text (lines waiting)) (program_judged r count_certificate)) count_is
+count_until = ap (λ (r : Result Listing AsmFault). goes_on (script_report emit.Answers 2 (Some 3) [] count_text (lines waiting)) (program_judged r count_certificate)) count_is
 
 pub no_events : replayed 2 [] ≡ report (codes "retired 0 c 0 h 0" ∷ codes "running" ∷ []) 0
 unfolding digits each address index_of region effective least
@@ -90,13 +90,13 @@ lacking_certificate = lines (
     ∷ [])
 
 -- what the rules find comes before the script
-pub findings_first : replay_text emit.Answers 2 None count_text lacking_certificate (codes "exec")
+pub findings_first : replay_text emit.Answers 2 None [] count_text lacking_certificate (codes "exec")
     ≡ report (codes "A 1 rule 3 $9" ∷ codes "refused 1" ∷ []) 1
 unfolding digits each
-findings_first = ap (λ (r : Result Listing AsmFault). goes_on (script_report emit.Answers 2 None count_text (codes "exec")) (program_judged r lacking_certificate)) count_is
+findings_first = ap (λ (r : Result Listing AsmFault). goes_on (script_report emit.Answers 2 None [] count_text (codes "exec")) (program_judged r lacking_certificate)) count_is
 
 -- a run that ends at an address that no task lists
-pub jump_is_unlisted : events_report emit.Answers 1 [] unlisted_jump jump_unlisted
+pub jump_is_unlisted : events_report emit.Answers 1 [] [] unlisted_jump jump_unlisted
     ≡ report (codes "1 ok" ∷ codes "2 ok" ∷ codes "3 ok" ∷ codes "4 ok" ∷ codes "5 refused 12 Unfinished $31" ∷ codes "6 ok" ∷ codes "7 refused 14 NotListed" ∷ codes "8 ok" ∷ codes "9 refused 1 Ended" ∷ codes "retired 0 c 0 h 3" ∷ codes "unlisted 00400010" ∷ []) 1
 unfolding digits address index_of region effective least
 jump_is_unlisted = refl

@@ -45,12 +45,12 @@ IsReportOf (Explain name certificate script warnings format colors) texts report
 IsReportOf (Check source workers) texts report =
     OfCertificate source texts.program.items texts.certificate (λ certificate. report ≡ check_text texts.program.items certificate)
 IsReportOf (Replay source units emit until) texts report =
-    OfCertificate source texts.program.items texts.certificate (λ certificate. report ≡ replay_text emit units until texts.program.items certificate texts.script.items)
+    OfCertificate source texts.program.items texts.certificate (λ certificate. report ≡ replay_text emit units until (string_bytes texts.name) texts.program.items certificate texts.script.items)
 IsReportOf (ReplayStrictly source units) texts report =
     OfCertificate source texts.program.items texts.certificate (λ certificate. report ≡ strict_text units texts.program.items certificate texts.script.items)
 IsReportOf (Run source schedule units workers budget predict emit) texts report =
     OfCertificate source texts.program.items texts.certificate (λ certificate.
-    IsRunText schedule units budget predict emit texts.program.items certificate report)
+    IsRunText schedule units budget predict emit (string_bytes texts.name) texts.program.items certificate report)
 IsReportOf (Curve source units budget predict emit) texts report =
     OfCertificate source texts.program.items texts.certificate (λ certificate.
     IsCurveText units budget predict emit texts.program.items certificate report)

@@ -1,5 +1,5 @@
--- The text of `replay`: what a machine answers to each event of a script, and how it then stands; or what
--- the tasks came to that the script assigned.
+-- The text of `replay`: what a machine answers to each event of a script, and how it then stands; or how the tasks
+-- ended that the script assigned.
 use Rattle.std.specs.Prelude.{ℕ, List, [], ◌∷◌, ◌++◌, Option, None, Some, Result, Ok, Err, codes, flat_map, take}
 use Rattle.std.specs.List.{enumerate_from}
 use Rattle.std.specs.Fmt.{decimal}
@@ -18,8 +18,10 @@ use Rattle.event_json.specs.Timeline.{timeline_text}
 use Rattle.event_json.specs.declared.clock.Clock.TheVariants as clock
 use Rattle.event_trace.specs.Entries.{places_of}
 use Rattle.event_trace.specs.Trace.{trace_text}
+use Rattle.event_json.specs.declared.source.EventSource.TheVariants.{Script}
 use Rattle.event_json.specs.Json.{json_text}
 use Rattle.event_json.specs.declared.last_line.LastLine.TheVariants.{AsItStands}
+use Rattle.event_trace.specs.Ring.{ring_in}
 use Rattle.strict_replay.specs.StandText.{stand_text}
 use Rattle.jobs.specs.declared.job.ReplayEmit.{ReplayEmit}
 use Rattle.jobs.specs.declared.job.ReplayEmit.TheVariants as emit
@@ -37,7 +39,7 @@ abbrev pub answer_text : Result (Unit {0}) Refused → List ℕ
 answer_text (Ok done) = codes "ok"
 answer_text (Err refusal) = codes "refused " ++ refusal_text refusal
 
--- an answer behind the number of its event
+-- an answer after the number of its event
 abbrev pub answer_line : ℕ × Result (Unit {0}) Refused → List ℕ
 answer_line numbered = decimal numbered.0 ++ (codes " " ++ (answer_text numbered.1 ++ 10 ∷ []))
 
@@ -56,37 +58,37 @@ allowed (event ∷ events) (Err refusal ∷ answers) = allowed events answers
 -- came to that the allowed events assigned, as `run` sums them up; or a picture of the allowed events; or
 -- the trace of the events, by the lines of the program text, or the same in JSON; or a timeline of the allowed
 -- events; or how the machine stands, and its units
-abbrev pub played_text : ReplayEmit → (units : ℕ) → (text : List ℕ) → Listing → List Event → Played → List ℕ
-played_text emit.Answers units text p events played = answers_text played.answers ++ machine_text played.state
-played_text emit.Summary units text p events played = summary_text p (lives_of units (allowed events played.answers))
-played_text emit.Picture units text p events played = picture_text p units (allowed events played.answers)
-played_text emit.Trace units text p events played = trace_text p (places_of text) units events
-played_text emit.Json units text p events played = json_text p (places_of text) units events AsItStands
-played_text emit.Timeline units text p events played = timeline_text p units clock.Events (allowed events played.answers)
-played_text emit.State units text p events played = machine_text played.state ++ stand_text p (places_of text) played.state
+abbrev pub played_text : ReplayEmit → (units : ℕ) → (name text : List ℕ) → Listing → List Event → Played → List ℕ
+played_text emit.Answers units name text p events played = answers_text played.answers ++ machine_text played.state
+played_text emit.Summary units name text p events played = summary_text p (lives_of units (allowed events played.answers))
+played_text emit.Picture units name text p events played = picture_text name p units (allowed events played.answers)
+played_text emit.Trace units name text p events played = trace_text p (places_of text) units events
+played_text emit.Json units name text p events played = json_text name Script p (places_of text) units events AsItStands
+played_text emit.Timeline units name text p events played = timeline_text p units clock.Events (allowed events played.answers)
+played_text emit.State units name text p events played = machine_text played.state ++ stand_text p (places_of text) (ring_in units played.state) played.state
 
 -- what `replay` writes of the events of a script, where an event that is refused changes nothing
-abbrev pub events_report : ReplayEmit → (units : ℕ) → (text : List ℕ) → Listing → List Event → Report
-events_report emitted units text p events =
+abbrev pub events_report : ReplayEmit → (units : ℕ) → (name text : List ℕ) → Listing → List Event → Report
+events_report emitted units name text p events =
     let played = play p units events in
     record {
-      bytes = played_text emitted units text p events played;
+      bytes = played_text emitted units name text p events played;
       status = standing_status played.state.outcome;
     }
 
--- the events that are played: all, or the first so many
+-- the events that are played: all, or the first `until`
 abbrev pub first_events : (until : Option ℕ) → List Event → List Event
 first_events None events = events
 first_events (Some most) events = take most events
 
-abbrev pub script_read : ReplayEmit → (units : ℕ) → (until : Option ℕ) → (text : List ℕ) → Listing → Result (List Event) ScriptFault → Report
-script_read emitted units until text p (Ok events) = events_report emitted units text p (first_events until events)
-script_read emitted units until text p (Err fault) = script_refused fault
+abbrev pub script_read : ReplayEmit → (units : ℕ) → (until : Option ℕ) → (name text : List ℕ) → Listing → Result (List Event) ScriptFault → Report
+script_read emitted units until name text p (Ok events) = events_report emitted units name text p (first_events until events)
+script_read emitted units until name text p (Err fault) = script_refused fault
 
--- what `replay` writes of the text of a program in which nothing is found, and the text of a script
-abbrev pub script_report : ReplayEmit → (units : ℕ) → (until : Option ℕ) → (text script : List ℕ) → Listing → Report
-script_report emitted units until text script p = script_read emitted units until text p (script_of p script)
+-- what `replay` writes of the text of a program of this name in which nothing is found, and the text of a script
+abbrev pub script_report : ReplayEmit → (units : ℕ) → (until : Option ℕ) → (name text script : List ℕ) → Listing → Report
+script_report emitted units until name text script p = script_read emitted units until name text p (script_of p script)
 
--- what `replay` writes of a program text, the text of its certificate and the text of a script
-abbrev pub replay_text : ReplayEmit → (units : ℕ) → (until : Option ℕ) → (program certificate script : List ℕ) → Report
-replay_text emitted units until program certificate script = judged (script_report emitted units until program script) program certificate
+-- what `replay` writes of a program text, the name of the program, the text of its certificate and the text of a script
+abbrev pub replay_text : ReplayEmit → (units : ℕ) → (until : Option ℕ) → (name program certificate script : List ℕ) → Report
+replay_text emitted units until name program certificate script = judged (script_report emitted units until name program script) program certificate

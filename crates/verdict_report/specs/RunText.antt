@@ -1,5 +1,5 @@
--- The text of `run`: what a run by threads or in steps comes to. Which run by threads it is
--- depends on the threads; each is a list of allowed events. A run in steps is that of the schedule.
+-- The text of `run`: the result of a run by threads or in steps. Which run by threads it is depends on the threads;
+-- each is a list of allowed events. A run in steps is that of the schedule.
 use Rattle.std.specs.Prelude.{◌≡◌, ◌↔◌, ◌≤◌, ℕ, List, [], ◌∷◌, ◌++◌, Option, Some, None, Ok, length, codes}
 use Rattle.std.specs.Fmt.{decimal}
 use Rattle.task_descriptor.specs.Listing.{Listing}
@@ -21,6 +21,8 @@ use Rattle.event_trace.specs.Entries.{places_of}
 use Rattle.event_trace.specs.Trace.{trace_text}
 use Rattle.wait_table.specs.TableText.{waits_text}
 use Rattle.unit_waits.specs.Waveform.{waveform_text}
+use Rattle.event_json.specs.declared.source.EventSource.{EventSource}
+use Rattle.event_json.specs.declared.source.EventSource.TheVariants as source
 use Rattle.event_json.specs.Json.{json_text}
 use Rattle.event_json.specs.declared.last_line.LastLine.{LastLine}
 use Rattle.event_json.specs.declared.last_line.LastLine.TheVariants as last_line
@@ -48,8 +50,8 @@ pub record Run : Type 0 where
   pub how : How
   pub steps : Option ℕ
 
--- a run of a program: each event is allowed where it comes; it has ended exactly where the
--- machine does not go on, and was out of budget only with as many events
+-- a run of a program: each event is allowed where it comes; it has ended exactly where the machine does not go on,
+-- and was out of budget only with at least `budget` events
 pub record IsRunOf (p : Listing) (units budget : ℕ) (run : Run) : Type 0 where
   pub replay : Replays p units run.history run.state
   pub ended : (run.how ≡ Ended) ↔ (run.state.outcome ≡ Running → ⊥)
@@ -61,7 +63,7 @@ predictor_of prediction.First = predictor.First
 predictor_of prediction.Last = predictor.Last
 predictor_of (prediction.List numbers) = predictor.Script (record { list = numbers; at = 0 })
 
--- the run went in so many steps, and its events are theirs
+-- the run went in `count` steps, and its events are theirs
 pub record IsInSteps (p : Listing) (units budget : ℕ) (predict : Prediction) (run : Run) : Type 0 where
   pub count : ℕ
   pub steps : run.steps ≡ Some count
@@ -92,6 +94,11 @@ abbrev pub clock_of : Option ℕ → Clock
 clock_of None = clock.Events
 clock_of (Some count) = clock.Steps
 
+-- who chose its events: its units, in steps, or else each with a thread
+abbrev pub source_of : Option ℕ → EventSource
+source_of None = source.Threads
+source_of (Some count) = source.Steps
+
 -- what the last line in JSON says: how a run that has ended stands, or that it was out of budget
 abbrev pub last_line_of : How → LastLine
 last_line_of Ended = last_line.AsItStands
@@ -100,32 +107,32 @@ last_line_of OutOfBudget = last_line.OutOfBudget
 -- what is written of a run: its end; its history as a script, which is read as that history; or what the
 -- tasks that it assigned came to, and its steps; or a picture of its history, by events or by steps; or the trace of its history, by
 -- the lines of the program text, or the same in JSON; or the table of its waits, its waveform or its timeline
-abbrev pub IsWrittenOf : RunEmit → (units : ℕ) → Prediction → (text : List ℕ) → Listing → Run → List ℕ → Type 0
-IsWrittenOf emit.Report units predict text p run bytes = bytes ≡ ending_text run.how run.state
-IsWrittenOf emit.Script units predict text p run bytes = (bytes ≡ script_text p run.history) × (script_of p bytes ≡ Ok run.history)
-IsWrittenOf emit.ScriptWithValues units predict text p run bytes = bytes ≡ valued_script p units run.history
-IsWrittenOf emit.Summary units predict text p run bytes = bytes ≡ summary_text p (lives_of units run.history) ++ steps_text run.steps run.state
-IsWrittenOf emit.Picture units predict text p run bytes = bytes ≡ picture_text p units run.history
-IsWrittenOf emit.StepPicture units predict text p run bytes = bytes ≡ step_picture_text p units predict run.state.outcome run.history
-IsWrittenOf emit.Trace units predict text p run bytes = bytes ≡ trace_text p (places_of text) units run.history
-IsWrittenOf emit.Json units predict text p run bytes = bytes ≡ json_text p (places_of text) units run.history (last_line_of run.how)
-IsWrittenOf emit.Waits units predict text p run bytes = bytes ≡ waits_text p (places_of text) units run.history
-IsWrittenOf emit.Waveform units predict text p run bytes = bytes ≡ waveform_text p units run.history
-IsWrittenOf emit.Timeline units predict text p run bytes = bytes ≡ timeline_text p units (clock_of run.steps) run.history
+abbrev pub IsWrittenOf : RunEmit → (units : ℕ) → Prediction → (name text : List ℕ) → Listing → Run → List ℕ → Type 0
+IsWrittenOf emit.Report units predict name text p run bytes = bytes ≡ ending_text run.how run.state
+IsWrittenOf emit.Script units predict name text p run bytes = (bytes ≡ script_text p run.history) × (script_of p bytes ≡ Ok run.history)
+IsWrittenOf emit.ScriptWithValues units predict name text p run bytes = bytes ≡ valued_script p units run.history
+IsWrittenOf emit.Summary units predict name text p run bytes = bytes ≡ summary_text p (lives_of units run.history) ++ steps_text run.steps run.state
+IsWrittenOf emit.Picture units predict name text p run bytes = bytes ≡ picture_text name p units run.history
+IsWrittenOf emit.StepPicture units predict name text p run bytes = bytes ≡ step_picture_text name p units predict run.state.outcome run.history
+IsWrittenOf emit.Trace units predict name text p run bytes = bytes ≡ trace_text p (places_of text) units run.history
+IsWrittenOf emit.Json units predict name text p run bytes = bytes ≡ json_text name (source_of run.steps) p (places_of text) units run.history (last_line_of run.how)
+IsWrittenOf emit.Waits units predict name text p run bytes = bytes ≡ waits_text p (places_of text) units run.history
+IsWrittenOf emit.Waveform units predict name text p run bytes = bytes ≡ waveform_text p units run.history
+IsWrittenOf emit.Timeline units predict name text p run bytes = bytes ≡ timeline_text p units (clock_of run.steps) run.history
 
--- the report of some run of a program in which nothing is found, and which this text spells
-pub record IsRunReport (schedule : Schedule) (units budget : ℕ) (predict : Prediction) (emitted : RunEmit) (text : List ℕ) (p : Listing) (report : Report) : Type 0 where
+-- the report of some run of a program of this name in which nothing is found, and which this text spells
+pub record IsRunReport (schedule : Schedule) (units budget : ℕ) (predict : Prediction) (emitted : RunEmit) (name text : List ℕ) (p : Listing) (report : Report) : Type 0 where
   pub run : Run
   pub right : IsRunOf p units budget run
   pub scheduled : IsScheduled schedule p units budget predict run
-  pub written : IsWrittenOf emitted units predict text p run report.bytes
+  pub written : IsWrittenOf emitted units predict name text p run report.bytes
   pub answered : report.status ≡ ending_status run.how run.state
 
-abbrev pub IsRunJudged : Schedule → (units budget : ℕ) → Prediction → RunEmit → (text : List ℕ) → Judgement → Report → Type 0
-IsRunJudged schedule units budget predict emitted text (refused said) report = report ≡ said
-IsRunJudged schedule units budget predict emitted text (accepted p) report = IsRunReport schedule units budget predict emitted text p report
+abbrev pub IsRunJudged : Schedule → (units budget : ℕ) → Prediction → RunEmit → (name text : List ℕ) → Judgement → Report → Type 0
+IsRunJudged schedule units budget predict emitted name text (refused said) report = report ≡ said
+IsRunJudged schedule units budget predict emitted name text (accepted p) report = IsRunReport schedule units budget predict emitted name text p report
 
--- what `run` may write of a program text and the text of its certificate
-abbrev pub IsRunText : Schedule → (units budget : ℕ) → Prediction → RunEmit → (program certificate : List ℕ) → Report → Type 0
-IsRunText schedule units budget predict emitted program certificate report =
-    IsRunJudged schedule units budget predict emitted program (judgement program certificate) report
+-- what `run` may write of a program text, the name of the program and the text of its certificate
+abbrev pub IsRunText : Schedule → (units budget : ℕ) → Prediction → RunEmit → (name program certificate : List ℕ) → Report → Type 0
+IsRunText schedule units budget predict emitted name program certificate report =
+    IsRunJudged schedule units budget predict emitted name program (judgement program certificate) report

@@ -1,5 +1,6 @@
 //! The jobs that may take threads, done on the caller's: they need no runtime.
 ghost use Rattle.std.specs.Prelude.{◌≡◌, IfOk};
+ghost use Rattle.std.specs.String.{string_bytes};
 ghost use Rattle.jobs.specs.declared.job.Schedule.TheVariants.{Steps};
 ghost use Rattle.report_texts.specs.CertificateTexts.{OfCertificate};
 ghost use Rattle.report_texts.specs.CheckText.{check_text};
@@ -47,7 +48,7 @@ pub struct StepsRun<'a> {
     pub emit: RunEmit,
 }
 
-/// What `run --schedule steps` writes of a program text and the text of its certificate.
+/// What `run --schedule steps` writes of a program text, the name of the program and the text of its certificate.
 ///
 /// # Errors
 ///
@@ -59,24 +60,26 @@ pub fn run_alone(
     texts: &Texts,
 ) -> Result<JobReport, AllocError>
     ensures { IfOk result (λ report. OfCertificate source texts.now.program.items texts.now.certificate (λ certificate.
-        IsRunText Steps steps.now.units steps.now.budget steps.now.predict.now steps.now.emit texts.now.program.items certificate report)) }
+        IsRunText Steps steps.now.units steps.now.budget steps.now.predict.now steps.now.emit (string_bytes texts.now.name) texts.now.program.items certificate report)) }
 {
     match judge(alloc, source, texts)? {
         Judged::Refused(report) => Ok(report),
         Judged::Accepted(accepted) => {
-            run_accepted(alloc, steps, texts.program.as_slice(), &accepted)
+            let name = texts.name.as_str();
+            run_accepted(alloc, steps, name, texts.program.as_slice(), &accepted)
         }
     }
 }
 
-// What `run --schedule steps` writes of an accepted program with its text.
+// What `run --schedule steps` writes of an accepted program with its name and text.
 fn run_accepted(
     alloc: Global,
     steps: &StepsRun<'_>,
+    name: &str,
     text: &[u8],
     accepted: &Accepted,
 ) -> Result<JobReport, AllocError>
-    ensures { IfOk result (λ report. IsRunReport Steps steps.now.units steps.now.budget steps.now.predict.now steps.now.emit text.now accepted.now.program report) }
+    ensures { IfOk result (λ report. IsRunReport Steps steps.now.units steps.now.budget steps.now.predict.now steps.now.emit name.now text.now accepted.now.program report) }
 {
     let ran = run_in_steps(alloc, steps.units, steps.budget, steps.predict, accepted)?;
     report_of_run(
@@ -85,6 +88,7 @@ fn run_accepted(
         steps.units,
         steps.predict,
         &ran,
+        name,
         text,
         accepted,
     )

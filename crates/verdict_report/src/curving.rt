@@ -23,8 +23,8 @@ use speed_curve::table::write;
 use std::alloc::{AllocError, Global};
 use std::io::Write;
 
-/// What `curve` writes of a program text and the text of its certificate: a table or a picture of its runs in
-/// steps on 1, 2, 3 units and more, up to so many.
+/// What `curve` writes of a program text and the text of its certificate: a table or a picture of its runs in steps
+/// on 1, 2, 3 units and more, up to `units`.
 pub fn curve(
     alloc: Global,
     units: Units,
@@ -53,17 +53,17 @@ pub fn curve(
     Ok(told.report)
 }
 
-/// What a job writes, and whether all was said that is to be said on the way.
+/// What a job writes, and whether all lines about its progress were written.
 #[derive(Debug, Drop)]
 pub struct ToldReport {
     /// What it writes.
     pub report: JobReport,
-    /// Whether all was said.
+    /// Whether all lines about its progress were written.
     pub is_told: bool,
 }
 
-/// What `curve` writes, as above; `errors` hears of each run when it is done, of the program of this name. Once that
-/// can't be said, it is not tried again, and the runs go on.
+/// What `curve` writes, as above; `errors` gets a line for each run when it is done, with the name of the program.
+/// Once a line cannot be written, none is tried again, and the runs go on.
 pub fn curve_told<E: Write>(
     alloc: Global,
     units: Units,
@@ -153,7 +153,7 @@ fn rows_text(alloc: Global, emit: CurveEmit, rows: &[Row]) -> Result<Vec<u8>, Al
     }
 }
 
-// Rows, and whether all was said that is to be said of their runs.
+// Rows, and whether all lines about their runs were written.
 #[derive(Drop)]
 struct ToldRows {
     rows: Vec<Row>,
@@ -202,7 +202,7 @@ fn rows_status(rows: &[Row]) -> u8
     0
 }
 
-// The status that `run` has for a run that ended so.
+// The status that `run` has for a run with this standing.
 fn end_status(standing: Standing) -> u8
     ensures { result ≡ end_status_of standing }
 {

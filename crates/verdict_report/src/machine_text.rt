@@ -14,6 +14,7 @@ ghost use Rattle.verdict_report.specs.MachineText.{machine_text, retired_text, s
 use event_json::clock::Clock;
 use event_json::last_line::LastLine;
 use event_json::lines::lines;
+use event_json::source::EventSource;
 use event_json::timeline::timeline;
 use event_trace::trace::trace;
 use jobs::ranges::Units;
@@ -59,7 +60,7 @@ pub fn write_machine(text: &mut String, machine: &Machine<'_>) -> Result<(), All
     writeln!(text, "")
 }
 
-/// What the tasks came to that a machine of so many units assigned, which runs this program.
+/// The summary of how the tasks of this machine's history ended.
 pub fn summary_of(
     alloc: Global,
     units: Units,
@@ -75,23 +76,24 @@ pub fn summary_of(
     task_lives::summary::write(alloc, program, &lives)
 }
 
-/// The history of a machine of so many units, which runs this program, as a picture.
+/// The history of a machine of so many units, which runs this program, as a picture that gives the program this name.
 pub fn picture_of(
     alloc: Global,
     units: Units,
+    name: &str,
     machine: &Machine<'_>,
     program: &Program,
 ) -> Result<Vec<u8>, AllocError>
     requires over { machine.now.accepted.program ≡ program.now }
     requires units { units_of machine.now ≡ units }
-    ensures { IfOk result (λ bytes. bytes.items ≡ picture_text program.now units machine.now.history) }
+    ensures { IfOk result (λ bytes. bytes.items ≡ picture_text name.now program.now units machine.now.history) }
 {
     histories_fit();
-    let picture = draw(alloc, program, units.get(), machine.history())?;
+    let picture = draw(alloc, program, name, units.get(), machine.history())?;
     Ok(picture.into_bytes())
 }
 
-/// The history of a machine of so many units, which runs this program, as a timeline by a clock.
+/// The history of a machine of `units` units, which runs this program, as a timeline by a clock.
 pub fn timeline_of(
     alloc: Global,
     units: Units,
@@ -108,7 +110,7 @@ pub fn timeline_of(
     Ok(timeline.into_bytes())
 }
 
-/// The trace of some events on a machine of so many units at the start of an accepted program with this text.
+/// The trace of some events on a machine of `units` units at the start of an accepted program with this text.
 pub fn trace_of(
     alloc: Global,
     units: Units,
@@ -123,23 +125,36 @@ pub fn trace_of(
     Ok(text.into_bytes())
 }
 
-/// The trace of some events in JSON: an object on each line, of which the last says this of the end.
+/// The trace of some events in JSON: an object on each line, of which the first gives the program this name, and the last says
+/// this of the end. The events of a run in steps are fewer than 2^31.
 pub fn lines_of(
     alloc: Global,
     units: Units,
+    name: &str,
+    source: EventSource,
     accepted: &Accepted,
     program_text: &[u8],
     events: &[Event],
     last: LastLine,
 ) -> Result<Vec<u8>, AllocError>
+    requires room { source ≡ EventSource.Steps → length events.now < 2 ^ 31 }
     ensures { IfOk result (λ bytes. bytes.items
-        ≡ json_text accepted.now.program (places_of program_text.now) units events.now last) }
+        ≡ json_text name.now source accepted.now.program (places_of program_text.now) units events.now last) }
 {
-    let text = lines(alloc, accepted, units.get(), program_text, events, last)?;
+    let text = lines(
+        alloc,
+        accepted,
+        name,
+        source,
+        units.get(),
+        program_text,
+        events,
+        last,
+    )?;
     Ok(text.into_bytes())
 }
 
-/// The status of a run that stands so.
+/// The status of a run with this standing.
 pub fn standing_status_of(standing: Standing) -> u8
     ensures { result ≡ standing_status standing }
 {

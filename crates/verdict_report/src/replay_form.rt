@@ -9,7 +9,7 @@ use jobs::job::ReplayEmit;
 pub(crate) enum MachineForm {
     /// What it answered to each event, and how it stands.
     Answers,
-    /// What the tasks came to that it assigned.
+    /// How the tasks ended that it assigned.
     Summary,
     /// The events that it allowed, as a picture.
     Picture,
@@ -22,9 +22,9 @@ pub(crate) enum MachineForm {
 /// What is written of the events of a script.
 #[derive(Clone, Copy, Debug, PartialEq, Eq)]
 pub(crate) enum ReplayForm {
-    /// Each event with what it changed, as lines for a reader: told while the events are played.
+    /// Each event with what it changed, as lines for a reader: written while the events are played.
     Trace,
-    /// The same as lines of JSON.
+    /// Each event with what it changed, as lines of JSON.
     Lines,
     /// The machine that the events leave.
     OfMachine(MachineForm),

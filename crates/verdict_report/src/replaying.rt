@@ -1,5 +1,6 @@
 //! The job `replay`.
 ghost use Rattle.std.specs.Prelude.{◌≡◌, ◌++◌, List, [], ◌∷◌, Result, IfOk, take};
+ghost use Rattle.std.specs.String.{string_bytes};
 ghost use Rattle.machine_model.specs.Answer.{play, play_event};
 ghost use Rattle.machine_model.specs.Machine.{opening};
 ghost use Rattle.machine_model.specs.declared.event.Event.{Event};
@@ -8,6 +9,7 @@ ghost use Rattle.jobs.specs.declared.job.ReplayEmit.TheVariants as emit;
 ghost use Rattle.sequencer.specs.Machines.{SameRing, state, units_of};
 ghost use Rattle.event_trace.specs.Entries.{places_of};
 ghost use Rattle.report_texts.specs.CertificateTexts.{OfCertificate};
+ghost use Rattle.event_trace.specs.Ring.{ring_in};
 ghost use Rattle.strict_replay.specs.StandText.{stand_text};
 ghost use Rattle.verdict_report.specs.MachineText.{machine_text};
 ghost use Rattle.verdict_report.specs.Playing.{machine_emit, played_so_far};
@@ -19,8 +21,10 @@ use crate::replay_form::{MachineForm, ReplayForm, form_of};
 use event_json::clock::Clock;
 use event_json::last_line::LastLine;
 use event_json::lines::lines_and_standing;
+use event_json::source::EventSource;
 use event_script::fault::ScriptFault;
 use event_script::reading::read;
+use event_trace::ring::Ring;
 use event_trace::trace::trace_and_standing;
 use jobs::job::{CertificateSource, ReplayEmit, Texts};
 use jobs::ranges::{Budget, Units};
@@ -33,8 +37,8 @@ use sequencer::machine::{Machine, MachineFault};
 use std::alloc::{AllocError, Global};
 use strict_replay::stand::stand;
 
-/// What `replay` writes of a program text, the text of its certificate and the text of a script, on a
-/// machine of so many units: of all events, or of the first so many.
+/// What `replay` writes of a program text, the name of the program, the text of its certificate and the text of a
+/// script, on a machine of so many units: of all events, or of the first so many.
 pub fn replay(
     alloc: Global,
     source: CertificateSource,
@@ -44,33 +48,44 @@ pub fn replay(
     texts: &Texts,
 ) -> Result<JobReport, AllocError>
     ensures { IfOk result (λ report. OfCertificate source texts.now.program.items texts.now.certificate (λ certificate.
-        report ≡ replay_text emit units until texts.now.program.items certificate texts.now.script.items)) }
+        report ≡ replay_text emit units until (string_bytes texts.now.name) texts.now.program.items certificate texts.now.script.items)) }
 {
     match judge(alloc, source, texts)? {
         Judged::Refused(report) => Ok(report),
         Judged::Accepted(accepted) => {
+            let name = texts.name.as_str();
             let text = texts.program.as_slice();
-            replay_script(alloc, units, emit, until, text, &accepted, &texts.script)
+            replay_script(
+                alloc,
+                units,
+                emit,
+                until,
+                name,
+                text,
+                &accepted,
+                &texts.script,
+            )
         }
     }
 }
 
-// What `replay` writes of an accepted program with its text, and the text of a script.
+// What `replay` writes of an accepted program with its name and text, and the text of a script.
 fn replay_script(
     alloc: Global,
     units: Units,
     emit: ReplayEmit,
     until: Option<Budget>,
+    name: &str,
     text: &[u8],
     accepted: &Accepted,
     script: &[u8],
 ) -> Result<JobReport, AllocError>
-    ensures { IfOk result (λ report. report ≡ script_report emit units until text.now script.now accepted.now.program) }
+    ensures { IfOk result (λ report. report ≡ script_report emit units until name.now text.now script.now accepted.now.program) }
 {
     match read(alloc, script, accepted.program()) {
         Ok(events) => {
             let played = first_events(events.as_slice(), until);
-            replay_events(alloc, units, emit, text, accepted, played)
+            replay_events(alloc, units, emit, name, text, accepted, played)
         }
         Err(ScriptFault::OutOfMemory) => Err(AllocError),
         Err(fault) => refused_script(alloc, fault),
@@ -87,32 +102,35 @@ fn first_events(events: &[Event], until: Option<Budget>) -> &[Event]
     }
 }
 
-// The first events, at most so many.
+// The first events, at most `most`.
 fn first_of(events: &[Event], most: usize) -> &[Event]
     ensures { result.now ≡ take most events.now }
 {
     &events[..most.min(events.len())]
 }
 
-// What `replay` writes of an accepted program with its text, and events.
+// What `replay` writes of an accepted program with its name and text, and events.
 fn replay_events(
     alloc: Global,
     units: Units,
     emit: ReplayEmit,
+    name: &str,
     text: &[u8],
     accepted: &Accepted,
     events: &[Event],
 ) -> Result<JobReport, AllocError>
-    ensures { IfOk result (λ report. report ≡ events_report emit units text.now accepted.now.program events.now) }
+    ensures { IfOk result (λ report. report ≡ events_report emit units name.now text.now accepted.now.program events.now) }
 {
     match form_of(emit) {
         ReplayForm::Trace => trace_report(alloc, units, text, accepted, events),
-        ReplayForm::Lines => lines_report(alloc, units, text, accepted, events),
-        ReplayForm::OfMachine(form) => machine_report(alloc, units, form, text, accepted, events),
+        ReplayForm::Lines => lines_report(alloc, units, name, text, accepted, events),
+        ReplayForm::OfMachine(form) => {
+            machine_report(alloc, units, form, name, text, accepted, events)
+        }
     }
 }
 
-// The trace of the events.
+// The trace of the events, which has no name.
 fn trace_report(
     alloc: Global,
     units: Units,
@@ -120,7 +138,7 @@ fn trace_report(
     accepted: &Accepted,
     events: &[Event],
 ) -> Result<JobReport, AllocError>
-    ensures { IfOk result (λ report. report ≡ events_report emit.Trace units text.now accepted.now.program events.now) }
+    ensures { IfOk result (λ report. report ≡ events_report emit.Trace units [] text.now accepted.now.program events.now) }
 {
     let (trace, standing) = trace_and_standing(alloc, accepted, units.get(), text, events)?;
     Ok(JobReport::new(trace.into_bytes(), standing_status_of(standing)))
@@ -130,14 +148,24 @@ fn trace_report(
 fn lines_report(
     alloc: Global,
     units: Units,
+    name: &str,
     text: &[u8],
     accepted: &Accepted,
     events: &[Event],
 ) -> Result<JobReport, AllocError>
-    ensures { IfOk result (λ report. report ≡ events_report emit.Json units text.now accepted.now.program events.now) }
+    ensures { IfOk result (λ report. report ≡ events_report emit.Json units name.now text.now accepted.now.program events.now) }
 {
     let last = LastLine::AsItStands;
-    let (lines, standing) = lines_and_standing(alloc, accepted, units.get(), text, events, last)?;
+    let (lines, standing) = lines_and_standing(
+        alloc,
+        accepted,
+        name,
+        EventSource::Script,
+        units.get(),
+        text,
+        events,
+        last,
+    )?;
     Ok(JobReport::new(lines.into_bytes(), standing_status_of(standing)))
 }
 
@@ -146,23 +174,25 @@ fn machine_report(
     alloc: Global,
     units: Units,
     form: MachineForm,
+    name: &str,
     text: &[u8],
     accepted: &Accepted,
     events: &[Event],
 ) -> Result<JobReport, AllocError>
-    ensures { IfOk result (λ report. report ≡ events_report (machine_emit form) units text.now accepted.now.program events.now) }
+    ensures { IfOk result (λ report. report ≡ events_report (machine_emit form) units name.now text.now accepted.now.program events.now) }
 {
     let mut machine = machine_of(alloc, units, accepted)?;
     let answers = play_events(alloc, &mut machine, events)?;
-    let bytes = bytes_of(alloc, units, form, text, accepted, &machine, &answers)?;
+    let bytes = bytes_of(alloc, units, form, name, text, accepted, &machine, &answers)?;
     Ok(JobReport::new(bytes, standing_status_of(machine.outcome())))
 }
 
-// What is written of a machine after the events of a script, to which it answered so.
+// What is written of a machine after the events of a script, with its answers.
 fn bytes_of(
     alloc: Global,
     units: Units,
     form: MachineForm,
+    name: &str,
     text: &[u8],
     accepted: &Accepted,
     machine: &Machine<'_>,
@@ -171,19 +201,19 @@ fn bytes_of(
     requires over { machine.now.accepted.program ≡ accepted.now.program }
     requires units { units_of machine.now ≡ units }
     ensures { IfOk result (λ bytes. (events : List Event) → machine.now.history ≡ allowed events answers.now
-        → bytes.items ≡ played_text (machine_emit form) units text.now accepted.now.program events (played_so_far machine.now answers.now)) }
+        → bytes.items ≡ played_text (machine_emit form) units name.now text.now accepted.now.program events (played_so_far machine.now answers.now)) }
 {
     let program = accepted.program();
     match form {
         MachineForm::Answers => answers_of(alloc, answers, machine),
         MachineForm::Summary => summary_of(alloc, units, machine, program),
-        MachineForm::Picture => picture_of(alloc, units, machine, program),
+        MachineForm::Picture => picture_of(alloc, units, name, machine, program),
         MachineForm::Timeline => timeline_of(alloc, units, Clock::Events, machine, program),
-        MachineForm::State => state_of(alloc, text, accepted, machine),
+        MachineForm::State => state_of(alloc, units, text, accepted, machine),
     }
 }
 
-// A machine of so many units at the start of an accepted program.
+// A machine of `units` units at the start of an accepted program.
 fn machine_of<'a>(
     alloc: Global,
     units: Units,
@@ -218,17 +248,19 @@ fn answers_of(
 // How the machine stands that runs an accepted program with this text, and its units.
 fn state_of(
     alloc: Global,
+    units: Units,
     text: &[u8],
     accepted: &Accepted,
     machine: &Machine<'_>,
 ) -> Result<Vec<u8>, AllocError>
     ensures { IfOk result (λ bytes. bytes.items ≡ machine_text (state machine.now)
-        ++ stand_text accepted.now.program (places_of text.now) (state machine.now)) }
+        ++ stand_text accepted.now.program (places_of text.now) (ring_in units (state machine.now)) (state machine.now)) }
 {
     let mut told = String::new(alloc);
     write_machine(&mut told, machine)?;
-    let units = stand(alloc, accepted.program(), text, machine)?;
-    told.push_str(units.as_str())?;
+    let ring = Ring::of(machine, units.get());
+    let stand = stand(alloc, accepted.program(), text, &ring, machine)?;
+    told.push_str(stand.as_str())?;
     Ok(told.into_bytes())
 }
 

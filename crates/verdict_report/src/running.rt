@@ -2,7 +2,7 @@
 ghost use Rattle.std.specs.Prelude.{◌≡◌, ◌≢◌, ◌≤◌, ◌++◌, Err, Ok, IfOk};
 ghost use Rattle.std.specs.String.{string_bytes};
 ghost use Rattle.sequencer.specs.Machines.{state, units_of};
-ghost use Rattle.verdict_report.specs.RunText.{IsRunReport, IsRunText, IsWrittenOf, clock_of, ending_status, ending_text, last_line_of, steps_text};
+ghost use Rattle.verdict_report.specs.RunText.{IsRunReport, IsRunText, IsWrittenOf, clock_of, ending_status, ending_text, last_line_of, source_of, steps_text};
 ghost use Rattle.report_texts.specs.CertificateTexts.{OfCertificate};
 ghost use Rattle.verdict_report.specs.Runs.{run_of};
 ghost use Rattle.task_lives.specs.Lives.{lives_of};
@@ -12,6 +12,7 @@ ghost use Rattle.event_trace.specs.Entries.{places_of};
 ghost use Rattle.wait_table.specs.TableText.{waits_text};
 ghost use Rattle.unit_waits.specs.Waveform.{waveform_text};
 ghost use Rattle.step_picture.specs.StepPicture.{step_picture_text};
+ghost use Rattle.event_json.specs.Json.{json_text};
 ghost use Rattle.event_json.specs.Timeline.{timeline_text};
 ghost use Rattle.event_script.specs.ScriptText.{script_text};
 
@@ -23,6 +24,7 @@ use crate::ran::{Extent, Ran};
 use crate::scheduled::run_scheduled;
 use event_json::clock::Clock;
 use event_json::last_line::LastLine;
+use event_json::source::EventSource;
 use event_script::writing::write;
 use jobs::job::{CertificateSource, Prediction, RunEmit, Texts};
 use jobs::ranges::Units;
@@ -41,7 +43,7 @@ use threaded_runner::report::How;
 use unit_waits::waveform::waveform;
 use wait_table::table::table;
 
-/// What `run` writes of a program text and the text of its certificate.
+/// What `run` writes of a program text, the name of the program and the text of its certificate.
 ///
 /// # Errors
 ///
@@ -56,35 +58,38 @@ pub fn run<R: Threads + Wait + Sync>(
     texts: &Texts,
 ) -> Result<JobReport, ServeFault>
     ensures report { IfOk result (λ report. OfCertificate source texts.now.program.items texts.now.certificate (λ certificate.
-        IsRunText extent.schedule extent.units extent.budget predict.now emit texts.now.program.items certificate report)) }
+        IsRunText extent.schedule extent.units extent.budget predict.now emit (string_bytes texts.now.name) texts.now.program.items certificate report)) }
     ensures fault { result ≢ Err ServeFault.Write }
     ensures own { result ≢ Err ServeFault.Foreign }
 {
     match judge(alloc, source, texts)? {
         Judged::Refused(report) => Ok(report),
         Judged::Accepted(accepted) => {
+            let name = texts.name.as_str();
             let text = texts.program.as_slice();
-            run_accepted(rt, alloc, extent, predict, emit, text, &accepted)
+            run_accepted(rt, alloc, extent, predict, emit, name, text, &accepted)
         }
     }
 }
 
-// What `run` writes of an accepted program with its text.
+// What `run` writes of an accepted program with its name and text.
 fn run_accepted<R: Threads + Wait + Sync>(
     rt: &R,
     alloc: Global,
     extent: Extent,
     predict: &Prediction,
     emit: RunEmit,
+    name: &str,
     text: &[u8],
     accepted: &Accepted,
 ) -> Result<JobReport, ServeFault>
-    ensures report { IfOk result (λ report. IsRunReport extent.schedule extent.units extent.budget predict.now emit text.now accepted.now.program report) }
+    ensures report { IfOk result (λ report. IsRunReport extent.schedule extent.units extent.budget predict.now emit name.now text.now accepted.now.program report) }
     ensures fault { result ≢ Err ServeFault.Write }
     ensures own { result ≢ Err ServeFault.Foreign }
 {
     let ran = run_scheduled(rt, alloc, extent, predict, accepted)?;
-    Ok(report_of_run(alloc, emit, extent.units, predict, &ran, text, accepted)?)
+    let units = extent.units;
+    Ok(report_of_run(alloc, emit, units, predict, &ran, name, text, accepted)?)
 }
 
 /// What is written of a run, and the status.
@@ -94,12 +99,13 @@ pub(crate) fn report_of_run(
     units: Units,
     predict: &Prediction,
     ran: &Ran<'_>,
+    name: &str,
     text: &[u8],
     accepted: &Accepted,
 ) -> Result<JobReport, AllocError>
     requires over { ran.now.machine.accepted ≡ accepted.now }
     requires units { (units_of ran.now.machine ≤ 16) × (units_of ran.now.machine ≡ units) }
-    ensures bytes { IfOk result (λ report. IsWrittenOf emit units predict.now text.now accepted.now.program (run_of ran.now) report.bytes) }
+    ensures bytes { IfOk result (λ report. IsWrittenOf emit units predict.now name.now text.now accepted.now.program (run_of ran.now) report.bytes) }
     ensures status { IfOk result (λ report. report.status ≡ ending_status ran.now.how (state ran.now.machine)) }
 {
     let bytes = match emit {
@@ -110,16 +116,13 @@ pub(crate) fn report_of_run(
             write_valued(alloc, accepted, units.get(), &events)?
         }
         RunEmit::Summary => summary(alloc, units, ran, accepted)?,
-        RunEmit::Picture => picture_of(alloc, units, &ran.machine, accepted.program())?,
-        RunEmit::StepPicture => step_picture_of(alloc, units, predict, ran, accepted)?,
+        RunEmit::Picture => picture_of(alloc, units, name, &ran.machine, accepted.program())?,
+        RunEmit::StepPicture => step_picture_of(alloc, units, name, predict, ran, accepted)?,
         RunEmit::Trace => {
             let events = single_events(alloc, ran.machine.history())?;
             trace_of(alloc, units, accepted, text, &events)?
         }
-        RunEmit::Json => {
-            let events = single_events(alloc, ran.machine.history())?;
-            lines_of(alloc, units, accepted, text, &events, last_line_of(ran))?
-        }
+        RunEmit::Json => json_of(alloc, units, name, ran, accepted, text)?,
         RunEmit::Waits => waits_of(alloc, units, ran, accepted, text)?,
         RunEmit::Waveform => waveform_of(alloc, units, ran, accepted)?,
         RunEmit::Timeline => timeline(alloc, units, ran, accepted)?,
@@ -142,7 +145,7 @@ fn ending(alloc: Global, ran: &Ran<'_>) -> Result<Vec<u8>, AllocError>
     Ok(text.into_bytes())
 }
 
-// What the tasks came to, and the steps of the run.
+// How the tasks ended, and the steps of the run.
 fn summary(
     alloc: Global,
     units: Units,
@@ -170,6 +173,24 @@ fn steps_of(alloc: Global, ran: &Ran<'_>) -> Result<String, AllocError>
         writeln!(text, "steps {steps}, retired instructions {committed}")?;
     }
     Ok(text)
+}
+
+// The trace of a run of a program of this name and text, as lines of JSON.
+fn json_of(
+    alloc: Global,
+    units: Units,
+    name: &str,
+    ran: &Ran<'_>,
+    accepted: &Accepted,
+    text: &[u8],
+) -> Result<Vec<u8>, AllocError>
+    ensures { IfOk result (λ bytes. bytes.items
+        ≡ json_text name.now (source_of ran.now.steps) accepted.now.program (places_of text.now) units ran.now.machine.history (last_line_of ran.now.how)) }
+{
+    let events = single_events(alloc, ran.machine.history())?;
+    let source = source_of(ran);
+    let last = last_line_of(ran);
+    lines_of(alloc, units, name, source, accepted, text, &events, last)
 }
 
 // In how many steps which task waited where, and for what.
@@ -207,10 +228,11 @@ fn waveform_of(
     Ok(dump.into_bytes())
 }
 
-// The picture of a run in steps.
+// The picture of a run in steps of a program of this name.
 fn step_picture_of(
     alloc: Global,
     units: Units,
+    name: &str,
     predict: &Prediction,
     ran: &Ran<'_>,
     accepted: &Accepted,
@@ -218,13 +240,14 @@ fn step_picture_of(
     requires over { ran.now.machine.accepted ≡ accepted.now }
     requires units { (units_of ran.now.machine ≤ 16) × (units_of ran.now.machine ≡ units) }
     ensures { IfOk result (λ bytes. bytes.items
-        ≡ step_picture_text accepted.now.program units predict.now (state ran.now.machine).outcome ran.now.machine.history) }
+        ≡ step_picture_text name.now accepted.now.program units predict.now (state ran.now.machine).outcome ran.now.machine.history) }
 {
     histories_fit();
     let machine = &ran.machine;
     let picture = draw(
         alloc,
         accepted,
+        name,
         units.get(),
         predict,
         machine.outcome(),
@@ -261,6 +284,16 @@ fn clock_of(ran: &Ran<'_>) -> Clock
     match ran.steps {
         None => Clock::Events,
         Some(_) => Clock::Steps,
+    }
+}
+
+// Who chose the events of the run: its units, in steps, or else each with a thread.
+fn source_of(ran: &Ran<'_>) -> EventSource
+    ensures { result ≡ source_of ran.now.steps }
+{
+    match ran.steps {
+        None => EventSource::Threads,
+        Some(_) => EventSource::Steps,
     }
 }
 

@@ -51,8 +51,9 @@ pub fn serve<W: Write, R: Threads + Wait + Sync>(
     Ok(report.status())
 }
 
-/// What a job writes, as `serve` writes it; on the way `errors` hears how far it is: of `curve` of each run when it is
-/// done, of the program of this name. Once that can't be said, it is not tried again, and the job goes on.
+/// What a job writes, as `serve` writes it; on the way `errors` hears how far it is: `curve` writes a line for each
+/// run when it is done, with the name of the program. Once a line cannot be written, none is tried again, and the job
+/// goes on.
 pub fn report_told<E: Write, R: Threads + Wait + Sync>(
     rt: &R,
     alloc: Global,

@@ -10,7 +10,7 @@ use std::alloc::{AllocError, Global};
 use std::io;
 use std::io::Write;
 
-/// Says how many runs of so many are done, if that is asked for; answers whether it was said.
+/// Writes how many runs of how many are done, if that is asked for; answers whether it was written.
 pub(crate) fn tell<E: Write>(
     alloc: Global,
     asked: bool,
@@ -30,7 +30,7 @@ pub(crate) fn tell<E: Write>(
     }
 }
 
-// The line that says how many runs of so many are done.
+// The line that says how many runs of how many are done.
 fn run_line(alloc: Global, name: &str, done: u32, of: u32) -> Result<String, AllocError>
     ensures { IfOk result (λ line. string_bytes line ≡ run_line name.now done of) }
 {

@@ -67,6 +67,6 @@ sums_text counts =
 abbrev pub counts_text : Listing → List Position → List Count → List ℕ
 counts_text p places counts = heading ++ (rows_text p places (most_first counts) ++ sums_text counts)
 
--- the table of a history of so many units
+-- the table of a history of `units` units
 unfoldable pub waits_text : Listing → List Position → (units : ℕ) → (history : List Event) → List ℕ
 waits_text p places units history = counts_text p places (counts_of (waits p units history))

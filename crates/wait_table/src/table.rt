@@ -121,11 +121,11 @@ fn write_counts(
     Ok(text)
 }
 
-/// The table of the waits in the steps of a history of so many units, 1 to 16, at the start of an accepted
-/// program: a heading; a row for the waits of one task, at one place and for one reason, the most frequent
-/// first, and of two that are as frequent the one that came first; a row for each kind of reason; and a row for
-/// all. `program_text` is the text of the program: instructions are told by its lines. Each event of the history
-/// is allowed where it comes, and there are at most 1,000,000. An error says that memory was refused.
+/// The table of the waits in the steps of a history of `units` units, 1 to 16, at the start of an accepted program: a
+/// heading; a row for the waits of one task, at one place and for one reason, the most frequent first, and of two
+/// that are as frequent the one that came first; a row for each kind of reason; and a row for all. `program_text` is
+/// the text of the program: instructions are named by its lines. Each event of the history is allowed where it comes,
+/// and there are at most 1,000,000. An error says that memory was refused.
 #[tactic(auto, unfolding(crate::specs::TableText::waits_text))]
 pub fn table(
     alloc: Global,

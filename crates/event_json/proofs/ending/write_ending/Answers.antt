@@ -1,4 +1,4 @@
--- A spent budget is told in place of how the run stands.
+-- A spent budget is reported in place of how the run stands.
 use Rattle.event_json.proofs.ending.write_ending.Goals as goal
 
 pub returns-in-OutOfBudget : goal.returns-in-OutOfBudget

@@ -9,7 +9,7 @@ use Rattle.event_json.proofs.event.write_refused.Goals as goal
 pub returns : goal.returns
 returns c =
     let p = c.args.program.now in
-    let numbered = numbered_fields p c.args.number c.args.ring.now c.args.event.now in
+    let numbered = numbered_fields p c.args.number c.args.step c.args.ring.now c.args.event.now in
     let answer = answer_field (codes "refused") in
     let reason = refusal_fields c.args.refusal in
     let changes = changes_field p c.args.places.now c.args.ring.now [] in

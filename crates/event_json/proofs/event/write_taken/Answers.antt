@@ -9,7 +9,7 @@ use Rattle.event_json.proofs.event.write_taken.Goals as goal
 pub returns : goal.returns
 returns c =
     let p = c.args.program.now in
-    let numbered = numbered_fields p c.args.number c.args.ring.now c.args.event.now in
+    let numbered = numbered_fields p c.args.number c.args.step c.args.ring.now c.args.event.now in
     let answer = answer_field (codes "ok") in
     let changes = changes_field p c.args.places.now c.args.ring.now c.args.changes.now in
     let one = c.begin_object.new.self in

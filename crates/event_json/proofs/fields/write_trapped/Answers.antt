@@ -1,4 +1,4 @@
--- What is written piece by piece stands behind what there was.
+-- What is written piece by piece stands after what there was.
 use Rattle.std.proofs.Common.{append_assoc}
 use Rattle.event_json.proofs.fields.write_trapped.Goals as goal
 

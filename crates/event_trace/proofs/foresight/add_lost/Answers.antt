@@ -1,4 +1,4 @@
--- Behind the last unit there is none, and else there is one more.
+-- After the last unit there is none, and else there is one more.
 use Rattle.std.proofs.Common.{◌≡◌, slice_get, None, arith}
 use Rattle.unit_core.specs.Units.{active_of}
 use Rattle.sequencer.specs.Machines.{state}

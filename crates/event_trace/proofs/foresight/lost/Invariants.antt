@@ -1,4 +1,4 @@
--- What is told and what is left give what there was to tell.
+-- The changes so far and those that are left give the whole.
 use Rattle.std.proofs.Common.{◌≡◌, ◌++◌, drop}
 use Rattle.sequencer.specs.Machines.{state}
 use Rattle.event_trace.specs.Changes.{lost}

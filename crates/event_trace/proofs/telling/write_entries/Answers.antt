@@ -1,4 +1,4 @@
--- An event more is told.
+-- The text for one event more is written.
 use Rattle.std.proofs.Common.{ℕ, ◌+◌, ◌++◌, length, ◌∙◌, ap, arith}
 use Rattle.std.specs.String.{string_bytes}
 use Rattle.mark_checker.specs.Places.{Checked}

@@ -1,4 +1,4 @@
--- What is told and what is left give what there was to tell.
+-- What is written and what is left give the whole.
 use Rattle.std.proofs.Common.{◌≡◌, ◌+◌, ◌++◌, drop, length}
 use Rattle.std.specs.String.{string_bytes}
 use Rattle.sequencer.specs.Machines.{SameRing, state, units_of}

@@ -1,4 +1,4 @@
--- What is told of the event is what its answer says.
+-- The text for the event is the one for its answer.
 use Rattle.std.specs.String.{string_bytes}
 use Rattle.sequencer.specs.Machines.{answer_to, state, units_of}
 use Rattle.event_trace.proofs.Steps.{entry_written}

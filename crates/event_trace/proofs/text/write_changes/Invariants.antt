@@ -6,4 +6,4 @@ use Rattle.event_trace.proofs.text.write_changes.Given as goal
 
 abbrev pub invariant-loop-change : goal.invariant-loop-change
 invariant-loop-change l =
-    string_bytes l.text ≡ string_bytes l.initial.text ++ flat_map (change_line l.program l.places) (take l.change-index l.changes)
+    string_bytes l.text ≡ string_bytes l.initial.text ++ flat_map (change_line l.program l.places l.ring) (take l.change-index l.changes)

@@ -1,4 +1,4 @@
--- The entries in the words of a script, and the end behind them.
+-- The entries in the words of a script, and the end after them.
 use Rattle.std.proofs.Common.{ℕ, List, ◌++◌, ◌∙◌, ap}
 use Rattle.std.specs.String.{string_bytes}
 use Rattle.task_descriptor.specs.Listing.{Listing}
@@ -22,7 +22,7 @@ returns-clause-text c =
     let text = c.in_ok-text.text in
     let machine = c.in_ok-text.machine in
     let told : Listing → List Position → List ℕ =
-    λ q places. entries_from (entry_of (λ number ring. taken_text q places number) (λ number ring. refused_text q number) p units) p units 1 0 (opening p) events in
+    λ q places. entries_from (entry_of (taken_text q places) (λ number ring. refused_text q number) p units) p units 1 0 (opening p) events in
     c.in_ok-write_end.ensures
     ∙ ap (λ (q : Listing). string_bytes text ++ end_text q (state machine)) c.program-program.ensures.value
     ∙ ap (λ (t : State). string_bytes text ++ end_text p t) c.in_ok-text.ensures.machine

@@ -1,4 +1,4 @@
--- The first finding is always told.
+-- The first finding is always reported.
 use Rattle.std.proofs.Common.{sym, ⊎_elim}
 use Rattle.mask_certificate.specs.CertificateReading.{cert_parse, names_of}
 use Rattle.input_diagnostics.proofs.Silence.{silent_certificate}

@@ -1,4 +1,4 @@
--- What is said so far, and how much, before what is said of the findings that are left.
+-- The diagnostics so far, and their number, before those for the findings that are left.
 use Rattle.std.proofs.Common.{◌≡◌, ◌+◌, ◌≤◌, ◌++◌, None, take, length}
 use Rattle.input_diagnostics.specs.Misfits.{told_from}
 use Rattle.input_diagnostics.proofs.misfit.told_of.Given as goal

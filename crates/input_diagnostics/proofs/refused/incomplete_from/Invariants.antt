@@ -1,4 +1,4 @@
--- What is said so far, before what is said of the lines that are left.
+-- The diagnostics so far, before those for the lines that are left.
 use Rattle.std.proofs.Common.{◌≡◌, ◌+◌, ◌≤◌, ◌++◌, map, take, length}
 use Rattle.input_diagnostics.specs.RefusedCertificates.{incomplete_from}
 use Rattle.input_diagnostics.proofs.refused.incomplete_from.Given as goal

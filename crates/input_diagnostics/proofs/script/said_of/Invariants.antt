@@ -1,4 +1,4 @@
--- What is said so far, before what is said of the lines that are left.
+-- The diagnostics so far, before those for the lines that are left.
 use Rattle.std.proofs.Common.{◌≡◌, ◌++◌, false, drop, map}
 use Rattle.input_diagnostics.specs.ScriptErrors.{said_of}
 use Rattle.input_diagnostics.proofs.script.said_of.Given as goal

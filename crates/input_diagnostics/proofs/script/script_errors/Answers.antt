@@ -1,4 +1,4 @@
--- The first line with a fault is always told.
+-- The first line with a fault is always reported.
 use Rattle.input_diagnostics.proofs.Silence.{silent_list}
 use Rattle.input_diagnostics.proofs.script.script_errors.Goals as goal
 

@@ -1,4 +1,4 @@
--- Where the marks are accepted nothing is said, and where they are refused something is.
+-- Where the marks are accepted there is no diagnostic, and where they are refused there is one.
 use Rattle.std.proofs.Common.{◌≡◌, ◌-◌, List, [], ◌++◌, Bool, true, false, length, take, ap, sym, ◌∙◌, subst, refl}
 use Rattle.std.specs.Prelude.{codes}
 use Rattle.std.specs.List.{AllZip, All}

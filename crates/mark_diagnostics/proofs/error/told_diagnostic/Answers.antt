@@ -1,4 +1,4 @@
--- The first five of the findings that are told together are the checker's, and are shown.
+-- The first five of the findings that are reported together are the checker's, and are shown.
 use Rattle.std.proofs.Common.{◌≡◌, List, take, ap, sym, ◌∙◌, subst}
 use Rattle.std.specs.List.{All}
 use Rattle.task_descriptor.specs.Listing.{Listing}

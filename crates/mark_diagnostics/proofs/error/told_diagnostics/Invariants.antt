@@ -1,4 +1,4 @@
--- What is said of the findings so far.
+-- The diagnostics for the findings so far.
 use Rattle.std.proofs.Common.{take}
 use Rattle.std.specs.List.{AllZip}
 use Rattle.mark_diagnostics.specs.Errors.{Says}

@@ -1,4 +1,4 @@
--- One task more: what is told of it is counted, and the first of that put into what room is left.
+-- One task more: its findings to report are counted, and the first of them put into what room is left.
 use Rattle.std.proofs.Common.{◌≡◌, ◌+◌, ◌-◌, ◌++◌, List, length, take, ◌∙◌, ap, arith}
 use Rattle.std.specs.List.{flat_map, range_with_len}
 use Rattle.task_descriptor.specs.declared.descriptor.Descriptor.{Descriptor}

@@ -1,4 +1,4 @@
--- The list has the first of what is told so far, which is counted.
+-- The list has the first of the findings to report so far, which are counted.
 use Rattle.std.proofs.Common.{◌≡◌, ◌≤◌, ◌*◌, take, length}
 use Rattle.std.specs.List.{flat_map, range_with_len}
 use Rattle.mark_diagnostics.specs.Told.{told_of}

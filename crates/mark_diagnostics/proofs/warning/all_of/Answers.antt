@@ -1,4 +1,4 @@
--- What is said of one remark more.
+-- The diagnostic for one remark more.
 use Rattle.std.proofs.Common.{◌≡◌, ℕ, ◌+◌, ◌<◌, List, [], ◌∷◌, ◌++◌, take, map, length, get_or, ap, sym, ◌∙◌, arith}
 use Rattle.std.proofs.lemmas.Grind.{common_steps}
 use Rattle.diagnostics.specs.declared.diagnostic.Diagnostic.{Diagnostic}

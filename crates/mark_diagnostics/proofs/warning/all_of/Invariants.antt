@@ -1,4 +1,4 @@
--- What is said of the remarks so far.
+-- The diagnostics for the remarks so far.
 use Rattle.std.proofs.Common.{◌≡◌, map, take}
 use Rattle.mark_diagnostics.specs.Warnings.{warning}
 use Rattle.mark_diagnostics.proofs.warning.all_of.Given as goal

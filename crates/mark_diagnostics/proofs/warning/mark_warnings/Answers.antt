@@ -1,4 +1,4 @@
--- What is said is of what is remarked, in the text's own lines.
+-- The diagnostics are those for the remarks, in the text's own lines.
 use Rattle.std.proofs.Common.{◌≡◌, List, ◌++◌, map, ap, ◌∙◌}
 use Rattle.finding_paths.specs.declared.mark.CostlyMark.{CostlyMark}
 use Rattle.exit_diagnostics.specs.declared.remark.Remark.{Remark}

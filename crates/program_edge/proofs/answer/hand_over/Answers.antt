@@ -1,4 +1,4 @@
--- What standard output took is the report of the job, with what is said beside it.
+-- What standard output took is the report of the job, with the hint beside it.
 use Rattle.report_texts.specs.OutputTexts.{Report}
 use Rattle.program_edge.proofs.ReportLemmas.{shown_here}
 use Rattle.program_edge.proofs.answer.hand_over.Goals as goal

@@ -1,4 +1,4 @@
--- What was taken is the report of the job, with what is said beside it.
+-- What was taken is the report of the job, with the hint beside it.
 use Rattle.std.proofs.Common.{inl, inr, refl}
 use Rattle.report_texts.specs.OutputTexts.{Report}
 use Rattle.program_edge.proofs.ReportLemmas.{not_done, put}

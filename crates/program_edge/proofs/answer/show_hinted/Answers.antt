@@ -1,4 +1,4 @@
--- What was shown is the report of the job, and what is said beside it.
+-- What was shown is the report of the job, and the hint beside it.
 use Rattle.std.proofs.Common.{inr, refl}
 use Rattle.report_texts.specs.OutputTexts.{Report}
 use Rattle.program_edge.proofs.ReportLemmas.{not_done, shown}

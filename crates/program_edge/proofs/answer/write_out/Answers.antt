@@ -1,4 +1,4 @@
--- Where nobody listens, nothing is said beside the report.
+-- Where nobody listens, there is no hint beside the report.
 use Rattle.std.proofs.Common.{◌∙◌, inl, refl, sym}
 use Rattle.std.proofs.KnownBytes.{Keeps-refl}
 use Rattle.program_edge.proofs.ReportLemmas.{done_unheard}

@@ -18,8 +18,8 @@ returns-in_err-read_certificate-clause-texts g c =
       gives = search rules;
     }
 
-pub returns-in_err-text-clause-texts : goal.returns-in_err-text-clause-texts
-returns-in_err-text-clause-texts g c =
+pub returns-in_err-path-clause-texts : goal.returns-in_err-path-clause-texts
+returns-in_err-path-clause-texts g c =
     let certificate = some_found (g.F.NamedFiles.known c.args.files.now (string_bytes c.args.paths.certificate)) most_file in
     let script = some_found (g.F.NamedFiles.known c.args.files.now (string_bytes c.args.paths.script)) most_file in
     record {

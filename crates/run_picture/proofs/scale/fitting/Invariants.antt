@@ -1,4 +1,4 @@
--- The letters so far, and those that fit behind them.
+-- The letters so far, and those that fit after them.
 use Rattle.std.proofs.Common.{◌≡◌, ◌+◌, drop}
 use Rattle.run_picture.specs.Scales.{fitting_of}
 use Rattle.run_picture.proofs.scale.fitting.Given as goal

@@ -1,4 +1,4 @@
--- Before the first stretch and behind the last one a life has no events; in between each stretch is added once.
+-- Before the first stretch and after the last one a life has no events; in between each stretch is added once.
 use Rattle.std.proofs.Common.{◌+◌, List, ℕ, length, refl, sym, ap, ◌∙◌, subst, arith}
 use Rattle.run_picture.proofs.Overlaps.{Added, Kept, all_counted, first_added, length-with_overlap, room_left, step_added, step_kept}
 use Rattle.run_picture.proofs.stretches.add_life.Goals as goal

@@ -1,4 +1,4 @@
--- One label behind the other.
+-- One label after the other.
 use Rattle.std.proofs.Common.{◌≡◌, ◌/◌, ◌*◌, ℕ, List, OnOk, subst}
 use Rattle.std.specs.String.{string_bytes}
 use Rattle.speed_curve.specs.CurvePicture.{scale_label}

@@ -13,4 +13,4 @@ returns c =
     let steps = c.deref-2.ensures.value ∙ (c.in_ok-steps.ensures ∙ ap (λ (es : List Event). steps_of es) lent) in
     let events = c.deref-3.ensures.value ∙ c.in_ok-events.ensures in
     let lives = c.deref-4.ensures.value ∙ c.in_ok-lives.ensures.exact in
-    c.in_ok-text.ensures ∙ (λ i. text_by c.args.accepted.now.program a.units c.args.predict.now a.standing (steps i) (events i) (lives i))
+    c.in_ok-text.ensures ∙ (λ i. text_by c.args.name.now c.args.accepted.now.program a.units c.args.predict.now a.standing (steps i) (events i) (lives i))

@@ -18,9 +18,9 @@ returns c =
     let tasks = c.tasks.ensures.value ∙ ap (λ (q : Listing). q.tasks) c.program.ensures.value in
     subst (λ (xs : List ℕ). OnOk c.write_closing.result (string_bytes c.write_closing.new.text ≡ xs))
     (three_parts before headed (string_bytes c.write_inner.new.text)
-    (head_text p.tasks a.units (count_of a.steps.now) c.args.predict.now a.standing a.tally)
+    (head_text c.args.name.now p.tasks a.units (count_of a.steps.now) c.args.predict.now a.standing a.tally)
     (inner_text p a.units (count_of a.steps.now) (halted_unit a.units a.tally.retired a.standing) a.steps.now a.events.now a.lives.now)
     closing
-    (c.in_ok-write_head.ensures ∙ (λ i. before ++ head_text (tasks i) a.units (c.count.ensures i) c.args.predict.now a.standing a.tally))
+    (c.in_ok-write_head.ensures ∙ (λ i. before ++ head_text c.args.name.now (tasks i) a.units (c.count.ensures i) c.args.predict.now a.standing a.tally))
     (c.in_ok-write_inner.ensures ∙ (λ i. headed ++ inner_text p a.units (count_of a.steps.now) (c.halted_unit-halted.ensures i) a.steps.now a.events.now a.lives.now)))
     c.write_closing.ensures

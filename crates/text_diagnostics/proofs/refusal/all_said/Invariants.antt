@@ -1,4 +1,4 @@
--- What is said of the mistakes so far.
+-- The diagnostics for the mistakes so far.
 use Rattle.std.proofs.Common.{◌≡◌, map, take}
 use Rattle.std.specs.List.{flat_map}
 use Rattle.text_diagnostics.specs.Refusals.{said_of}

@@ -1,4 +1,4 @@
--- What stands before the changes, the changes, and what stands behind them.
+-- What stands before the changes, the changes, and what stands after them.
 use Rattle.std.proofs.Common.{◌≡◌, ℕ, List, [], ◌∷◌, ◌++◌, OnOk, subst, codes}
 use Rattle.std.specs.String.{string_bytes}
 use Rattle.unit_waits.specs.Waveform.{changes_text}

@@ -1,4 +1,4 @@
--- Behind the last unit there is none, a unit that acts does not wait, and else there is one wait more.
+-- After the last unit there is none, a unit that acts does not wait, and else there is one wait more.
 use Rattle.std.proofs.Common.{◌≡◌, ℕ, List, [], ◌∷◌, ◌++◌, length, true, false, slice_get, Some, None, sym, ap, ◌∙◌, arith}
 use Rattle.unit_core.specs.Units.{active_of}
 use Rattle.sequencer.specs.Machines.{state}

@@ -1,4 +1,4 @@
--- The machine behind the events, with what it answered, is the replay of the events.
+-- The machine after the events, with what it answered, is the replay of the events.
 use Rattle.std.proofs.Common.{rules, ◌≡◌, ◌∙◌, sym, ap, List, Result}
 use Rattle.machine_model.specs.Answer.{Played, play}
 use Rattle.machine_model.specs.declared.event.Refused.{Refused}
@@ -12,6 +12,7 @@ pub returns : goal.returns
 returns c =
     let p = c.args.accepted.now.program in
     let units = c.args.units in
+    let name = c.args.name.now in
     let text = c.args.text.now in
     let events = c.args.events.now in
     let emit = machine_emit c.args.form in
@@ -23,8 +24,8 @@ returns c =
     let history = c.in_ok-answers.ensures.history
     ∙ ap (λ (answers : List (Result (Unit {0}) Refused)). allowed events answers) (sym c.deref.ensures.value) in
     let bytes = c.in_ok-bytes.ensures events history
-    ∙ ap (λ (answers : List (Result (Unit {0}) Refused)). played_text emit units text p events (played_so_far left answers)) c.deref.ensures.value
-    ∙ ap (λ (x : Played). played_text emit units text p events x) played in
+    ∙ ap (λ (answers : List (Result (Unit {0}) Refused)). played_text emit units name text p events (played_so_far left answers)) c.deref.ensures.value
+    ∙ ap (λ (x : Played). played_text emit units name text p events x) played in
     let status = c.standing_status_of.ensures
     ∙ ap standing_status c.outcome.ensures.value
     ∙ ap (λ (x : Played). standing_status x.state.outcome) played in

@@ -2,6 +2,7 @@
 use Rattle.std.proofs.Common.{List, ◌++◌, ◌∙◌, ap}
 use Rattle.std.specs.String.{string_bytes}
 use Rattle.sequencer.specs.Machines.{MachineView, state}
+use Rattle.event_trace.specs.Ring.{RingView}
 use Rattle.event_trace.specs.TraceText.{taken_text}
 use Rattle.strict_replay.specs.StandText.{stand_text}
 use Rattle.strict_replay.specs.StrictReplay.{at_line, unmet_said}
@@ -13,8 +14,9 @@ returns c =
     let p = c.args.self.now.program.now in
     let places = c.args.self.now.places.now in
     let said = at_line c.args.number (unmet_said c.args.unmet) in
-    let taken = taken_text p places c.args.number c.args.event c.args.changes.now in
+    let taken = taken_text p places c.args.number c.args.ring.now c.args.event c.args.changes.now in
     three_told (string_bytes c.new-text.result) (string_bytes c.write_unmet.new.text) (string_bytes c.write_taken.new.text) (string_bytes c.write_stand.new.text)
-    said taken (stand_text p places (state c.into_machine-machine.result))
+    said taken (stand_text p places c.ring-after.result (state c.into_machine-machine.result))
     c.new-text.ensures.bytes c.in_ok-write_unmet.ensures c.in_ok-write_taken.ensures c.in_ok-write_stand.ensures
-    ∙ ap (λ (m : MachineView). said ++ (taken ++ stand_text p places (state m))) c.into_machine-machine.ensures
+    ∙ ap (λ (m : MachineView). said ++ (taken ++ stand_text p places c.ring-after.result (state m))) c.into_machine-machine.ensures
+    ∙ ap (λ (ring : RingView). said ++ (taken ++ stand_text p places ring (state c.args.walk))) c.ring-after.ensures
