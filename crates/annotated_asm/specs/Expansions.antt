@@ -1,4 +1,4 @@
--- The instructions of the machine that an instruction of the text is, as a list.
+-- The machine instructions that an instruction of the text expands to, as a list.
 use Rattle.std.specs.Prelude.{List, [], ◌∷◌}
 use Rattle.mips_instructions.specs.declared.instruction.Op.{Op}
 use Rattle.annotated_asm.specs.declared.resolve.Expansion.{Expansion}

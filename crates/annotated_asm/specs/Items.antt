@@ -1,6 +1,6 @@
--- The items of a text (own format): its labels and statements in order, each with its line, from 1 on,
+-- The items of a text: its labels and statements in order, each with its line, counted from 1,
 -- and the section of that line. Each line is judged by itself and its section; the first line with a
--- fault is told.
+-- fault is reported.
 use Rattle.std.specs.Prelude.{ℕ, ◌+◌, List, [], ◌∷◌, ◌++◌, map, Result, Ok, Err}
 use Rattle.program_tokens.specs.Grammar.{line_tokens}
 use Rattle.program_tokens.specs.declared.token.Token.{Token}
@@ -18,7 +18,7 @@ use Rattle.program_statements.specs.declared.statement.Statement.{Statement}
 use Rattle.program_statements.specs.declared.statement.Statement.TheVariants as statement
 use Rattle.annotated_asm.specs.declared.item.PlacedStatement.{PlacedStatement}
 
--- the names before the statement, each with a colon, and the tokens behind them
+-- the names before the statement, each with a colon, and the tokens after them
 abbrev pub labels_of : List Token → List (List ℕ)
 labels_of (token.Name name ∷ token.Colon ∷ rest) = name ∷ labels_of rest
 labels_of _ = []
@@ -27,7 +27,7 @@ abbrev pub after_labels : List Token → List Token
 after_labels (token.Name name ∷ token.Colon ∷ rest) = after_labels rest
 after_labels tokens = tokens
 
--- a fault of a statement as one of the text
+-- a statement's fault, as a fault of the text
 abbrev pub at_line : ℕ → StatementFault → AsmFault
 at_line n statement_fault.Mnemonic = fault.Mnemonic n
 at_line n statement_fault.Operand = fault.Operand n
@@ -49,17 +49,17 @@ label_item n here name = record { line = n; section = here; statement = statemen
 abbrev pub blob : ℕ → Section → List ℕ → PlacedStatement
 blob n here bytes = record { line = n; section = here; statement = statement.Bytes bytes }
 
--- a line that says nothing has no item for a statement
+-- an empty statement makes no item
 abbrev pub statement_items : ℕ → Section → Statement → List PlacedStatement
 statement_items n here statement.Empty = []
 statement_items n here s = record { line = n; section = here; statement = s } ∷ []
 
--- the section of the lines behind a statement
+-- the section of the lines after a statement
 abbrev pub section_after : Section → Statement → Section
 section_after here (statement.Section next) = next
 section_after here _ = here
 
--- the items of one line, and the section behind it
+-- the items of one line, and the section after it
 unfoldable pub line_items : ℕ → Section → List ℕ → Result (List PlacedStatement × Section) AsmFault
 line_items n here line = do
   tokens ← tokens_on_line n (line_tokens line)
@@ -74,6 +74,6 @@ items_from n here (line ∷ lines) = do
   others ← items_from (n + 1) first.1 lines
   Ok (first.0 ++ others)
 
--- a line's items behind those of the lines before it
+-- a line's items after those of the lines before it
 abbrev pub with_items : List PlacedStatement → Result (List PlacedStatement × Section) AsmFault → Result (List PlacedStatement × Section) AsmFault
 with_items front read = read >>= λ x. Ok (front ++ x.0, x.1)

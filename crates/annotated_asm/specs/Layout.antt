@@ -1,4 +1,4 @@
--- Where labels stand, and what is defined twice (own format).
+-- Where labels stand, and what is defined twice.
 use Rattle.std.specs.Prelude.{ℕ, ◌+◌, ◌-◌, ◌^◌, min, Bool, true, false, List, [], ◌∷◌, ◌++◌, length, is_some, Result, Ok, Err, nat_lt, ◌||◌}
 use Rattle.program_statements.specs.Steps.{◌>>=◌}
 use Rattle.annotated_asm.specs.declared.fault.AsmFault.{AsmFault}
@@ -14,7 +14,7 @@ use Rattle.annotated_asm.specs.declared.layout.Sizes.{Sizes}
 use Rattle.annotated_asm.specs.declared.layout.Layout.{Layout}
 use Rattle.annotated_asm.specs.Tables.{lookup}
 
--- how many instructions of the machine an instruction of the text is
+-- how many machine instructions an instruction of the text expands to
 abbrev pub instruction_count : Instruction → ℕ
 instruction_count (instruction.Two a b) = 2
 instruction_count (instruction.LoadAddress rd name) = 2
@@ -38,7 +38,7 @@ size_of sizes section.Rodata = sizes.fixed
 abbrev pub symbol_at : Sizes → Section → Symbol
 symbol_at sizes here = record { section = here; offset = size_of sizes here }
 
--- the layout with what an item defines, where that is new, and adds
+-- the layout plus what an item adds, and what it defines if that is new
 abbrev pub if_new : Bool → ℕ → Layout → Result Layout AsmFault
 if_new true n layout = Err (fault.Duplicate n)
 if_new false n layout = Ok layout
@@ -65,7 +65,7 @@ no_layout = record {
   started = false;
 }
 
--- the layout of these items behind what is laid out; the line of the first that defines a label, a task
+-- the layout of these items after what is already laid out, or the line of the first that defines a label, a task
 -- or the start a second time
 abbrev pub laid : Layout → List PlacedStatement → Result Layout AsmFault
 laid layout [] = Ok layout

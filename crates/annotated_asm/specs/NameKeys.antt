@@ -1,4 +1,4 @@
--- Helper vocabulary: the key of the tables of names, on which only time rests: the hash of all names that
+-- Helper vocabulary: the key of the tables of names, which affects only running time: the hash of all names that
 -- the items define (SipHash, Aumasson, Bernstein 2012, in its form 1-3).
 use Rattle.std.specs.Prelude.{List, [], ◌∷◌}
 use Rattle.std.specs.List.{fold}

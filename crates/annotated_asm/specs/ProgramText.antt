@@ -1,4 +1,4 @@
--- The program that a text spells, or the first fault of the text (own format, own order of faults).
+-- The program that a text spells, or the first fault of the text.
 use Rattle.std.specs.Prelude.{◌≡◌, ℕ, List, length, Option, Some, None, Result, Ok, Err, nat_lt, if◌then◌else◌}
 use Rattle.program_tokens.specs.Lines.{lines}
 use Rattle.task_descriptor.specs.Listing.{Listing, build_fault}
@@ -28,7 +28,7 @@ program_of items layout = do
     built p (build_fault p))
 
 -- Judged in this order: the length (1); each line, the first with a fault (2 to 7); what is defined twice
--- (8); names that are no labels of the wanted kind (9); what makes no well-formed program (10).
+-- (8); names that are no labels of the wanted kind (9); parts that make no well-formed program (10).
 unfoldable pub parse : List ℕ → Result Listing AsmFault
 parse text =
     if nat_lt 4194304 (length text) then Err fault.TooLong

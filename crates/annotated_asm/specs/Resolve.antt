@@ -1,4 +1,4 @@
--- The program that items are, their names resolved (own format).
+-- The program that items make, with their names resolved.
 use Rattle.std.specs.Prelude.{ℕ, ◌+◌, ◌*◌, ◌/◌, ◌%◌, ◌^◌, Bool, true, ◌&&◌, List, [], ◌∷◌, ◌++◌, replicate, Option, Some, None, is_some, Result, Ok, Err, nat_le, if◌then◌else◌}
 use Rattle.std.specs.List.{list_all}
 use Rattle.mips_instructions.specs.declared.instruction.Op.{Op}
@@ -69,12 +69,12 @@ is_known labels (statement.Task task) =
 is_known labels (statement.Code i marks) = is_known_instruction labels i
 is_known labels _ = true
 
--- the line of the first item that names what is no label of the wanted kind
+-- the line of the first item that uses a name that is no label of the wanted kind
 abbrev pub known : Names → List PlacedStatement → Result (Unit {0}) AsmFault
 known labels [] = Ok tt
 known labels (item ∷ items) = if is_known labels item.statement then known labels items else Err (fault.Unknown item.line)
 
--- What items become, at the places of their labels. A place beyond 4096, or an offset beyond 65536, is
+-- What items become, given the places of their labels. A place beyond 4096, or an offset beyond 65536, is
 -- beyond what a program may have.
 
 abbrev pub limit : Section → ℕ
@@ -95,7 +95,7 @@ label_address n None = Err (fault.Unknown n)
 label_address n (Some symbol) =
     if nat_le symbol.offset (limit symbol.section) then Ok (address_of symbol) else Err (fault.Build TooMany)
 
--- the instructions of the machine
+-- the machine instructions
 abbrev pub spelled : Names → ℕ → Instruction → Result (List Op) AsmFault
 spelled labels n (instruction.One o) = Ok (o ∷ [])
 spelled labels n (instruction.Two a b) = Ok (a ∷ b ∷ [])

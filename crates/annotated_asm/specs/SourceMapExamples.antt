@@ -50,7 +50,7 @@ pub pseudo_is : sources_of pseudo_text ≡ Ok pseudo_sources
 unfolding sources_of with_lines with_line spans_after task_of registers_at registers_of places_of targets_of numbers_of bytes_of byte_statement operands_of after_one after_two operand_at base_at load_immediate halt line_tokens tokens_after token_of kind_of number_of magnitude_of number_in register_of register_named
 pseudo_is = refl
 
--- a label that is not known is no fault of a line
+-- an unknown label is not a fault of a line
 pub unknown_label : sources_of (codes "j B # B") ≡ Ok (record { code = at 1 1 ∷ []; widths = 3 ∷ []; tasks = []; lists = []; targets = []; labels = []; pieces = []; start = None })
 unfolding sources_of with_lines with_line spans_after operands_of after_one operand_at jump line_tokens tokens_after token_of kind_of
 unknown_label = refl
@@ -59,7 +59,7 @@ pub word_that_is_none : sources_of (text (codes "nop" ∷ codes "foo" ∷ [])) �
 unfolding sources_of with_lines with_line spans_after operands_of nop line_tokens tokens_after token_of kind_of
 word_that_is_none = refl
 
--- blanks within a list belong to it; a task, too, may be called create
+-- blanks within a list belong to it; a task may also be called create
 abbrev pub blanks_text : List ℕ
 blanks_text = codes " .task create create= $8 , $9  targets=B, @7 # so"
 

@@ -1,4 +1,4 @@
--- Where what a program text says stands (own format): the line and the column of each instruction, task,
+-- Where the parts of a program text stand: the line and the column of each instruction, task,
 -- label and piece of data, and how far instructions and the lists of tasks reach. Lines, tokens and statements
 -- are the assembler's.
 use Rattle.std.specs.Prelude.{◌≡◌, ℕ, ◌+◌, ◌-◌, ◌*◌, Bool, true, false, List, [], ◌∷◌, ◌++◌, length, drop, map as each, take_while, slice_get, replicate, Option, Some, None, Result, Ok, Err, nat_lt, if◌then◌else◌}
@@ -54,7 +54,7 @@ sources_in map = record {
 abbrev pub no_sources : Sources
 no_sources = record { code = []; widths = []; tasks = []; lists = []; targets = []; labels = []; pieces = []; start = None }
 
--- where the token of this number begins, in line n; behind the last token, where the line begins
+-- where the token of this number begins, in line n; after the last token, where the line begins
 abbrev pub column_of : Option TokenSpan → ℕ
 column_of None = 1
 column_of (Some span) = span.column
@@ -62,12 +62,12 @@ column_of (Some span) = span.column
 abbrev pub token_position : ℕ → List TokenSpan → ℕ → Position
 token_position n spans number = record { line = n; column = column_of (slice_get spans number) }
 
--- the column behind a token's last byte
+-- the column after a token's last byte
 abbrev pub end_of : Option TokenSpan → ℕ
 end_of None = 1
 end_of (Some span) = span.column + span.len
 
--- how many bytes there are from the first of one token to the last of another
+-- the number of bytes from the first byte of one token to the last byte of another
 abbrev pub width_between : List TokenSpan → (first last : ℕ) → ℕ
 width_between spans first last = end_of (slice_get spans last) - column_of (slice_get spans first)
 
@@ -86,8 +86,8 @@ with_labels front labels = record front { labels = front.labels ++ labels }
 abbrev pub data_source : Section → Position → DataSource
 data_source here at = record { section = here; position = at }
 
--- The number, in the tokens of a `.task NAME create=REGS targets=TS`, of the word `targets`: it is the first name
--- behind `create=`.
+-- The number of the word `targets` among the tokens of a `.task NAME create=REGS targets=TS`: it is the first name
+-- after `create=`.
 abbrev pub is_no_name : Token → Bool
 is_no_name (token.Name name) = false
 is_no_name _ = true
@@ -129,8 +129,8 @@ with_statement front n spans tokens here (statement.Space size) =
 with_statement front n spans tokens here (statement.Start name) = record front { start = Some (token_position n spans 0) }
 with_statement front n spans tokens here _ = front
 
--- The map with one line more, which has this number and section, and the section behind it. The statement
--- begins behind the labels, which are two tokens each.
+-- The map with one more line, which has this number and section, and the section after it. The statement
+-- begins after the labels, which are two tokens each.
 unfoldable pub with_line : Sources → ℕ → Section → List ℕ → Result (Sources × Section) AsmFault
 with_line front n here line = do
   tokens ← tokens_on_line n (line_tokens line)
@@ -141,14 +141,14 @@ with_line front n here line = do
     section_after here s,
   )
 
--- the same with these lines, the first of which has this number and section
+-- the map with these lines, the first of which has this number and section
 unfoldable pub with_lines : Sources → ℕ → Section → List (List ℕ) → Result Sources AsmFault
 with_lines front n here [] = Ok front
 with_lines front n here (line ∷ lines) = do
   next ← with_line front n here line
   with_lines next.0 (n + 1) next.1 lines
 
--- The source map of a text each of whose lines can be read, else the first fault of a line.
+-- The source map of a text if each of its lines can be read, else the first fault of a line.
 unfoldable pub sources_of : List ℕ → Result Sources AsmFault
 sources_of text =
     if nat_lt 4194304 (length text) then Err fault.TooLong else with_lines no_sources 1 Text (lines text)

@@ -1,9 +1,9 @@
--- Stages of reading a text: each answers a value, or the first fault.
+-- Stages of reading a text: each returns a value, or the first fault.
 use Rattle.std.specs.Prelude.{◌≡◌, Result, Ok, Err}
 use Rattle.annotated_asm.specs.declared.fault.AsmFault.{AsmFault}
 use Rattle.annotated_asm.specs.declared.fault.AsmFault.TheVariants as text
 
--- what a function returned, seen by view, is what a stage answers, or memory ran out
+-- what a function returned, seen by view, is what a stage returns, or memory ran out
 abbrev pub FailsText : {Y : Type 0} → AsmFault → Result Y AsmFault → Type 0
 FailsText text.OutOfMemory stage = Unit {0}
 FailsText fault stage = stage ≡ Err fault

@@ -15,10 +15,10 @@ use task_descriptor::program::{BuildFault, Parts, Program};
 /// The longest text, in bytes.
 pub const MOST_TEXT: usize = 4_194_304;
 
-/// The most lines that such a text has: one more than its bytes.
+/// The most lines that such a text can have: one more than its bytes.
 pub const MOST_LINES: usize = 4_194_305;
 
-/// The program that parts make. It takes no memory, so each refusal is the parts' own.
+/// The program that the parts make. This takes no memory, so each refusal is the parts' own.
 fn built(parts: Parts) -> Result<Program, AsmFault>
     ensures { result ≡ built (listing_of parts) (build_fault (listing_of parts)) }
 {
@@ -44,7 +44,7 @@ fn program_of(
     let parts = match parts_of(alloc, &layout.labels, items) {
         Ok(parts) => parts,
         Err(fault) => {
-            // A name that is not known comes before any other fault.
+            // An unknown name comes before any other fault.
             check_names(&layout.labels, items)?;
             return Err(fault);
         }
@@ -68,11 +68,11 @@ fn assembled(alloc: Global, text: &[u8]) -> Result<Program, AsmFault>
 /// The program that a text spells, or the first fault of the text (see `AsmFault`). A refusal leaves
 /// nothing.
 pub fn assemble(alloc: Global, text: &[u8]) -> Result<Program, AsmFault>
-    // Which program or which fault it is, unless memory ran out.
+    // The result is the text's program or fault, unless memory ran out.
     ensures exact { Answers (λ p. p) result (parse text.now) }
-    // What is answered is spelled so.
+    // A program that is returned is spelled by the text.
     ensures found { IfOk result (λ p. Spells text.now p) }
-    // What is spelled so is answered, unless memory ran out.
+    // A program that the text spells is returned, unless memory ran out.
     ensures only { (p : Listing) → Spells text.now p → Answers (λ q. q) result (Ok p) }
 {
     assembled(alloc, text)

@@ -1,4 +1,4 @@
-//! What is said of a program text that is refused.
+//! What is reported about a program text that is refused.
 
 use crate::fault::AsmFault;
 use std::error::Error;

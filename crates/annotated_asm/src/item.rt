@@ -16,7 +16,7 @@ use std::alloc::{AllocError, Global};
 /// A label or a statement, with its place in the text.
 #[derive(Debug, Drop)]
 pub struct PlacedStatement {
-    /// The line, from 1 on.
+    /// The line, counted from 1.
     pub line: u32,
     /// The section of the line.
     pub section: Section,
@@ -24,7 +24,7 @@ pub struct PlacedStatement {
     pub statement: Statement,
 }
 
-/// Adds the labels at the front of a line, and answers the tokens behind them.
+/// Adds the labels at the front of a line, and returns the tokens after them.
 fn add_labels<'a>(
     items: &mut Vec<PlacedStatement>,
     line: u32,
@@ -68,7 +68,7 @@ fn add_statement(
     }
 }
 
-/// Adds the items of a line, and answers the section behind it.
+/// Adds the items of a line, and returns the section after it.
 #[tactic(auto, unfolding(crate::specs::Items::line_items))]
 fn add_line(
     alloc: Global,
@@ -88,7 +88,7 @@ fn add_line(
     Ok(next)
 }
 
-/// Adds bytes behind the other items: in the last one where that has bytes of the same section.
+/// Adds bytes after the other items: to the last one if that has bytes of the same section.
 fn add_bytes(
     items: &mut Vec<PlacedStatement>,
     line: u32,
@@ -128,8 +128,8 @@ fn ends_in_bytes(items: &[PlacedStatement]) -> bool {
     }
 }
 
-/// Puts the bytes of the last item into the one before it, where that has bytes of the same section, so
-/// that a run of data takes one item and not one a line.
+/// Moves the bytes of the last item into the one before it, if that has bytes of the same section, so
+/// that a run of data takes one item rather than one per line.
 fn join_last(items: &mut Vec<PlacedStatement>) -> Result<(), AllocError>
     ensures { OnOk result (AreAlike items.new.items items.old.items) }
 {

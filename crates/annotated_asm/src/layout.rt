@@ -71,7 +71,7 @@ fn symbol_at(sizes: Sizes, section: Section) -> Symbol
     Symbol { section, offset }
 }
 
-/// Lays out one item more.
+/// Lays out one more item.
 fn with_item(alloc: Global, layout: &mut Layout, item: &PlacedStatement) -> Result<(), AsmFault>
     ensures { Answers (λ _. layout.new) result (with_item layout.old item.now) }
 {

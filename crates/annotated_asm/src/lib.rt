@@ -1,5 +1,5 @@
-//! The assembler: a program text with its tasks and marks becomes a program (own text format, in the
-//! manner of MIPS assemblers; tasks and marks as in Sohi, Breach, Vijaykumar, ISCA 1995). And the map from
+//! The assembler: a program text with its tasks and marks becomes a program (our own text format, in the
+//! style of MIPS assemblers; tasks and marks as in Sohi, Breach, Vijaykumar, ISCA 1995). Also the map from
 //! instructions, tasks, targets and data to their lines.
 #![tactic(auto)]
 

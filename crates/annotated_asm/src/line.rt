@@ -1,4 +1,4 @@
-//! What one line says, with the faults that a line has as faults of the text.
+//! What one line spells, with its faults as faults of the text.
 
 ghost use Rattle.std.specs.Prelude.{◌≡◌};
 ghost use Rattle.program_tokens.specs.Grammar.{line_tokens};
@@ -15,7 +15,7 @@ use program_tokens::line::read_tokens;
 use program_tokens::token::{Token, TokenFault};
 use std::alloc::Global;
 
-/// Puts the tokens of a line in place of those that are there.
+/// Replaces the tokens that are there with those of a line.
 ///
 /// # Errors
 ///
@@ -31,7 +31,7 @@ pub fn tokens_of(tokens: &mut Vec<Token>, line: u32, text: &[u8]) -> Result<(), 
     }
 }
 
-/// The statement that the tokens behind a line's labels spell in this section.
+/// The statement that the tokens after a line's labels spell in this section.
 ///
 /// # Errors
 ///
@@ -51,7 +51,7 @@ pub fn statement_at(
     }
 }
 
-/// A fault of a statement as one of the text.
+/// A statement's fault, as a fault of the text.
 fn at_line(line: u32, fault: StatementFault) -> AsmFault
     ensures { result ≡ at_line line fault }
 {
@@ -63,7 +63,7 @@ fn at_line(line: u32, fault: StatementFault) -> AsmFault
     }
 }
 
-/// The section of the lines behind a statement.
+/// The section of the lines after a statement.
 pub fn section_after(section: Section, statement: &Statement) -> Section
     ensures { result ≡ section_after section statement.now }
 {
@@ -73,7 +73,7 @@ pub fn section_after(section: Section, statement: &Statement) -> Section
     }
 }
 
-/// How many instructions of the machine an instruction of the text is.
+/// How many machine instructions an instruction of the text expands to.
 pub fn instruction_count(instruction: &Instruction) -> u64
     ensures { result ≡ instruction_count instruction.now }
 {

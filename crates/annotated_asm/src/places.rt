@@ -10,8 +10,8 @@ use program_tokens::span::{TokenSpan, read_spans};
 use program_tokens::token::Token;
 use std::alloc::{AllocError, Global};
 
-/// Puts the places of a line's tokens in place of those that are there. No place ends behind what a number of
-/// the machine can tell.
+/// Replaces the places that are there with those of a line's tokens. No place ends beyond what a machine number
+/// can hold.
 pub(crate) fn read_places(spans: &mut Vec<TokenSpan>, text: &[u8]) -> Result<(), AllocError>
     ensures places { OnOk result (spans.new.items ≡ line_spans text.now) }
     ensures ends { OnOk result (All (λ span. span.column + span.len < 2 ^ 64) spans.new.items) }
@@ -40,7 +40,7 @@ pub(crate) fn token_position(line: u32, spans: &[TokenSpan], number: usize) -> P
     }
 }
 
-/// The column behind the last byte of the token of this number.
+/// The column after the last byte of the token of this number.
 fn end_of(spans: &[TokenSpan], number: usize) -> usize
     requires { All (λ span. span.column + span.len < 2 ^ 64) spans.now }
     ensures { result ≡ end_of (slice_get spans.now number) }
@@ -53,7 +53,7 @@ fn end_of(spans: &[TokenSpan], number: usize) -> usize
     }
 }
 
-/// How many bytes there are from the first of one token to the last of another.
+/// The number of bytes from the first byte of one token to the last byte of another.
 pub(crate) fn width_between(spans: &[TokenSpan], first: usize, last: usize) -> usize
     requires { All (λ span. span.column + span.len < 2 ^ 64) spans.now }
     ensures { result ≡ width_between spans.now first last }
@@ -72,7 +72,7 @@ fn stretch_between(line: u32, spans: &[TokenSpan], first: usize, last: usize) ->
     }
 }
 
-/// What stands behind so many items.
+/// What stands after the given number of items.
 pub(crate) fn behind<T>(items: &[T], number: usize) -> &[T]
     ensures { result.now ≡ drop number items.now }
 {
@@ -90,7 +90,7 @@ fn is_no_name(token: &Token) -> bool
     !matches!(token, Token::Name(_))
 }
 
-/// How many of some tokens stand before a name.
+/// How many of the tokens stand before the first name.
 fn before_name(tokens: &[Token]) -> usize
     ensures value { result ≡ length (take_while is_no_name tokens.now) }
     ensures within { result < 2 ^ 63 }
@@ -133,7 +133,7 @@ fn token_stretch(line: u32, span: &TokenSpan) -> Stretch
     }
 }
 
-/// Where the targets of a `.task` stand, from the places of its list on.
+/// Where the targets of a `.task` stand, given the places from its list onward.
 #[tactic(auto, using(crate::proofs::Targets::first_target))]
 pub(crate) fn target_stretches(
     alloc: Global,

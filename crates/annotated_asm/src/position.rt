@@ -6,7 +6,7 @@ use task_descriptor::name::Name;
 /// A place in a text.
 #[derive(Clone, Copy, Debug, PartialEq, Eq)]
 pub struct Position {
-    /// The line, from 1 on.
+    /// The line, counted from 1.
     pub line: u32,
     /// The column, counted in bytes, from 1 on.
     pub column: usize,
@@ -48,13 +48,13 @@ pub struct DataSource {
     pub position: Position,
 }
 
-/// Where what a text says stands.
+/// Where the parts of a text stand.
 #[derive(Debug, Drop)]
 pub struct SourceMap {
-    /// For each instruction of the machine, index 0 first, where the instruction of the text begins that it
-    /// is part of: the two of a pseudo-instruction stand at one place.
+    /// For each machine instruction, index 0 first, where the instruction of the text that it is part of begins:
+    /// the two of a pseudo-instruction stand at one place.
     pub code: Vec<Position>,
-    /// For each instruction of the machine, how many bytes the instruction of the text has, from its mnemonic
+    /// For each machine instruction, how many bytes the instruction of the text has, from its mnemonic
     /// to its last operand or mark.
     pub widths: Vec<usize>,
     /// For each task, task 0 first, where its `.task` begins.

@@ -20,7 +20,7 @@ use program_tokens::token::Token;
 use std::alloc::{AllocError, Global};
 use task_descriptor::name::Name;
 
-/// The label at the front of some tokens, and the tokens behind its colon.
+/// The label at the front of some tokens, and the tokens after its colon.
 fn first_label<'a>(tokens: &'a [Token]) -> Option<(Name, &'a [Token])>
     ensures label { IfSome result (λ cut. tokens.now ≡ Token.Name cut.0 ∷ Token.Colon ∷ cut.1.now) }
     ensures none { IfNone result (labels_of tokens.now ≡ []) }
@@ -31,7 +31,7 @@ fn first_label<'a>(tokens: &'a [Token]) -> Option<(Name, &'a [Token])>
     }
 }
 
-/// Adds the labels at the front of a line. Answers the tokens behind them, and how many tokens they are.
+/// Adds the labels at the front of a line. Returns the tokens after them, and how many tokens the labels take.
 fn add_labels<'a>(
     labels: &mut Vec<LabelSource>,
     line: u32,
@@ -55,7 +55,7 @@ fn add_labels<'a>(
     Ok((rest, number))
 }
 
-/// Adds the place and the width of an instruction of the text, as often as it is of the machine.
+/// Adds the place and the width of an instruction of the text, once for each of its machine instructions.
 fn add_code(
     code: &mut Vec<Position>,
     widths: &mut Vec<usize>,
@@ -126,14 +126,14 @@ fn add_statement(
     Ok(())
 }
 
-/// What is read of a line; its room is used again for the next one.
+/// What is read of a line; its memory is reused for the next one.
 #[derive(Drop)]
 struct Read {
     tokens: Vec<Token>,
     spans: Vec<TokenSpan>,
 }
 
-/// Adds what a line says, and answers the section behind it.
+/// Adds what a line spells, and returns the section after it.
 #[tactic(auto, unfolding(crate::specs::Sources::with_line))]
 fn add_line(
     alloc: Global,
@@ -154,13 +154,13 @@ fn add_line(
     Ok(section_after(section, &statement))
 }
 
-/// The source map of a text, or the first fault of one of its lines. Faults of the text as a whole, as a
-/// label that is not known, are none here: there is a map all the same.
+/// The source map of a text, or the first fault of one of its lines. Faults of the text as a whole, such as
+/// an unknown label, do not count here: the map is made all the same.
 ///
 /// # Errors
 ///
 /// `TooLong`, then the first fault of a line: `NotAscii`, `Token`, `Mnemonic`, `Operand`, `Number` or
-/// `Mark`. `OutOfMemory` may be told in place of any of these.
+/// `Mark`. `OutOfMemory` may be reported in place of any of these.
 #[tactic(auto, unfolding(crate::specs::Sources::sources_of))]
 pub fn source_map(alloc: Global, text: &[u8]) -> Result<SourceMap, AsmFault>
     ensures { Answers (λ map. sources_in map) result (sources_of text.now) }

@@ -1,4 +1,4 @@
-//! The program that items are, their names resolved.
+//! The program that items make, with their names resolved.
 
 ghost use Rattle.std.specs.Prelude.{◌≡◌, ◌++◌, ◌/◌, ◌%◌, ◌^◌, List, [], ◌∷◌, replicate, is_some, OnOk};
 ghost use Rattle.mips_instructions.specs.declared.instruction.Op.TheVariants.{Lui, Logic};
@@ -95,7 +95,7 @@ fn is_known(labels: &Table, statement: &Statement) -> bool
     }
 }
 
-/// Finds the first item that names what is no label of the wanted kind.
+/// Finds the first item that uses a name that is no label of the wanted kind.
 pub fn check_names(labels: &Table, items: &[PlacedStatement]) -> Result<(), AsmFault>
     ensures { result ≡ known labels.now items.now }
 {
@@ -172,7 +172,7 @@ fn address_pair(rd: Gpr, address: u32) -> Expansion
     Expansion::Two(high, low)
 }
 
-/// The instructions of the machine that an instruction is.
+/// The machine instructions that an instruction expands to.
 fn spelled(labels: &Table, line: u32, instruction: &Instruction) -> Result<Expansion, AsmFault>
     ensures { Answers ops_of result (spelled labels.now line instruction.now) }
 {
@@ -251,7 +251,7 @@ fn add_data(parts: &mut Parts, section: Section, bytes: &[u8]) -> Result<(), All
     Ok(())
 }
 
-/// Adds zeros behind bytes.
+/// Adds zeros after bytes.
 fn append_zeros(bytes: &mut Vec<u8>, size: u32) -> Result<(), AllocError>
     ensures { OnOk result (bytes.new.items ≡ bytes.old.items ++ replicate size 0) }
 {
@@ -296,7 +296,7 @@ fn add_code(parts: &mut Parts, marks: Marks, code: Expansion) -> Result<(), Allo
     }
 }
 
-/// Adds what an item is to the program so far.
+/// Adds what an item stands for to the program so far.
 fn add_part(
     alloc: Global,
     labels: &Table,
@@ -324,7 +324,7 @@ fn add_part(
     Ok(())
 }
 
-/// The parts of the program that items are.
+/// The parts of the program that items make.
 pub fn parts_of(alloc: Global, labels: &Table, items: &[PlacedStatement]) -> Result<Parts, AsmFault>
     ensures { Answers listing_of result (parts labels.now no_parts items.now) }
 {

@@ -38,7 +38,7 @@ impl Table {
     ghost use Rattle.std.specs.Prelude.{◌≡◌, ◌++◌, [], ◌∷◌, None, OnOk};
     ghost use Rattle.annotated_asm.specs.Tables.{lookup};
 
-    /// No names. Those to come are hashed by the key.
+    /// An empty table. Names added later are hashed with the key.
     pub fn new(alloc: Global, key: NameKey) -> Table
         ensures { result ≡ [] }
     {
@@ -47,14 +47,14 @@ impl Table {
         }
     }
 
-    /// Where a name stands, if it does.
+    /// Where a name stands, if it is in the table.
     pub fn get(&self, name: &Name) -> Option<Symbol>
         ensures { result ≡ lookup self.now name.now }
     {
         self.rows.get(name.as_str()).copied()
     }
 
-    /// Adds a name that is not there.
+    /// Adds a name that is not in the table.
     pub fn add(&mut self, alloc: Global, name: &Name, symbol: Symbol) -> Result<(), AllocError>
         requires { lookup self.old name.now ≡ None }
         ensures { OnOk result (self.new ≡ self.old ++ (name.now, symbol) ∷ []) }

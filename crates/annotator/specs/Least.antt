@@ -1,4 +1,4 @@
--- What the least certificate of a program is, in terms of paths: nothing of how it is found.
+-- What the least certificate of a program is, in terms of paths; how it is found plays no part.
 --
 -- A mask is to hold each register that a task may still write. Masks as a certificate are this project's
 -- own; they refine the create mask of Sohi, Breach, Vijaykumar, "Multiscalar Processors", ISCA 1995,
@@ -13,9 +13,9 @@ use Rattle.mask_certificate.specs.Lists.{list_of, mask_at, Rises}
 
 -- The list has the least masks of the task d.
 pub record LeastList (p : Listing) (d : Descriptor) (list : List (ℕ × ℕ)) : Type 0 where
-  -- an index stands at most once
+  -- an index occurs at most once
   pub rises : Rises list
-  -- an index has a mask exactly where a path from the task's entry comes to an instruction there
+  -- an index has a mask exactly where a path from the task's entry reaches an instruction there
   pub reached : (i : ℕ) → IsSome (mask_at list i) ↔ Reaches p d.entry i
   -- the mask is exactly the set of the registers that some path from there writes
   pub exact : (i mask r : ℕ) → mask_at list i ≡ Some mask → (has mask r ≡ true) ↔ MayWrite p i r

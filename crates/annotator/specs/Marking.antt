@@ -13,7 +13,7 @@ use Rattle.annotator.specs.Proposed.{produces, Produces, IsMember, WritesLast}
 abbrev pub indices_of : List (ℕ × ℕ) → List ℕ
 indices_of list = map (λ entry. entry.0) list
 
--- the marks with those of some indices set beside them
+-- the marks with those of some indices set as well
 pub record AreMarked (indices : List ℕ) (old new : List Bool) : Type 0 where
   pub sized : length new ≡ length old
   pub kept : (i : ℕ) → is_marked old i ≡ true → is_marked new i ≡ true

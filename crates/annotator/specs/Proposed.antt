@@ -40,7 +40,7 @@ pub record WritesLast (p : Listing) (i : ℕ) (op : Op) : Type 0 where
   pub last : (j r : ℕ) → Edge p false i j → dests op r ≡ true → MayWrite p j r → ⊥
 
 -- The marks `new` are those proposed for the instruction `old` at i: the stop stays; a member of a task
--- carries a forward bit exactly where it writes last, and what is no member keeps its forward bit.
+-- carries a forward bit exactly where it writes last, and what is not a member keeps its forward bit.
 pub record IsRemarked (p : Listing) (i : ℕ) (old new : Marked) : Type 0 where
   pub op : new.op ≡ old.op
   pub stop : new.stop ≡ old.stop
@@ -48,7 +48,7 @@ pub record IsRemarked (p : Listing) (i : ℕ) (old new : Marked) : Type 0 where
   pub beside : (IsMember p i → ⊥) → new.forward ≡ old.forward
 
 -- The descriptor `new` is the one proposed for the task `old`: its create mask is exactly what members
--- of the task write or release, and all else stays.
+-- of the task write or release, and everything else stays.
 pub record IsRedescribed (p : Listing) (old new : Descriptor) : Type 0 where
   pub name : new.name ≡ old.name
   pub entry : new.entry ≡ old.entry

@@ -9,7 +9,7 @@ use Rattle.task_descriptor.specs.declared.descriptor.Marked.{Marked}
 use Rattle.task_graph.specs.Edges.{MayWrite}
 use Rattle.task_graph.specs.Neighbours.{Follows}
 
--- the mask of the index has the register; behind the end no mask has any
+-- the mask of the index has the register; past the end no mask has any
 abbrev pub may : List ℕ → (i r : ℕ) → Type 0
 may masks i r = has (slice_index masks i) r ≡ true
 
@@ -27,7 +27,7 @@ pub record AreDestinations (code : List Marked) (n : ℕ) (masks : List ℕ) : T
 abbrev pub lists_of : List (Vec ℕ Global) → List (List ℕ)
 lists_of lists = map (λ list. list.items) lists
 
--- the list of an index, which is empty behind the end
+-- the list of an index, which is empty past the end
 abbrev pub sources_of : List (List ℕ) → ℕ → List ℕ
 sources_of lists j = slice_index_or lists j []
 

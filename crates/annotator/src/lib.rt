@@ -1,7 +1,7 @@
 //! Annotates programs: finds the least certificate of a program, and from it whether the marks are right
 //! and which marks to propose.
 //!
-//! Nothing rests on this crate: what it gives is checked like a stranger's.
+//! No trust rests on this crate: its results are checked like a stranger's.
 #![tactic(auto)]
 
 pub mod certify;

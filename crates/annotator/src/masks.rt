@@ -72,7 +72,7 @@ fn widen(
     Ok(())
 }
 
-/// The set with the registers of the mask beside its members; `None` where it has them all.
+/// The set with the registers of the mask added; `None` where it has them all.
 fn grown(set: RegSet, mask: RegSet) -> Option<RegSet>
     ensures smaller_room { IfSome result (λ joined. room_of joined < room_of set) }
     ensures members { IfSome result (λ joined. (r : ℕ) → has joined r ≡ (has set r || has mask r)) }

@@ -16,7 +16,7 @@ use task_descriptor::descriptor::{Descriptor, Marked};
 use task_descriptor::program::Program;
 use thiserror::Error;
 
-/// Why no marks are proposed (own numbering).
+/// Why no marks are proposed.
 #[derive(Clone, Copy, Debug, PartialEq, Eq, Error)]
 pub enum AnnotateFault {
     /// 1: memory was refused.
@@ -34,7 +34,7 @@ struct Found {
 
 /// The program with the marks that are proposed for it, and its least certificate: each create mask is
 /// what members of the task write or release; a member of a task carries a forward bit exactly where it
-/// has a destination and no destination may be written again; all else stays.
+/// has a destination and no destination may be written again; everything else stays.
 ///
 /// # Errors
 ///

@@ -13,7 +13,7 @@ use task_descriptor::descriptor::Marked;
 use task_descriptor::marks::has_member;
 
 /// Whether an instruction has a destination, and none of them is among the registers that may be written
-/// again behind it.
+/// again after it.
 pub fn writes_last(op: &Op, again: RegSet) -> bool
     ensures { (program : Listing) (index : ℕ)
         → ((r : ℕ) → (has again r ≡ true) ↔ WrittenBehind program index r)

@@ -1,4 +1,4 @@
--- What it means that a program differs from that of a text in create masks and forward bits alone.
+-- What it means for a program to differ from that of a text only in create masks and forward bits.
 use Rattle.std.specs.Prelude.{◌≡◌, ℕ, suc, ◌<◌, ◌^◌, false, None, List, [], ◌∷◌}
 use Rattle.std.specs.List.{AllByRecursion}
 use Rattle.task_descriptor.specs.Listing.{Listing, build_fault}
@@ -43,12 +43,12 @@ pub record SameRest (last whole : Listing) : Type 0 where
   pub fixed : whole.fixed ≡ last.fixed
   pub start : whole.start ≡ last.start
 
--- A create mask has registers alone.
+-- A create mask has only registers.
 abbrev pub AreMasks : List Descriptor → Type 0
 AreMasks tasks = AllByRecursion (λ t. t.create < 2 ^ 34) tasks
 
--- The program q is the program p of the text but for create masks and forward bits, and the first of the two instructions
--- of each pseudo-instruction of the text carries no forward bit.
+-- The program q is the program p of the text except for create masks and forward bits, and the first of the two
+-- instructions of each pseudo-instruction of the text carries no forward bit.
 pub record DiffersInMarks (p q : Listing) (items : List PlacedStatement) : Type 0 where
   pub code : AlikeCode p.code q.code
   pub tasks : AlikeTasks p.tasks q.tasks

@@ -1,4 +1,4 @@
--- The text of a program with other create masks and forward bits: in a line that has to change one
+-- The text of a program with other create masks and forward bits: in each line that has to change, one
 -- stretch is replaced, and every other byte of the text stays.
 use Rattle.std.specs.Prelude.{◌≡◌, ◌⊎◌, ℕ, ◌+◌, ◌-◌, ◌*◌, ◌<◌, ◌≤◌, ◌==◌, Bool, true, false, List, [], ◌∷◌, ◌++◌, length, take, drop, map, slice_get, codes, Option, Some, None, Result, Ok, Err, if◌then◌else◌}
 use Rattle.task_descriptor.specs.Listing.{Listing}
@@ -40,13 +40,13 @@ abbrev pub replaced : List TokenSpan → (from to : ℕ) → (bytes line : List 
 replaced spans from to bytes line =
     take (behind_token (slice_get spans from)) line ++ (bytes ++ drop (behind_token (slice_get spans to)) line)
 
--- Forward bits. The tokens and their places are those of the statement, behind its labels.
+-- Forward bits. The tokens and their places are those of the statement, after its labels.
 
 abbrev pub stop_count : Stop → ℕ
 stop_count stop.None = 0
 stop_count _ = 1
 
--- `!f` is put behind the last operand, with a blank before it
+-- `!f` is put after the last operand, with a blank before it
 abbrev pub with_forward : List TokenSpan → List Token → Stop → List ℕ → List ℕ
 with_forward spans tokens stop line =
     let last = length tokens - (stop_count stop + 1) in replaced spans last last (codes " !f") line
@@ -75,12 +75,12 @@ abbrev pub list_size : List Target → ℕ
 list_size [] = 1
 list_size (target ∷ targets) = 1 + 2 * length targets
 
--- a blank before a byte that would go on a register
+-- a blank before a byte that would continue a register
 abbrev pub separator : List ℕ → List ℕ
 separator [] = []
 separator (b ∷ bytes) = if is_name_byte b then 32 ∷ [] else []
 
--- the registers from behind `create=` to the word `targets` are written in their canonical form
+-- the registers from after `create=` up to the word `targets` are written in their canonical form
 abbrev pub with_create : ℕ → List Target → List TokenSpan → List Token → List ℕ → List ℕ
 with_create create targets spans tokens line =
     let last = length tokens - (list_size targets + 3) in
@@ -93,7 +93,7 @@ task_line wanted task spans tokens line = if wanted == task.create then line els
 
 -- Whole texts.
 
--- A text that is being written, and what of the program's instructions and tasks is still to come.
+-- A text that is being written, and which of the program's instructions and tasks are still to come.
 pub record Written : Type 0 where
   pub text : List ℕ
   pub code : List Marked
@@ -108,7 +108,7 @@ abbrev pub create_of : Option Descriptor → ℕ → ℕ
 create_of None now = now
 create_of (Some task) now = task.create
 
--- the line of a statement; of an instruction of the text that is two of the machine the marks are the second's
+-- the line of a statement; for an instruction of the text that is two of the machine, the marks are the second's
 abbrev pub statement_line : List Marked → List Descriptor → List TokenSpan → List Token → Statement → List ℕ → List ℕ
 statement_line code tasks spans tokens (statement.Code i marks) line =
     code_line (forward_of (slice_get code (instruction_count i - 1)) marks.forward) marks spans tokens line
@@ -116,7 +116,7 @@ statement_line code tasks spans tokens (statement.Task task) line =
     task_line (create_of (slice_get tasks 0) task.create) task spans tokens line
 statement_line code tasks spans tokens _ line = line
 
--- what is still to come behind a statement
+-- what is still to come after a statement
 abbrev pub code_behind : List Marked → Statement → List Marked
 code_behind code (statement.Code i marks) = drop (instruction_count i) code
 code_behind code _ = code
@@ -129,7 +129,7 @@ tasks_behind tasks _ = tasks
 abbrev pub newline_before : ℕ → List ℕ
 newline_before n = if n == 1 then [] else 10 ∷ []
 
--- the tokens of a line's labels, and their places, stand in front of the statement's
+-- the tokens of a line's labels, and their places, come before the statement's
 abbrev pub own_spans : List ℕ → List Token → List TokenSpan
 own_spans line tokens = drop (length tokens - length (after_labels tokens)) (line_spans line)
 
@@ -140,14 +140,14 @@ with_statement front n line tokens s = record {
   tasks = tasks_behind front.tasks s;
 }
 
--- What is written with one line more, which has this number and section, and the section behind it.
+-- What is written with one more line, which has this number and section, and the section after it.
 unfoldable pub with_line : Written → ℕ → Section → List ℕ → Result (Written × Section) AsmFault
 with_line front n here line = do
   tokens ← tokens_on_line n (line_tokens line)
   s ← on_line n (statement_of here (after_labels tokens))
   Ok (with_statement front n line tokens s, section_after here s)
 
--- the same with these lines, the first of which has this number and section
+-- what is written with these lines, the first of which has this number and section
 unfoldable pub with_lines : Written → ℕ → Section → List (List ℕ) → Result Written AsmFault
 with_lines front n here [] = Ok front
 with_lines front n here (line ∷ lines) = do
@@ -165,7 +165,7 @@ text_in (Err fault) = Err fault
 unfoldable pub marked_text : List ℕ → Listing → Result (List ℕ) AsmFault
 marked_text text p = text_in (with_lines (nothing_of p) 1 Text (lines text))
 
--- What is answered: the text, if it spells the program; else why it is none.
+-- What is returned: the text, if it spells the program; else why there is none.
 abbrev pub IsAnswer : List ℕ → Listing → Result (List ℕ) MarksFault → Type 0
 IsAnswer text p (Ok bytes) = (marked_text text p ≡ Ok bytes) × Spells bytes p
 IsAnswer text p (Err fault.TooLong) = (4194304 < length text) ⊎ ((bytes : List ℕ) × (marked_text text p ≡ Ok bytes) × (4194304 < length bytes))

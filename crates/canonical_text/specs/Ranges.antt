@@ -1,4 +1,4 @@
--- The ranges of a program's numbers, and its tasks' names: what their types say of them.
+-- The ranges of a program's numbers, and its tasks' names: what their types state about them.
 use Rattle.std.specs.Prelude.{◌≡◌, ◌<◌, ◌≤◌, ◌^◌, ℤ, pos, negsuc, true}
 use Rattle.std.specs.List.{All}
 use Rattle.mips_instructions.specs.InstructionTable.{operands}

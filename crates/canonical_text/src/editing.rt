@@ -31,7 +31,7 @@ fn up_to<'a>(line: &'a [u8], spans: &[TokenSpan], number: usize) -> &'a [u8]
     if end < line.len() { &line[..end] } else { line }
 }
 
-/// The bytes of a line behind the end of a token.
+/// The bytes of a line after the end of a token.
 fn from<'a>(line: &'a [u8], spans: &[TokenSpan], number: usize) -> &'a [u8]
     ensures { result.now ≡ drop (behind (slice_get spans.now number)) line.now }
 {
@@ -112,7 +112,7 @@ fn list_size(targets: &[Target]) -> usize
     }
 }
 
-/// What keeps the bytes behind a register from going on it.
+/// What keeps the bytes after a register from continuing it.
 fn separator(rest: &[u8]) -> &'static [u8]
     ensures { result.now ≡ separator rest.now }
 {

@@ -7,14 +7,14 @@ use std::alloc::AllocError;
 use std::error::Error;
 use std::fmt;
 
-/// Why no text is written (own numbering).
+/// Why no text is written.
 #[derive(Clone, Copy, Debug, PartialEq, Eq)]
 pub enum MarksFault {
     /// 1: the text with these marks has more than 4,194,304 bytes.
     TooLong,
     /// 2: the text with these marks is not the program's.
     Differs,
-    /// 3: there was no memory; it may come in place of any other answer.
+    /// 3: out of memory; this may come in place of any other answer.
     OutOfMemory,
 }
 

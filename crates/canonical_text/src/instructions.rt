@@ -54,7 +54,7 @@ fn write_next_operand(
     write_operand(text, labels, operand)
 }
 
-/// A mnemonic, and the operands behind it.
+/// A mnemonic, and the operands after it.
 fn write_spelled(
     text: &mut String,
     labels: &Labels,

@@ -1,11 +1,11 @@
-//! Which task begins at a place, found out once for all places.
+//! Which task begins at a place, found once for all places.
 
 use std::alloc::{AllocError, Global};
 use std::marker::Model;
 use task_descriptor::descriptor::Descriptor;
 
 /// The tasks of a program, with the first one that begins at each place.
-// The names are found to be text once, not at each use.
+// The names are checked to be text once, not at each use.
 #[derive(Drop)]
 pub(crate) struct Labels<'a> {
     tasks: &'a [Descriptor],
@@ -68,7 +68,7 @@ impl<'a> Labels<'a> {
 ghost use Rattle.std.specs.Prelude.{◌≡◌, IfOk, map};
 ghost use Rattle.canonical_text.specs.FirstTasks.{AreFirst};
 
-/// For each place the index of the first task that begins there; how many tasks there are, where none does.
+/// For each place, the index of the first task that begins there, or the number of tasks where none does.
 fn first_tasks(tasks: &[Descriptor]) -> [usize; 4097]
     ensures { AreFirst tasks.now result }
 {

@@ -16,7 +16,7 @@ use task_descriptor::program::Program;
 /// # Errors
 ///
 /// `TooLong` if this has more bytes than a program text may have. `Differs` if it does not spell the program, as
-/// when the two differ in more than these marks. `OutOfMemory` may be told in place of either.
+/// when the two differ in more than these marks. `OutOfMemory` may be reported in place of either.
 pub fn with_marks_of(alloc: Global, text: &[u8], program: &Program) -> Result<Vec<u8>, MarksFault>
     ensures { MatchResult result (λ v. IsAnswer text.now program.now (Ok v.items)) (λ fault. IsAnswer text.now program.now (Err fault)) }
 {

@@ -24,7 +24,7 @@ pub(crate) fn write_place(
     }
 }
 
-/// The members of a set, rising; answers whether there is one.
+/// The members of a set, in ascending order; returns whether there is one.
 pub(crate) fn write_registers(text: &mut String, set: RegSet) -> Result<bool, AllocError>
     ensures written { OnOk result (string_bytes text.new ≡ string_bytes text.old ++ commas (map register_text (members set))) }
     ensures some { IfOk result (λ some. some ≡ not (no_pieces (map register_text (members set)))) }

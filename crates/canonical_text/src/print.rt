@@ -24,7 +24,7 @@ fn write_task(text: &mut String, labels: &Labels, task: &Descriptor) -> Result<(
     Ok(())
 }
 
-/// Writes a create mask as a list: its registers, rising, or a `-`.
+/// Writes a create mask as a list: its registers, in ascending order, or a `-`.
 pub fn write_create(text: &mut String, create: RegSet) -> Result<(), AllocError>
     ensures { OnOk result (string_bytes text.new ≡ string_bytes text.old ++ listed (map register_text (members create))) }
 {
@@ -163,7 +163,7 @@ fn write_start(text: &mut String, task: Option<&Descriptor>) -> Result<(), Alloc
     }
 }
 
-/// How much room the text of a program takes, about: a line for each instruction and each word of data, and
+/// Roughly how much room the text of a program takes: a line for each instruction and each word of data, and
 /// for each task its descriptor and label.
 fn room_for(program: &Program) -> usize {
     let words = program.bytes().len() / 4 + program.fixed().len() / 4;
@@ -174,7 +174,7 @@ fn room_for(program: &Program) -> usize {
     room
 }
 
-/// The canonical text of a program: `.start`, the tasks in order, the instructions, one a
+/// The canonical text of a program: `.start`, the tasks in order, the instructions, one per
 /// line, each task's label alone on the line before, then the bytes of data and of read-only data.
 pub fn print(alloc: Global, program: &Program) -> Result<Vec<u8>, AllocError>
     ensures { IfOk result (λ text. text.items ≡ canonical_text program.now) }

@@ -17,7 +17,7 @@ use std::alloc::{AllocError, Global};
 use task_descriptor::descriptor::{Descriptor, Marked};
 use task_descriptor::program::Program;
 
-/// The tokens behind the label at the front of some tokens, if one stands there.
+/// The tokens after the label at the front of some tokens, if one stands there.
 fn behind_label(tokens: &[Token]) -> Option<&[Token]>
     ensures some { IfSome result (λ rest. after_labels tokens.now ≡ after_labels rest.now) }
     ensures shorter { IfSome result (λ rest. length rest.now < length tokens.now) }
@@ -29,7 +29,7 @@ fn behind_label(tokens: &[Token]) -> Option<&[Token]>
     }
 }
 
-/// The tokens behind the labels at the front of a line.
+/// The tokens after the labels at the front of a line.
 fn after_labels(tokens: &[Token]) -> &[Token]
     ensures { result.now ≡ after_labels tokens.now }
 {
@@ -40,7 +40,7 @@ fn after_labels(tokens: &[Token]) -> &[Token]
     rest
 }
 
-/// What stands behind so many items.
+/// What stands after the given number of items.
 fn behind<T>(items: &[T], number: usize) -> &[T]
     ensures { result.now ≡ drop number items.now }
 {
@@ -103,7 +103,7 @@ fn write_statement_line(
     }
 }
 
-/// The instructions that are still to come behind a statement.
+/// The instructions that are still to come after a statement.
 fn code_behind<'a>(code: &'a [Marked], statement: &Statement) -> &'a [Marked]
     ensures { result.now ≡ code_behind code.now statement.now }
 {
@@ -113,7 +113,7 @@ fn code_behind<'a>(code: &'a [Marked], statement: &Statement) -> &'a [Marked]
     }
 }
 
-/// The tasks that are still to come behind a statement.
+/// The tasks that are still to come after a statement.
 fn tasks_behind<'a>(tasks: &'a [Descriptor], statement: &Statement) -> &'a [Descriptor]
     ensures { result.now ≡ tasks_behind tasks.now statement.now }
 {
@@ -123,7 +123,7 @@ fn tasks_behind<'a>(tasks: &'a [Descriptor], statement: &Statement) -> &'a [Desc
     }
 }
 
-/// What is read of a line; its room is used again for the next one.
+/// What is read of a line; its memory is reused for the next one.
 #[derive(Drop)]
 struct Read {
     tokens: Vec<Token>,
@@ -148,7 +148,7 @@ fn write_newline(text: &mut Vec<u8>, line: u32) -> Result<(), AllocError>
     text.extend_from_slice(b"\n")
 }
 
-/// Writes a line with the marks that are to come, and answers what comes behind it.
+/// Writes a line with the marks that are to come, and returns what comes after it.
 #[tactic(auto, unfolding(crate::specs::MarkedText::with_line))]
 fn write_line<'a>(
     alloc: Global,
@@ -185,7 +185,7 @@ ghost use Rattle.program_tokens.specs.Lines.{lines};
 ///
 /// # Errors
 ///
-/// `NotAscii`, `Token`, `Mnemonic`, `Operand`, `Number` or `Mark`; `OutOfMemory` may be told in place of any.
+/// `NotAscii`, `Token`, `Mnemonic`, `Operand`, `Number` or `Mark`; `OutOfMemory` may be reported in place of any.
 #[tactic(auto, unfolding(crate::specs::MarkedText::marked_text))]
 pub(crate) fn marked_text(
     alloc: Global,

@@ -100,7 +100,7 @@ abbrev pub by_schedule : Option Schedule → Option RunEmit → Option RunEmit
 by_schedule (Some Steps) (Some Picture) = Some StepPicture
 by_schedule schedule emit = emit
 
--- `--axis` says which, and goes with a picture alone
+-- `--axis` selects which, and goes with a picture alone
 abbrev pub with_axis : (axis : Text) → Option RunEmit → Option RunEmit
 with_axis axis (Some Picture) = axis_of axis
 with_axis axis other = None
@@ -141,13 +141,13 @@ is_least values = is_given (codes "least") values
 abbrev pub is_strict : List Row → Bool
 is_strict values = is_given (codes "strict") values
 
--- where the certificate comes from, of a subcommand whose last file is this one: with `--least` there is a
--- file less, and so no last one
+-- where the certificate comes from, of a subcommand whose last file is this one: with `--least` there is one
+-- file fewer, and so no last one
 abbrev pub IsSource : Text → List Row → CertificateSource → Type 0
 IsSource last values File = (is_least values ≡ false) × IsSome (first_of last values)
 IsSource last values Least = (is_least values ≡ true) × (first_of last values ≡ None)
 
--- where `check` takes the certificate from: it is the only file behind the program; with `--least` the files there
+-- where `check` takes the certificate from: it is the only file after the program; with `--least` the files there
 -- are further programs
 abbrev pub IsCheckSource : List Row → CertificateSource → Type 0
 IsCheckSource values File = IsSource (codes "certificate") values File × (length (values_at (codes "certificate") values) ≤ 1)
@@ -174,7 +174,7 @@ IsCheckMisfit values fault =
 abbrev pub IsNoValue : {V : Type 0} → Option V → UsageFault → Type 0
 IsNoValue value fault = IsOfKind kind.InvalidValue fault × (value ≡ None)
 
--- `--strict` is given, and something else is to be written, or `--until` is given, too
+-- `--strict` is given, and something else is to be written, or `--until` is given as well
 abbrev pub IsStrictMisfit : List Row → UsageFault → Type 0
 IsStrictMisfit values fault = IsOfKind kind.ArgumentConflict fault × (is_strict values ≡ true)
     × IsSomeAnd (replay_emit_in values) (λ emit. (emit ≢ Answers) ⊎ IsSome (number_at (codes "until") values))
@@ -249,7 +249,7 @@ destination_in values job =
     if is_in_place values then (if fits_in_place values job then Some (first_of (codes "program") values) else None)
     else Some (option_and_then but_standard (first_of (codes "output") values))
 
--- the programs behind the first
+-- the programs after the first
 abbrev pub further_in : Job → List Row → List Text
 further_in (Explain file certificate script warnings format colors) values = values_at (codes "further") values
 further_in (Check Least workers) values = values_at (codes "certificate") values
@@ -343,11 +343,11 @@ Refuses name values fault = IsLack (Lacks name values) fault
     ⊎ ((name ≡ codes "curve") × Fits (codes "certificate") values × IsSome (predict_in values) × IsNoValue (curve_emit_in values) fault)
     ⊎ ((name ≡ codes "demonstrate") × IsNoValue (demonstrate_emit_in values) fault)
 
--- what reading a subcommand with these values comes to
+-- the result of reading a subcommand with these values
 abbrev pub Reads : Text → List Row → Result (Job × Paths) UsageFault → Type 0
 Reads name values result = MatchResult result (λ r. IsAsked name values r.0 r.1) (Refuses name values)
 
--- what reading the file that takes the result comes to
+-- the result of reading the file that takes the result
 abbrev pub IsDestination : Option (Option Text) → Result (Option (String Global)) UsageFault → Type 0
 IsDestination destination (Ok output) = destination ≡ Some (option_map string_bytes output)
 IsDestination destination (Err fault) = (fault ≡ OutOfMemory) ⊎ (IsOfKind kind.ArgumentConflict fault × (destination ≡ None))
@@ -357,7 +357,7 @@ abbrev pub IsMisplaced : Text → List Row → UsageFault → Type 0
 IsMisplaced name values fault = IsOfKind kind.ArgumentConflict fault
     × (job : Job) × (paths : Paths) × IsAsked name values job paths × (destination_in values job ≡ None)
 
--- the job is given, and there are further programs that cannot have it, too
+-- the job is given, and there are further programs that cannot also have it
 abbrev pub IsOfOne : Text → List Row → UsageFault → Type 0
 IsOfOne name values fault = IsOfKind kind.ArgumentConflict fault
     × (job : Job) × (paths : Paths) × (output : Option Text) × IsAsked name values job paths

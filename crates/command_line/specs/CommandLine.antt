@@ -28,11 +28,11 @@ flag id = record (new_rule id) { long = Some id; action = Some SetTrue }
 abbrev pub free_word : Text → Rule
 free_word id = record (new_rule id) { long = Some id; action = Some Set; value_names = 1 }
 
--- the same with the word that it has where it is not given
+-- like `free_word`, with the word that it has where it is not given
 abbrev pub word : Text → Text → Rule
 word id otherwise = record (free_word id) { defaults = otherwise ∷ [] }
 
--- an option `--id` with a file for its value, which has a letter, too; it need not be given
+-- an option `--id` with a file for its value, which also has a letter; it need not be given
 abbrev pub file_option : Text → ℕ → Rule
 file_option id letter = record (free_word id) { short = Some letter }
 
@@ -45,7 +45,7 @@ free_number id most = record (new_rule id) {
   parser = Some (Signed (pos 1) (pos most));
 }
 
--- the same with the number that it has where it is not given
+-- like `free_number`, with the number that it has where it is not given
 abbrev pub number : Text → ℕ → Text → Rule
 number id most otherwise = record (free_number id most) { defaults = otherwise ∷ [] }
 
@@ -55,7 +55,7 @@ program = file (codes "program")
 abbrev pub certificate : Rule
 certificate = file (codes "certificate")
 
--- a certificate, and a script behind one, that need not be named
+-- a certificate, and a script after one, that need not be named
 abbrev pub free_certificate : Rule
 free_certificate = free_file (codes "certificate")
 
@@ -90,7 +90,7 @@ output = file_option (codes "output") 111
 abbrev pub in_place : Rule
 in_place = flag (codes "in-place")
 
--- a script says what its events did
+-- a script states what its events did
 abbrev pub valued : Rule
 valued = flag (codes "with-values")
 
@@ -102,7 +102,7 @@ until = free_number (codes "until") 1000000
 abbrev pub strict : Rule
 strict = flag (codes "strict")
 
--- what is left to mend by hand is told
+-- what is left to mend by hand is reported
 abbrev pub report : Rule
 report = flag (codes "report")
 
@@ -131,15 +131,15 @@ checkers = number (codes "workers") 16 (codes "1")
 abbrev pub workers : Rule
 workers = free_number (codes "workers") 16
 
--- how what is said of a program is laid out
+-- how what is reported of a program is laid out
 abbrev pub layout : Rule
 layout = word (codes "format") (codes "text")
 
--- whether what is said of a program has colours
+-- whether what is reported of a program has colours
 abbrev pub colors : Rule
 colors = word (codes "color") (codes "auto")
 
--- each of several runs is told when it is done
+-- each of several runs is reported when it is done
 abbrev pub progress : Rule
 progress = flag (codes "progress")
 
@@ -196,7 +196,7 @@ command_line = record {
   subs = seq ∷ print ∷ annotate ∷ explain ∷ check ∷ replay ∷ run ∷ curve ∷ demonstrate ∷ [];
 }
 
--- A fault of the words is told with the usage of their subcommand. These subcommands find faults where `clap`
+-- A fault of the words is reported with the usage of their subcommand. These subcommands find faults where `clap`
 -- finds none; any other name stands for the whole command line.
 abbrev pub alone : Shape → App
 alone s = record { top = s; subs = [] }

@@ -1,9 +1,9 @@
-//! What `--help` and `--version` say.
+//! What `--help` and `--version` print.
 
 /// The version.
 pub const VERSION: &str = "0.1.0";
 
-/// What `--version` says behind the program's name: the version, and the toolchain that proves the program, as
+/// What `--version` prints after the program's name: the version, and the toolchain that proves the program, as
 /// `rt version` names it. `release/build.sh` builds with no other.
 pub const VERSION_AND_TOOLCHAIN: &str = "0.1.0 (proved with rattle-kit-13f logic dac8208d650f15bf)";
 
@@ -367,11 +367,11 @@ pub const LEAST: &str = "Makes the least certificate of the program as it stands
 /// CERT, where `--least` may stand in its place.
 pub const CERTIFICATE: &str = "The certificate of the program; none with --least";
 
-/// The files behind the program of `check`.
+/// The files after the program of `check`.
 pub const CERTIFICATE_OR_PROGRAMS: &str =
     "The certificate of the program; with --least further programs";
 
-/// The programs behind the first of `explain`.
+/// The programs after the first of `explain`.
 pub const FURTHER: &str = "Further programs, each explained in turn";
 
 /// `--certificate` of `explain`.
@@ -386,7 +386,7 @@ pub const NO_WARNINGS: &str = "Says nothing of annotations that are right but co
 /// Why words with neither a certificate nor `--least` give no job.
 pub const FILE_MISSING: &str = "a file is missing: give CERT, or --least in its place";
 
-/// Why words with both give none.
+/// Why words with both a certificate and `--least` give no job.
 pub const FILE_TOO_MANY: &str = "there is a file too many: with --least there is no CERT";
 
 /// Why words with two certificates or more, and no `--least`, give no job of `check`.

@@ -15,8 +15,8 @@ pub struct Request {
     /// `check --least` and of `explain`; of every other job none. Where there is one, the job has no certificate
     /// in a file, no script and no log for machines, and `output` is `None`.
     pub further: Vec<String>,
-    /// Whether standard error is to be told what `annotate` leaves to mend by hand; of every other job not.
+    /// Whether standard error is to report what `annotate` leaves to mend by hand; for every other job, no.
     pub report: bool,
-    /// Whether standard error is to be told of each run of `curve` when it is done; of every other job not.
+    /// Whether standard error is to report each run of `curve` when it is done; for every other job, no.
     pub progress: bool,
 }

@@ -46,7 +46,7 @@ pub(crate) fn command_named<'a>(alloc: Global, name: &str) -> Result<Command<'a>
     }
 }
 
-// The command with one subcommand more, if memory sufficed for both.
+// The command with one more subcommand, if memory sufficed for both.
 fn with_subcommand<'a>(
     command: Result<Command<'a>, AllocError>,
     subcommand: Result<Command<'a>, AllocError>,
@@ -89,7 +89,7 @@ fn free_files<'a>(alloc: Global, id: &'a str, name: &'a str, text: &'a str) -> A
         .action(ArgAction::Append)
 }
 
-// An option with a file for its value, which has a letter, too; it need not be given.
+// An option with a file for its value, which also has a letter; it need not be given.
 fn file_option<'a>(alloc: Global, id: &'a str, letter: char, text: &'a str) -> Arg<'a>
     ensures rule { rule_of result ≡ file_option_rule id.entry.now letter }
     ensures local { result.global ≡ false }
@@ -245,7 +245,7 @@ fn in_place<'a>(alloc: Global) -> Arg<'a>
     flag(alloc, "in-place", help::IN_PLACE)
 }
 
-// A script says what its events did.
+// A script states what its events did.
 fn valued<'a>(alloc: Global) -> Arg<'a>
     ensures rule { rule_of result ≡ valued_rule }
     ensures local { result.global ≡ false }
@@ -269,7 +269,7 @@ fn strict<'a>(alloc: Global) -> Arg<'a>
     flag(alloc, "strict", help::STRICT)
 }
 
-// What is left to mend by hand is told.
+// What is left to mend by hand is reported.
 fn report<'a>(alloc: Global) -> Arg<'a>
     ensures rule { rule_of result ≡ report_rule }
     ensures local { result.global ≡ false }
@@ -298,7 +298,7 @@ fn colors<'a>(alloc: Global) -> Arg<'a>
     word(alloc, "color", "WHEN", help::COLOR, "auto")
 }
 
-// Each run is told when it is done.
+// Each run is reported when it is done.
 fn progress<'a>(alloc: Global) -> Arg<'a>
     ensures rule { rule_of result ≡ progress_rule }
     ensures local { result.global ≡ false }

@@ -29,13 +29,15 @@ use thiserror::Error;
 #[derive(Debug, Drop, Error)]
 pub enum UsageFault {
     /// 1: the words are none of the program's, or ask for help or for the version; or there is neither a
-    /// certificate nor `--least`, or both but for `check`, or `check` has two certificates; or the value of an
-    /// option is none: of `--schedule` neither `threads` nor `steps`; of `--format` none of `text`, `sarif` and `json`;
-    /// of `--color` none of `auto`, `always` and `never`; of `--emit` for `replay` none of `answers`, `summary`, `svg`, `trace`, `json`, `perfetto` and `state`, for `run` none of `report`,
-    /// `script`, `summary`, `svg`, `trace`, `json`, `perfetto` and, in steps, `waits` and `vcd`, for `curve` neither `table` nor `svg`, for `demonstrate` neither `events` nor `svg`; of `--predict` for
-    /// `curve` as below; or `--in-place` stands beside `--output` or a certificate that is to be written, or the
-    /// program is standard input; or there are several programs beside a file for the result, `--certificate`,
-    /// `--script` or a log for machines. The fault is `clap`'s, with its text.
+    /// certificate nor `--least`, or both except for `check`, or `check` has two certificates; or the value of an
+    /// option is none: of `--schedule` neither `threads` nor `steps`; of `--format` none of `text`, `sarif` and
+    /// `json`; of `--color` none of `auto`, `always` and `never`; of `--emit` for `replay` none of `answers`,
+    /// `summary`, `svg`, `trace`, `json`, `perfetto` and `state`, for `run` none of `report`, `script`, `summary`,
+    /// `svg`, `trace`, `json`, `perfetto` and, in steps, `waits` and `vcd`, for `curve` neither `table` nor `svg`,
+    /// for `demonstrate` neither `events` nor `svg`; of `--predict` for `curve` as below; or `--in-place` stands
+    /// beside `--output` or a certificate that is to be written, or the program is standard input; or there are
+    /// several programs beside a file for the result, `--certificate`, `--script` or a log for machines. The
+    /// fault is `clap`'s, with its text.
     #[error("1 Words")]
     Words(clap::Error),
     /// 2: for `run`, the value of `--predict` is neither `first`, `last` nor 1 to 64 numbers 0..=15.
@@ -70,8 +72,8 @@ impl From<clap::Error> for UsageFault {
 
 /// What a command line asks for. The first word is the program's own name. What `clap` decides comes first,
 /// then whether there are as many files as `--least` asks for, then the values of `--format`, of `--color`, of
-/// `--schedule`, of `--predict` for `curve`, of `--emit`, of `--predict` for `run`, and at last whether `--in-place` can be meant and
-/// whether further programs can have the job, too.
+/// `--schedule`, of `--predict` for `curve`, of `--emit`, of `--predict` for `run`, and finally whether
+/// `--in-place` can be meant and whether further programs can also have the job.
 pub fn request_of(alloc: Global, words: &[String]) -> Result<Request, UsageFault>
     ensures files { IfOk result (λ r. HasFilesOf r.job r.paths) }
     ensures request { IfOk result (λ r. AskFor (map string_bytes words.now) r) }
@@ -102,7 +104,7 @@ fn read_request(alloc: Global, name: &str, values: &ArgMatches<'_>) -> Result<Re
     })
 }
 
-// The names of the programs behind the first.
+// The names of the programs after the first.
 fn read_further(
     alloc: Global,
     values: &ArgMatches<'_>,
@@ -140,7 +142,7 @@ fn names_of(alloc: Global, texts: &[&str]) -> Result<Vec<String>, AllocError>
     Ok(names)
 }
 
-// Whether further programs can have the job, too, of the subcommand of this name.
+// Whether further programs can also have the job, of the subcommand of this name.
 fn expect_together(
     alloc: Global,
     name: &str,
@@ -160,7 +162,7 @@ fn expect_together(
     }
 }
 
-// Why the job can be that of one program only, if it is so.
+// Why the job can be for one program only, if so.
 fn why_of_one(job: &Job, output: &Option<String>) -> Option<&'static str>
     ensures { is_none result ≡ (is_none output.now && repeats job.now) }
 {
@@ -857,7 +859,8 @@ fn with_axis(axis: &str, emit: Option<RunEmit>) -> Option<RunEmit>
     }
 }
 
-// What is written of a run with this schedule: the waits, the waveform and a picture of steps of a run in steps alone.
+// What is written of a run with this schedule: the waits, the waveform and a picture of steps, of a run in steps
+// alone.
 fn in_schedule(schedule: Option<Schedule>, emit: Option<RunEmit>) -> Option<RunEmit>
     ensures { result ≡ in_schedule schedule emit }
 {

@@ -1,4 +1,4 @@
--- What is put in place of what as a JSON value (sections 3.55 to 3.57): a help with replacements is a fix, and they
+-- What is replaced by what, as a JSON value (sections 3.55 to 3.57): a help with replacements is a fix, and they
 -- are made together in the text of the diagnostic.
 use Rattle.std.specs.Prelude.{List, Bool, nat_lt, if◌then◌else◌, length, codes, Option, Some, None}
 use Rattle.json.specs.Token.{Token}
@@ -12,7 +12,7 @@ use Rattle.diagnostic_log.specs.Uris.{artifact_of}
 use Rattle.diagnostic_log.specs.Artifacts.{artifact_json}
 use Rattle.diagnostic_log.specs.Places.{region_json}
 
--- a region that goes, and a text that stands there then (either may be empty)
+-- a region that is removed, and the text that then stands there (either may be empty)
 unfoldable pub replacement_json : SeenText → Replacement → Json
 replacement_json text r =
     object (member (codes "deletedRegion") (region_json text r.span)

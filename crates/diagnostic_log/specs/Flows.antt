@@ -11,7 +11,7 @@ use Rattle.diagnostic_log.specs.Sentences.{message_json}
 use Rattle.diagnostic_log.specs.Seen.{SeenText}
 use Rattle.diagnostic_log.specs.Places.{location_json}
 
--- the places that are told: fifty at the beginning, and fifty at the end
+-- the places that are listed: fifty at the beginning, and fifty at the end
 abbrev pub front_of : List Span → List Span
 front_of path = take 50 path
 

@@ -1,5 +1,5 @@
 -- The further places of a diagnostic as JSON values (section 3.27.22): where its notes are, and then what to do,
--- which is said of the place of the diagnostic.
+-- which refers to the place of the diagnostic.
 use Rattle.std.specs.Prelude.{List, Option, Some, None}
 use Rattle.json.specs.Token.{Token}
 use Rattle.json.specs.Json.{Json, array, Items, no_items, item}

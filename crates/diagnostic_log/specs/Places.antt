@@ -37,7 +37,7 @@ unfoldable pub physical_json : SeenText → Option Span → Json
 physical_json text span =
     object (member (codes "artifactLocation") (artifact_json (artifact_of text.name)) (region_members text span))
 
--- a location (section 3.28), alone and with what is said of it
+-- a location (section 3.28), alone and with the message about it
 unfoldable pub location_json : SeenText → Option Span → Json
 location_json text span = object (member (codes "physicalLocation") (physical_json text span) no_members)
 

@@ -28,7 +28,7 @@ severity_word Note = codes "note"
 unfoldable pub locations_json : SeenText → Option Span → Json
 locations_json text span = array (item (location_json text span) no_items)
 
--- What stays of a result when its lines move (section 3.27.17): its rule and its sentence. Two results
+-- What stays the same in a result when its lines move (section 3.27.17): its rule and its sentence. Two results
 -- of a log may share them.
 unfoldable pub fingerprints_json : Diagnostic → Json
 fingerprints_json d =

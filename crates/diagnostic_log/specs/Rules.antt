@@ -1,4 +1,4 @@
--- The rules of a log (own words): what is wrong, or could be better, where a diagnostic of a code is given, and the
+-- The rules of a log: what is wrong, or could be better, where a diagnostic of a code is given, and the
 -- section of the documents that explains it.
 use Rattle.std.specs.Prelude.{ℕ, List, codes}
 use Rattle.diagnostics.specs.declared.code.Code.{Code}

@@ -13,7 +13,7 @@ line_in lines number = unwrap_or (slice_get lines (number - 1)) []
 abbrev pub goes_on : ℕ → Bool
 goes_on b = nat_le 128 b && nat_lt b 192
 
--- A column of a line, in characters where it is given in bytes: SARIF counts columns as UTF-16 code units or as
+-- A column of a line in characters, from one in bytes: SARIF counts columns as UTF-16 code units or as
 -- Unicode code points (section 3.14.17), of which a log names one.
 abbrev pub character_column : (line : List ℕ) (column : ℕ) → ℕ
 character_column line column = column - count_by goes_on (take (column - 1) line)

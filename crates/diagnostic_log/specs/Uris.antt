@@ -26,14 +26,14 @@ abbrev pub after_slashes : List ℕ → List ℕ
 after_slashes [] = []
 after_slashes (b ∷ name) = if b == 47 then after_slashes name else b ∷ name
 
--- whether a name leads from the root on
+-- whether a name starts at the root
 abbrev pub begins_with_slash : List ℕ → Bool
 begins_with_slash [] = false
 begins_with_slash (b ∷ name) = b == 47
 
--- Where the text is whose file has this name; `-` stands for standard input. The URI of a name that leads from
--- the root on has an empty authority (RFC 8089, section 2): where the name begins with several slashes, as
--- `//host/share`, what follows them is no host.
+-- Where the text of the file of this name is; `-` stands for standard input. The URI of a name that starts at
+-- the root has an empty authority (RFC 8089, section 2): where the name begins with several slashes, as
+-- in `//host/share`, what follows them is no host.
 abbrev pub artifact_of : (name : List ℕ) → Artifact
 artifact_of name =
     if bytes_eq name (codes "-") then StandardInput

@@ -27,9 +27,9 @@ pub const ESCAPED: AsciiSet = ascii_set!(
 pub enum Artifact {
     /// On standard input: no file.
     StandardInput,
-    /// In a file named from the working folder on.
+    /// In a file named from the working folder.
     Relative(Words),
-    /// In a file named from the root on.
+    /// In a file named from the root.
     Absolute(Words),
 }
 
@@ -43,7 +43,7 @@ fn after_slashes(name: &[u8]) -> &[u8]
     }
 }
 
-/// A URI that begins so, and goes on with a name.
+/// A URI with this beginning, followed by a name.
 #[tactic(auto, using(crate::proofs::KeptBytes::encoded_is_uri))]
 fn uri(alloc: Global, begin: &str, name: &[u8]) -> Result<Words, AllocError>
     ensures { IfOk result (λ made. made ≡ begin.now ++ uri_of name.now) }
@@ -54,7 +54,7 @@ fn uri(alloc: Global, begin: &str, name: &[u8]) -> Result<Words, AllocError>
     Ok(Words::new(uri))
 }
 
-/// Whether a name leads from the root on.
+/// Whether a name starts at the root.
 fn begins_with_slash(name: &[u8]) -> bool
     ensures { result ≡ begins_with_slash name.now }
 {
@@ -64,7 +64,7 @@ fn begins_with_slash(name: &[u8]) -> bool
     }
 }
 
-/// Where a text is whose file has this name.
+/// Where the text of a file of this name is.
 ///
 /// # Errors
 ///

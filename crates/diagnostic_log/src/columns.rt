@@ -1,4 +1,4 @@
-//! Columns in characters, where they are given in bytes.
+//! Columns in characters, from columns in bytes.
 
 ghost use Rattle.std.specs.Prelude.{◌≡◌, ◌-◌, map, take};
 ghost use Rattle.diagnostic_log.specs.Seen.{character_column, column_in, goes_on, line_in};
@@ -27,7 +27,7 @@ fn before(line: &[u8], column: usize) -> &[u8]
     }
 }
 
-/// Whether a byte goes on with a character.
+/// Whether a byte continues a character.
 fn goes_on(byte: u8) -> bool
     ensures { result ≡ goes_on byte }
 {
@@ -48,7 +48,7 @@ fn character_column(line: &[u8], column: usize) -> usize
     column.saturating_sub(inside)
 }
 
-/// A column in characters, where it is given in bytes.
+/// A column in characters, from one in bytes.
 #[tactic(auto, unfolding(crate::specs::Seen::column_in))]
 pub(crate) fn column_in(text: &LoggedText<'_>, line: u32, column: usize) -> usize
     ensures { result ≡ column_in text.now line column }

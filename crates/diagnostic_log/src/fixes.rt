@@ -1,4 +1,4 @@
-//! What is put in place of what as JSON.
+//! What is replaced by what, as JSON.
 
 ghost use Rattle.std.specs.Prelude.{◌≡◌, OnOk};
 ghost use Rattle.diagnostic_log.specs.Wrote.{listed, wrote, wrote_each};
@@ -84,7 +84,7 @@ fn write_fix(out: &mut JsonText, text: &LoggedText<'_>, help: &Help) -> Written
     out.end()
 }
 
-/// Whether a help says what is put in place of what.
+/// Whether a help states what is replaced by what.
 fn is_exact(help: &Help) -> bool
     ensures { result ≡ is_exact help.now }
 {

@@ -9,11 +9,11 @@ use crate::places::write_location;
 use crate::text::LoggedText;
 use diagnostics::diagnostic::{Note, Span};
 
-/// How many places of a path are told at either end of it: a path can have nearly as many as the
-/// program has instructions, and each diagnostic its own.
+/// How many places are listed at either end of a path: a path can have nearly as many as the
+/// program has instructions, and each diagnostic has its own.
 const TOLD_AT_AN_END: usize = 50;
 
-/// The places that are told at the beginning of a path.
+/// The places that are listed at the beginning of a path.
 pub(crate) fn front_of(path: &[Span]) -> &[Span]
     ensures { result.now ≡ front_of path.now }
 {
@@ -24,7 +24,7 @@ pub(crate) fn front_of(path: &[Span]) -> &[Span]
     }
 }
 
-/// The places that are told at its end, after those.
+/// The places that are listed at its end, after those.
 pub(crate) fn back_of(path: &[Span]) -> &[Span]
     ensures { result.now ≡ back_of path.now }
 {
@@ -60,7 +60,7 @@ fn write_each_step(out: &mut JsonText, text: &LoggedText<'_>, path: &[Span]) -> 
     Ok(())
 }
 
-/// Adds the list of the places on a path that are told.
+/// Adds the list of the places on a path that are listed.
 #[tactic(auto, using(crate::proofs::FlowsWritten::told_written))]
 fn write_steps(out: &mut JsonText, text: &LoggedText<'_>, path: &[Span]) -> Written
     ensures { OnOk result (out.new ≡ wrote (told (step_json text.now) path.now) out.old) }
@@ -71,14 +71,14 @@ fn write_steps(out: &mut JsonText, text: &LoggedText<'_>, path: &[Span]) -> Writ
     out.end_list()
 }
 
-/// How many places of a path are not told.
+/// How many places of a path are not listed.
 pub(crate) fn left_out(path: &[Span]) -> usize
     ensures { result ≡ left_out path.now }
 {
     path.len().saturating_sub(2 * TOLD_AT_AN_END)
 }
 
-/// Adds that so many places are not told, if there are any, and ends the path.
+/// Adds how many places are not listed, if there are any, and ends the path.
 fn write_left_out(out: &mut JsonText, left: usize) -> Written
     ensures { OnOk result (out.new ≡ wrote_members (left_members left) out.old) }
 {

@@ -144,7 +144,7 @@ fn write_some_help(out: &mut JsonText, help: &Help) -> Written
     out.end()
 }
 
-/// Adds what to do, if that is said.
+/// Adds what to do, if that is given.
 fn write_help(out: &mut JsonText, help: &Option<Help>) -> Written
     ensures { OnOk result (out.new ≡ wrote (help_json help.now) out.old) }
 {
@@ -192,7 +192,7 @@ fn push_line(text: &mut Vec<u8>, alloc: Global, file: &str, diagnostic: &Diagnos
     text.extend_from_slice(line.as_slice())
 }
 
-/// What is said of these texts, as lines of JSON: an object for each diagnostic, in their order.
+/// What is reported about these texts, as lines of JSON: an object for each diagnostic, in order.
 ///
 /// # Errors
 ///

@@ -1,4 +1,4 @@
-//! A text of JSON that grows token by token. An error of a call says that memory was refused.
+//! A text of JSON that grows token by token. An error of a call means that memory was refused.
 
 ghost use Rattle.std.specs.Prelude.{◌≡◌, [], ◌∷◌, ◌++◌, codes, OnOk};
 ghost use Rattle.std.specs.Fmt.{decimal};
@@ -12,7 +12,7 @@ use json::Writer;
 use std::alloc::{AllocError, Global};
 use std::marker::Model;
 
-/// What a call that writes returns: an error says that memory was refused.
+/// What a call that writes returns: an error means that memory was refused.
 pub(crate) type Written = Result<(), AllocError>;
 
 /// The text, which a contract sees as its tokens.
@@ -118,7 +118,7 @@ impl JsonText {
         self.out.boolean(value)
     }
 
-    /// Adds the value of what there is not.
+    /// Adds the value for something absent.
     pub(crate) fn null(&mut self) -> Written
         ensures { OnOk result (self.new ≡ wrote null self.old) }
     {

@@ -1,4 +1,5 @@
-//! What is said of the texts of a command, for tools: a log in the format SARIF 2.1.0 (OASIS), and lines of JSON.
+//! What is reported about the texts of a command, for tools: a log in the format SARIF 2.1.0 (OASIS), and lines of
+//! JSON.
 #![tactic(auto)]
 
 pub mod artifact;

@@ -20,7 +20,7 @@ fn write_each_note(out: &mut JsonText, text: &LoggedText<'_>, notes: &[Note]) ->
     Ok(())
 }
 
-/// Adds what to do, if that is said, at this place.
+/// Adds what to do, if that is given, at this place.
 fn write_help(
     out: &mut JsonText,
     text: &LoggedText<'_>,

@@ -70,7 +70,7 @@ pub(crate) fn write_location(
     out.end()
 }
 
-/// Adds a location, and what is said of it.
+/// Adds a location, and the message about it.
 #[tactic(auto, unfolding(crate::specs::Places::said_json))]
 pub(crate) fn write_said(
     out: &mut JsonText,

@@ -14,7 +14,7 @@ use crate::text::{LoggedText, LoggedTexts};
 use diagnostics::code::Code;
 use diagnostics::diagnostic::{Diagnostic, Severity, Span};
 
-/// How grave a diagnostic is, in the word of the formats.
+/// How severe a diagnostic is, in the word of the formats.
 pub(crate) fn severity_word(severity: Severity) -> &'static str
     ensures { result.now ≡ severity_word severity }
 {
@@ -35,7 +35,7 @@ fn write_locations(out: &mut JsonText, text: &LoggedText<'_>, span: Option<Span>
     out.end_list()
 }
 
-/// Adds what stays of a result when its lines move.
+/// Adds what stays the same in a result when its lines move.
 #[tactic(auto, unfolding(crate::specs::Results::fingerprints_json))]
 fn write_fingerprints(out: &mut JsonText, diagnostic: &Diagnostic) -> Written
     ensures { OnOk result (out.new ≡ wrote (fingerprints_json diagnostic.now) out.old) }

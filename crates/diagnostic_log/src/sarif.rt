@@ -104,7 +104,7 @@ fn exit_code(diagnostics: &[Diagnostic]) -> usize
     code
 }
 
-/// Adds standard input, if it is read, and ends what is said of the run.
+/// Adds standard input, if it is read, and ends the description of the run.
 fn write_input(out: &mut JsonText, reads_input: bool) -> Written
     ensures { OnOk result (out.new ≡ wrote_members (input_members reads_input) out.old) }
 {
@@ -115,7 +115,7 @@ fn write_input(out: &mut JsonText, reads_input: bool) -> Written
     out.end()
 }
 
-/// Adds what is said of the one run of the program, which may read standard input.
+/// Adds the description of the one run of the program, which may read standard input.
 fn write_invocations(out: &mut JsonText, code: usize, reads_input: bool) -> Written
     ensures { OnOk result (out.new ≡ wrote (invocations_json code reads_input) out.old) }
 {
@@ -218,7 +218,7 @@ fn write_log(
     out.end()
 }
 
-/// The text of a log of what is said of these texts: one line of JSON.
+/// The text of a log of what is reported about these texts: one line of JSON.
 ///
 /// # Errors
 ///

@@ -24,7 +24,7 @@ impl<'a> Model for LoggedText<'a> {
     ghost invariant = { λ t. t.artifact ≡ artifact_of t.name.now };
 }
 
-/// The texts of a command. One that it does not have has an empty name and no lines.
+/// The texts of a command. A text that it lacks has an empty name and no lines.
 #[derive(Debug, Drop)]
 pub struct LoggedTexts<'a> {
     /// The program text.

@@ -1,4 +1,4 @@
--- What a diagnostic is an instance of (own words): its identifier, and its words in the text form.
+-- What a diagnostic is an instance of: its identifier, and its words in the text form.
 use Rattle.std.specs.Prelude.{ℕ, List, codes, Option, Some, None}
 use Rattle.diagnostics.specs.declared.code.Code.{Code}
 use Rattle.diagnostics.specs.declared.code.Code.TheVariants.{EntryWithoutMask, NextWithoutMask, LacksDestination, LacksNext, ExceedsCreate, ForwardedInNext, ReleasedInNext, SentNotCreated, ExitNotListed, FallsOff, IndirectGoesOn, TargetNotEntry, TooLong, NotAscii, Token, Mnemonic, Operand, Number, Mark, Duplicate, Unknown, TooMany, NoTask, BadEntry, DuplicateEntry, BadMask, BadMark, BadStart, Header, Line, TaskName, MissingTask, Shape, Unfit, ScriptLine, ScriptTaskName, NeverProduced, NotForwarded, SentBefore, Unreached, NoExit, TargetNotTaken, GoesIntoTask, More}
@@ -50,7 +50,7 @@ code_id TargetNotTaken = codes "warning-TargetNotTaken"
 code_id GoesIntoTask = codes "warning-GoesIntoTask"
 code_id More = codes "more"
 
--- the words that end an error in the text form, if there are some: the number and the name that the other subcommands give
+-- the words that end an error in the text form, if any: the number and the name that the other subcommands give
 abbrev pub code_label : Code → Option (List ℕ)
 code_label EntryWithoutMask = Some (codes "rule 1")
 code_label NextWithoutMask = Some (codes "rule 2")

@@ -28,7 +28,7 @@ named rows = record { name = codes "p.s"; rows = rows }
 abbrev pub texts : List (List ℕ) → Texts
 texts rows = record { program = named rows; certificate = named []; script = named [] }
 
--- a line with as many empty ones before it
+-- a line with this many empty ones before it
 abbrev pub after : ℕ → List ℕ → List (List ℕ)
 after n line = replicate n [] ++ line ∷ []
 
@@ -67,7 +67,7 @@ pub missing_text : text_form Never (texts rows) (missing ∷ []) ≡ printed
 unfolding digits is_readable is_utf8 chars encode line_row caret_row rest_text note_text said_text diagnostic_text
 missing_text = refl
 
--- what is said alone
+-- the message alone
 abbrev pub plain : Severity → Code → Option Span → List ℕ → Diagnostic
 plain severity code span message = record {
   severity = severity;
@@ -109,7 +109,7 @@ pub coloured_text : text_form Always (texts []) (plain Error NoTask None (codes 
 unfolding said_text diagnostic_text
 coloured_text = refl
 
--- a note at the place of the error shows no line again
+-- a note at the place of the error does not show the line again
 abbrev pub there : NoteThere
 there = record { span = Some (at 1 1 1); message = codes "it stands here"; path = [] }
 

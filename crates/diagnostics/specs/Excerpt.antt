@@ -53,7 +53,7 @@ step_back bs n = if is_inside (slice_get bs n) then n - 1 else n
 unfoldable pub letter_start : List ℕ → ℕ → ℕ
 letter_start bs n = step_back bs (step_back bs (step_back bs n))
 
--- the first bytes, at most as many, without a part of a letter
+-- the first bytes, at most the given number, without a part of a letter
 abbrev pub front : List ℕ → ℕ → List ℕ
 front bs n = take (letter_start bs n) bs
 
@@ -68,8 +68,8 @@ blank_byte readable b =
 abbrev pub blanks : (readable : Bool) → List ℕ → List ℕ
 blanks readable bs = flat_map (blank_byte readable) bs
 
--- How many bytes the longest line has that is shown as a whole; of a longer one, how many are shown, and how many of
--- these stand before the part that is meant, if there are as many.
+-- The length, in bytes, of the longest line that is shown whole; of a longer one, how many bytes are shown, and how
+-- many of these stand before the part that is meant, if there are that many.
 abbrev pub longest_whole : ℕ
 longest_whole = 1000
 

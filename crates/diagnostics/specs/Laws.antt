@@ -12,7 +12,7 @@ AreBytes bs = (i : ℕ) → slice_index bs i < 256
 abbrev pub AreHarmless : Type 0
 AreHarmless = (readable : Bool) (bs : List ℕ) → AreBytes bs → list_all (is_plain readable) (shown readable bs) ≡ true
 
--- how many characters a text has: its bytes but those that go on with a letter
+-- how many characters a text has: its bytes except those that continue a letter
 abbrev pub columns : List ℕ → ℕ
 columns bs = count_by (λ b. not (continues b)) bs
 

@@ -1,4 +1,4 @@
--- How many things are not shown (own words).
+-- How many things are not shown.
 use Rattle.std.specs.Prelude.{ℕ, zero, suc, nat_eq, List, [], ◌∷◌, ◌++◌, codes, None, if◌then◌else◌}
 use Rattle.std.specs.Fmt.{decimal}
 use Rattle.diagnostics.specs.declared.code.Code.TheVariants.{More}

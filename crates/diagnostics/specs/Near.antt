@@ -1,8 +1,8 @@
--- Words that are nearly the same: one slip of the writer makes one of the other.
+-- Words that are nearly the same: one slip of the writer turns one into the other.
 use Rattle.std.specs.Prelude.{ℕ, List, [], ◌∷◌, Bool, false, drop, Option, Some, None, if◌then◌else◌, ◌==◌, ◌&&◌, ◌||◌}
 use Rattle.std.specs.Str.{bytes_eq}
 
--- the same but for the first two letters, which are exchanged
+-- equal except for the first two letters, which are exchanged
 abbrev pub is_exchange : (word other : List ℕ) → Bool
 is_exchange (a ∷ b ∷ rest) (c ∷ d ∷ others) = a == d && b == c && bytes_eq rest others
 is_exchange _ _ = false

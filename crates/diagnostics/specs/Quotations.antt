@@ -6,6 +6,6 @@ use Rattle.diagnostics.specs.Excerpt.{is_readable, shown, front}
 unfoldable pub as_shown : List ℕ → List ℕ
 as_shown bytes = shown (is_readable bytes) bytes
 
--- the same, and of more than 40 only the first
+-- as an excerpt shows them, and of more than 40 only the first
 unfoldable pub quoted : List ℕ → List ℕ
 quoted bytes = codes "`" ++ (as_shown (front bytes 40) ++ (if nat_le (length bytes) 40 then codes "`" else codes "..`"))

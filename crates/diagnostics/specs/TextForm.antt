@@ -18,7 +18,7 @@ use Rattle.diagnostics.specs.Colours.{painted, bold}
 use Rattle.diagnostics.specs.Excerpt.{excerpt_text, is_same_place}
 use Rattle.diagnostics.specs.Files.{NamedText, Texts, text_in}
 
--- what a line says that it is, and in which style: red, magenta, cyan and green, all bold
+-- what a line calls itself, and in which style: red, magenta, cyan and green, all bold
 abbrev pub label_word : Label → List ℕ
 label_word Error = codes "error:"
 label_word Warning = codes "warning:"
@@ -77,7 +77,7 @@ abbrev pub path_text : List Span → List ℕ
 path_text [] = []
 path_text (first ∷ rest) = codes ", on the path " ++ (decimal first.line ++ rest_text rest)
 
--- a line with its excerpt, unless the excerpt before it shows just this
+-- a line with its excerpt, unless the previous excerpt shows exactly this
 abbrev pub fresh_excerpt : Colour → (rows : List (List ℕ)) → (before : Option Span) → Option Span → List ℕ
 fresh_excerpt colour rows before span = if is_same_place before span then [] else excerpt_text colour rows span
 
@@ -105,7 +105,7 @@ said_text colour name d =
     heading colour name d.span (severity_label d.severity)
     ++ (painted colour bold d.message ++ (code_text d.code d.span ++ codes "\n"))
 
--- A diagnostic: what is said, the line, the notes, and what to do.
+-- A diagnostic: the message, the line, the notes, and what to do.
 unfoldable pub diagnostic_text : Colour → Texts → Diagnostic → List ℕ
 diagnostic_text colour texts d =
     let text = text_in texts d.source in

@@ -86,11 +86,11 @@ pub enum Code {
     SentBefore,
     /// A warning: no task reaches the code from here on.
     Unreached,
-    /// A warning: a task has targets, and no way through it comes to an exit.
+    /// A warning: a task has targets, and no way through it reaches an exit.
     NoExit,
     /// A warning: a task lists a target that no exit takes.
     TargetNotTaken,
-    /// A warning: a task goes on, without a stop, into the first instruction of a task.
+    /// A warning: a task continues, without a stop, into the first instruction of a task.
     GoesIntoTask,
     /// How many things are not shown.
     More,
@@ -149,7 +149,7 @@ impl Code {
         }
     }
 
-    /// The words that end an error in the text form, if there are some: the number and the name that the other
+    /// The words that end an error in the text form, if there are any: the number and the name that the other
     /// subcommands give.
     pub fn label(self) -> Option<&'static str>
         ensures { option_map (λ words. words.now) result ≡ code_label self }

@@ -9,7 +9,7 @@ use std::alloc::AllocError;
 /// Whether a text has the colours of a terminal.
 #[derive(Clone, Copy, Debug, PartialEq, Eq)]
 pub enum Colour {
-    /// It has no byte of them.
+    /// It has none of their bytes.
     Never,
     /// It has them, as sequences that begin with ESC.
     Always,

@@ -1,4 +1,4 @@
-//! Diagnostics: what is said of one mistake, or of one thing that could be better.
+//! Diagnostics: reports of one mistake each, or of one thing that could be better.
 
 use crate::code::Code;
 use crate::listed::Listed;
@@ -15,14 +15,14 @@ pub struct Span {
     pub width: usize,
 }
 
-/// How grave a diagnostic is.
+/// How severe a diagnostic is.
 #[derive(Clone, Copy, Debug, PartialEq, Eq)]
 pub enum Severity {
     /// Something is wrong.
     Error,
     /// Something is right, but could be better.
     Warning,
-    /// Something to know, as how many more there are.
+    /// Something to know, such as how many more there are.
     Note,
 }
 
@@ -37,19 +37,19 @@ pub enum Source {
     Script,
 }
 
-/// A further place that shows what is said, in the same text.
+/// A further place, in the same text, that shows what is reported.
 #[derive(Debug, Drop)]
 pub struct Note {
     /// The place; `None` where the note is about the text as a whole.
     pub span: Option<Span>,
-    /// What is said of it: one sentence without a period, which begins with a small letter.
+    /// What it states: one sentence without a period, which begins with a lower-case letter.
     pub message: Words,
-    /// The places on the way, in their order; empty where there is no way.
+    /// The places on the path, in order; empty where there is no path.
     pub path: Listed<Span>,
 }
 
-/// A text to put in place of a part of the text that the diagnostic is about. At a span of width 0 it is put in; an empty text takes
-/// the span out.
+/// A replacement for a part of the text that the diagnostic is about. At a span of width 0 it is inserted; an
+/// empty text removes the span.
 #[derive(Debug, Drop)]
 pub struct Replacement {
     /// What is replaced.
@@ -68,10 +68,10 @@ pub struct Help {
     pub replacements: Listed<Replacement>,
 }
 
-/// What is said of one mistake, or of one thing that could be better.
+/// A report of one mistake, or of one thing that could be better.
 #[derive(Debug, Drop)]
 pub struct Diagnostic {
-    /// How grave it is.
+    /// How severe it is.
     pub severity: Severity,
     /// What it is an instance of.
     pub code: Code,
@@ -79,10 +79,10 @@ pub struct Diagnostic {
     pub source: Source,
     /// The part of that text that is meant; `None` where the text as a whole is.
     pub span: Option<Span>,
-    /// What is said: one sentence without a period, which begins with a small letter.
+    /// The message: one sentence without a period, which begins with a lower-case letter.
     pub message: Words,
-    /// Further places that show it, in the order in which they are said.
+    /// Further places that show it, in the order in which they are reported.
     pub notes: Listed<Note>,
-    /// What to do, if that can be said.
+    /// What to do, if that can be stated.
     pub help: Option<Help>,
 }

@@ -12,13 +12,13 @@ use crate::colour::{CARET, Colour};
 use crate::diagnostic::Span;
 use std::alloc::{AllocError, Global};
 
-/// How many bytes the longest line has that is shown as a whole.
+/// The length, in bytes, of the longest line that is shown whole.
 const LONGEST_WHOLE: usize = 1_000;
 
 /// How many bytes are shown of a longer line.
 const LONGEST_PART: usize = 200;
 
-/// How many of them stand before the part that is meant, if there are as many.
+/// How many of them stand before the part that is meant, if there are that many.
 const LONGEST_BEFORE: usize = 60;
 
 /// The hexadecimal digits.
@@ -48,7 +48,7 @@ fn steers(letter: char) -> bool
     )
 }
 
-/// Whether some character does.
+/// Whether any character does.
 fn has_steering(text: &str) -> bool
     ensures { result ≡ list_any steers (chars text.now) }
 {
@@ -110,7 +110,7 @@ pub(crate) fn shown_text(alloc: Global, part: &[u8]) -> Result<String, AllocErro
     }
 }
 
-/// Adds as many of a character of ASCII.
+/// Adds an ASCII character `count` times.
 fn write_repeated(text: &mut String, letter: char, count: usize) -> Result<(), AllocError>
     requires { letter < 128 }
     ensures { OnOk result (string_bytes text.new ≡ string_bytes text.old ++ replicate count letter) }
@@ -148,7 +148,7 @@ fn blanks(alloc: Global, readable: bool, bytes: &[u8]) -> Result<String, AllocEr
     Ok(text)
 }
 
-/// The first bytes, as many.
+/// The first `count` bytes.
 fn first(bytes: &[u8], count: usize) -> &[u8]
     ensures { result.now ≡ take count bytes.now }
 {
@@ -159,7 +159,7 @@ fn first(bytes: &[u8], count: usize) -> &[u8]
     }
 }
 
-/// The bytes after the first, as many.
+/// The bytes after the first `count`.
 fn after(bytes: &[u8], count: usize) -> &[u8]
     ensures { result.now ≡ drop count bytes.now }
 {
@@ -196,7 +196,7 @@ fn letter_start(bytes: &[u8], place: usize) -> usize
     step_back(bytes, step_back(bytes, step_back(bytes, place)))
 }
 
-/// The first bytes, at most as many, without a part of a letter.
+/// The first bytes, at most `count`, without a part of a letter.
 pub(crate) fn front(bytes: &[u8], count: usize) -> &[u8]
     ensures { result.now ≡ front bytes.now count }
 {
@@ -266,7 +266,7 @@ fn write_line_row(
     writeln!(text, "{number} | {before}{shown}{after}")
 }
 
-/// Adds a caret, and tildes up to as many columns.
+/// Adds a caret, and tildes up to `width` columns.
 fn write_caret(text: &mut String, colour: Colour, width: usize) -> Result<(), AllocError>
     ensures { OnOk result (string_bytes text.new ≡ string_bytes text.old ++ caret colour width) }
 {

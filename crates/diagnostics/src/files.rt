@@ -23,7 +23,7 @@ impl<'a> Model for TextFile<'a> {
 impl<'a> TextFile<'a> {
     ghost use Rattle.std.specs.Prelude.{◌≡◌, map};
 
-    /// The text of a file of this name, of these lines, each without its LF; of a text that is not at hand no lines.
+    /// The text of a file of this name with these lines, each without its LF; no lines if the text is not available.
     pub fn new(name: &'a str, rows: &'a [&'a [u8]]) -> TextFile<'a>
         ensures { result ≡ record { name = name.entry.now; rows = map (λ row. row.now) rows.entry.now } }
     {

@@ -1,11 +1,11 @@
-//! What a line of the text form says that it is.
+//! What a line of the text form calls itself.
 
 ghost use Rattle.std.specs.Prelude.{◌≡◌};
 ghost use Rattle.diagnostics.specs.TextForm.{label_word, label_style, severity_label};
 
 use crate::diagnostic::Severity;
 
-/// What a line of the text form says that it is.
+/// What a line of the text form calls itself.
 #[derive(Clone, Copy, Debug, PartialEq, Eq)]
 pub(crate) enum Label {
     /// Something is wrong.

@@ -1,5 +1,5 @@
-//! What is said of a program, its marks, its certificate or an event script: as values, of which each renderer makes
-//! its own form, and in the text form of gcc and clang; and which known words are near to an unknown one.
+//! What is reported about a program, its marks, its certificate or an event script: as values, which each renderer puts
+//! into its own form, and in the text form of gcc and clang; and which known words are near an unknown one.
 #![tactic(auto)]
 
 pub mod code;

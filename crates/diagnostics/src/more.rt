@@ -21,8 +21,8 @@ fn more_message(alloc: Global, more: usize, one: &str, many: &str) -> Result<Wor
     }
 }
 
-/// Adds how many more things there are to say of a text, in the words for one and for many; nothing if there are no
-/// more.
+/// Adds how many more things there are to report about a text, in the words for one and for many; nothing if there
+/// are no more.
 ///
 /// # Errors
 ///

@@ -3,7 +3,7 @@
 ghost use Rattle.std.specs.Prelude.{◌≡◌, drop};
 ghost use Rattle.diagnostics.specs.Near.{is_exchange, is_slip, is_near};
 
-/// Whether two words are the same but for their first two letters, which are exchanged.
+/// Whether two words are equal except for their first two letters, which are exchanged.
 fn is_exchange(word: &[u8], other: &[u8]) -> bool
     ensures { result ≡ is_exchange word.now other.now }
 {
@@ -26,7 +26,7 @@ fn after_first(word: &[u8]) -> &[u8]
     }
 }
 
-/// Whether one slip at the beginning makes one word of the other.
+/// Whether one slip at the beginning turns one word into the other.
 fn is_slip(word: &[u8], other: &[u8]) -> bool
     ensures { result ≡ is_slip word.now other.now }
 {
@@ -35,7 +35,7 @@ fn is_slip(word: &[u8], other: &[u8]) -> bool
     rest == other || word == others || rest == others || is_exchange(word, other)
 }
 
-/// Whether one slip makes one word of the other: a letter too many, one left out, one wrong, or two neighbours
+/// Whether one slip turns one word into the other: a letter too many, one left out, one wrong, or two neighbours
 /// exchanged.
 pub fn is_near(word: &[u8], other: &[u8]) -> bool
     ensures { result ≡ is_near word.now other.now }

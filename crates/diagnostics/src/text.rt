@@ -14,10 +14,10 @@ use crate::files::{Files, TextFile};
 use crate::label::Label;
 use std::alloc::{AllocError, Global};
 
-/// How many places after the first the longest path has that is shown as a whole.
+/// The most places after the first in a path that is shown whole.
 const LONGEST_REST: usize = 11;
 
-/// How many of the places after the first are shown of a longer one, at either end.
+/// How many of the places after the first are shown at either end of a longer path.
 const SHOWN_OF_REST: usize = 5;
 
 /// Adds the place that begins a line.
@@ -143,7 +143,7 @@ fn is_same_place(a: Option<Span>, b: Option<Span>) -> bool
     }
 }
 
-/// Adds the line of a span, unless the excerpt before it shows just this.
+/// Adds the line of a span, unless the previous excerpt shows exactly this.
 fn write_fresh_excerpt(
     alloc: Global,
     text: &mut String,
@@ -225,7 +225,7 @@ fn write_help(
     text.push('\n')
 }
 
-/// Adds what a diagnostic says.
+/// Adds the message of a diagnostic.
 #[tactic(auto, unfolding(crate::specs::TextForm::said_text))]
 fn write_said(
     text: &mut String,
@@ -269,8 +269,8 @@ fn write_diagnostic(
     }
 }
 
-/// The text form of diagnostics: of each what is wrong, its place, and the line with a caret below what is meant; its
-/// notes; and what to do. Without colours it has no byte of them.
+/// The text form of diagnostics: for each, what is wrong, its place, and the line with a caret below what is meant;
+/// its notes; and what to do. Without colours it has none of their bytes.
 ///
 /// # Errors
 ///

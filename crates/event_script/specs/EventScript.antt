@@ -73,8 +73,8 @@ operand_count verb =
     else (if bytes_eq verb (codes "assign") || bytes_eq verb (codes "exec") || bytes_eq verb (codes "squash") || bytes_eq verb (codes "drop") then Some 1
     else None))
 
--- What is wrong with so many words behind a first word, if they make no event: that no event begins so, that they are too
--- few or too many, and else `wrong`.
+-- What is wrong with this many words after a first word, if they make no event: no event begins so, they are
+-- too few or too many, or else `wrong`.
 abbrev pub misfit : (wanted : Option ℕ) → (count : ℕ) → (wrong : EventFault) → EventFault
 misfit None count wrong = NoEvent
 misfit (Some wanted) count wrong =
@@ -106,7 +106,7 @@ at_position verb (Some k) =
     else (if bytes_eq verb (codes "drop") then Ok (Drop k)
     else Err (misfit (operand_count verb) 1 NoEvent)))
 
--- of a verb and one word behind it
+-- of a verb and one word after it
 abbrev pub with_one : List (List ℕ) → (verb word : List ℕ) → Result Event EventFault
 with_one names verb word = if bytes_eq verb (codes "assign") then assigned names word else at_position verb (number_in word)
 
@@ -132,7 +132,7 @@ event_in names line = event_of names (words line)
 
 -- ---- where a line goes wrong
 
--- what stands in front of the first space of a text, and behind it; nothing where there is none
+-- what stands before the first space of a text, and after it; nothing where there is none
 abbrev pub in_front_of : (space : Option ℕ) → (text : List ℕ) → List ℕ
 in_front_of None text = text
 in_front_of (Some k) text = take k text
@@ -149,7 +149,7 @@ abbrev pub from_word : ℕ → (line : List ℕ) → List ℕ
 from_word zero line = line
 from_word (suc k) line = behind (position is_space (from_word k line)) (from_word k line)
 
--- a part of a line: how many bytes stand in front of it, and its bytes
+-- a part of a line: how many bytes stand before it, and its bytes
 pub record LinePart : Type 0 where
   pub before : ℕ
   pub bytes : List ℕ
@@ -160,7 +160,7 @@ part_from line rest bytes = record { before = length line - length rest; bytes =
 abbrev pub word_at : ℕ → (line : List ℕ) → LinePart
 word_at k line = part_from line (from_word k line) (first_word (from_word k line))
 
--- the word that is wrong; of too few words the line's end, of too many all that are too many
+-- the word that is wrong; for too few words, the line's end; for too many, all the extra words
 abbrev pub wrong_part : EventFault → (line : List ℕ) → LinePart
 wrong_part NoEvent line = word_at 0 line
 wrong_part TooFew line = record { before = length line; bytes = [] }

@@ -1,4 +1,4 @@
--- Helper vocabulary: the key of the index of task names, on which only time rests: the hash of all of them
+-- Helper vocabulary: the key of the index of task names, which affects only running time: the hash of all of them
 -- (SipHash, Aumasson, Bernstein 2012, in its form 1-3).
 use Rattle.std.specs.Prelude.{List, [], ◌∷◌}
 use Rattle.std.specs.List.{fold}

@@ -10,7 +10,7 @@ abbrev pub name_at : Option Descriptor → List ℕ
 name_at None = []
 name_at (Some task) = task.name
 
--- an event, with the name of the task that it assigns; of no task, no name
+-- an event, with the name of the task that it assigns; no name if there is no such task
 abbrev pub event_text : Listing → Event → List ℕ
 event_text p (Assign task) = codes "assign " ++ name_at (slice_get p.tasks task)
 event_text p (Exec k) = codes "exec " ++ decimal k
@@ -28,7 +28,7 @@ line_text p event = event_text p event ++ 10 ∷ []
 abbrev pub script_text : Listing → List Event → List ℕ
 script_text p events = flat_map (line_text p) events
 
--- ---- which events a script can tell
+-- ---- which events a script can express
 
 -- the task is one of the program's, and the position has at most three digits
 abbrev pub IsTold : Listing → Event → Type 0
@@ -41,7 +41,7 @@ IsTold p Retire = Unit {0}
 IsTold p Fault = Unit {0}
 IsTold p (Drop k) = k ≤ 999
 
--- the register is one: the type of an event sees to it
+-- the register is one: the type of an event ensures this
 abbrev pub NamesRegister : Event → Type 0
 NamesRegister (Transfer k r) = r < 34
 NamesRegister (Drain k r) = r < 34

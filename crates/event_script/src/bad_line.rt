@@ -18,14 +18,14 @@ pub struct BadLine {
     pub fault: EventFault,
 }
 
-/// How many bytes stand in front of the first space of a text.
+/// How many bytes stand before the first space of a text.
 fn space_in(text: &[u8]) -> Option<usize>
     ensures { result ≡ position is_space text.now }
 {
     text.iter().position(|byte| *byte == b' ')
 }
 
-/// What stands behind the first space of a text; nothing where there is none.
+/// What stands after the first space of a text; nothing where there is none.
 fn behind_space(text: &[u8]) -> &[u8]
     ensures value { result.now ≡ behind (position is_space text.now) text.now }
     ensures shorter { length result.now ≤ length text.now }
@@ -58,7 +58,7 @@ fn from_word(line: &[u8], number: usize) -> &[u8]
     rest
 }
 
-/// A word of a line, and how many bytes stand in front of it.
+/// A word of a line, and how many bytes stand before it.
 fn word_at(line: &[u8], number: usize) -> (usize, &[u8])
     ensures before { result.0 ≡ (word_at number line.now).before }
     ensures bytes { result.1.now ≡ (word_at number line.now).bytes }
@@ -71,8 +71,8 @@ impl EventFault {
     ghost use Rattle.std.specs.Prelude.{◌≡◌};
     ghost use Rattle.event_script.specs.EventScript.{wrong_part};
 
-    /// The part of a line that has this fault: how many bytes stand in front of it, and its bytes. It is the word
-    /// that is wrong; where words are missing, the line's end, and where there are too many, all that are too many.
+    /// The part of a line that has this fault: how many bytes stand before it, and its bytes. It is the word
+    /// that is wrong; where words are missing, the line's end, and where there are too many, all the extra words.
     pub fn part_of(self, line: &[u8]) -> (usize, &[u8])
         ensures before { result.0 ≡ (wrong_part self line.now).before }
         ensures bytes { result.1.now ≡ (wrong_part self line.now).bytes }
@@ -90,7 +90,7 @@ impl EventFault {
     }
 }
 
-/// Adds a line with a fault, if there is room for it among so many, and counts it.
+/// Adds a line with a fault, if the list has fewer than `most`.
 fn add_line(
     list: &mut Vec<BadLine>,
     most: usize,
@@ -136,7 +136,7 @@ fn bad_among(
 }
 
 /// The lines of a text that spell no event for the tasks of a program: the first of them, at most `most`, and how many
-/// there are. Where there is none the script can be read, and else it is refused for the first (`laws::refused_for_the_first`).
+/// there are. With none the script can be read; else it is refused for the first (`laws::refused_for_the_first`).
 ///
 /// # Errors
 ///

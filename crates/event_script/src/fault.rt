@@ -11,7 +11,7 @@ pub enum ScriptFault {
     Line(usize),
     /// 2: this line assigns a task, and no task of the program has that name.
     TaskName(usize),
-    /// 3: there was no memory; it may come in place of any other answer.
+    /// 3: out of memory; this may come in place of any other answer.
     OutOfMemory,
 }
 
@@ -24,7 +24,7 @@ pub enum EventFault {
     /// It ends before the event does.
     #[error("a word is missing at the line's end")]
     TooFew,
-    /// It goes on after the event, which has so many words.
+    /// It continues after the event, which has this many words.
     #[error("the event has only {0} words")]
     TooMany(usize),
     /// Its second word is no position.

@@ -1,4 +1,4 @@
-//! What is said of a script that is refused.
+//! What is reported about a script that is refused.
 
 use crate::fault::ScriptFault;
 use std::error::Error;

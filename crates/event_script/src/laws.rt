@@ -10,7 +10,7 @@ ghost use Rattle.event_script.specs.ScriptText.{IsTold, NamesRegister, script_te
 
 use task_descriptor::program::Program;
 
-/// What is written is read again: the script of events that it can tell is read as these events. The
+/// What is written can be read back: the script of events that it can express is read as these events. The
 /// call does nothing but look at the program: its contract is the law.
 pub fn written_is_read(program: &Program)
     ensures { (events : List Event) → All (λ e. IsTold program.now e × NamesRegister e) events

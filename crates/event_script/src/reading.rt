@@ -71,8 +71,8 @@ fn operand_count(verb: &[u8]) -> Option<usize>
     }
 }
 
-/// What is wrong with so many words behind a first word that make no event: that no event begins so, that they
-/// are too few or too many, and else `wrong`.
+/// What is wrong with this many words after a first word that make no event: no event begins so, they
+/// are too few or too many, or else `wrong`.
 #[cold]
 fn misfit(verb: &[u8], count: usize, wrong: EventFault) -> EventFault
     ensures { result ≡ misfit (operand_count verb.now) count wrong }
@@ -127,7 +127,7 @@ fn at_position(verb: &[u8], k: u32) -> Result<Event, EventFault>
     }
 }
 
-/// The event of a verb and one word behind it.
+/// The event of a verb and one word after it.
 fn with_one(names: &TaskNames, verb: &[u8], word: &[u8]) -> Result<Event, EventFault>
     requires { length names.now ≤ 1024 }
     ensures { result ≡ with_one_of names.now verb.now word.now }
@@ -154,7 +154,7 @@ fn with_both(verb: &[u8], k: u32, register: Reg) -> Result<Event, EventFault>
     }
 }
 
-/// The event of a verb and two words behind it.
+/// The event of a verb and two words after it.
 fn with_two(verb: &[u8], first: &[u8], second: &[u8]) -> Result<Event, EventFault>
     ensures { result ≡ with_two_of verb.now (number_in first.now) (register_in second.now) }
 {
@@ -167,7 +167,7 @@ fn with_two(verb: &[u8], first: &[u8], second: &[u8]) -> Result<Event, EventFaul
     }
 }
 
-/// The event that a line spells, which is given without its LF.
+/// The event that a line spells; the line is given without its LF.
 pub fn event_of(names: &TaskNames, line: &[u8]) -> Result<Event, EventFault>
     requires { length names.now ≤ 1024 }
     ensures { result ≡ event_in names.now line.now }

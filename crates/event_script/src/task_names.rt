@@ -29,7 +29,7 @@ impl TaskNames {
     ghost use Rattle.task_descriptor.specs.Listing.{has_duplicate};
     ghost use Rattle.event_script.specs.EventScript.{names_in};
 
-    /// The names of tasks of which no two have one name. The error says that memory was refused.
+    /// The names of tasks, no two of which share a name. The error means that memory was refused.
     pub fn of(alloc: Global, tasks: &[Descriptor]) -> Result<TaskNames, AllocError>
         requires { has_duplicate tasks.now ≡ false }
         ensures { IfOk result (λ names. names ≡ names_in tasks.now) }

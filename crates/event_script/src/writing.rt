@@ -22,7 +22,7 @@ pub fn task_name(program: &Program, task: u32) -> &str
     }
 }
 
-/// Adds an event, without its LF. An error says that memory was refused.
+/// Adds an event, without its LF. An error means that memory was refused.
 pub fn write_event(text: &mut String, program: &Program, event: Event) -> Result<(), AllocError>
     ensures text { OnOk result (string_bytes text.new ≡ string_bytes text.old ++ event_text program.now event) }
     ensures register { OnOk result (NamesRegister event) }
@@ -57,7 +57,7 @@ fn write_line(text: &mut String, program: &Program, event: Event) -> Result<(), 
     writeln!(text, "")
 }
 
-// Adds a line so many times.
+// Adds a line the given number of times.
 fn repeat_line(text: &mut String, line: &str, times: u32) -> Result<(), AllocError>
     ensures { OnOk result (string_bytes text.new ≡ string_bytes text.old ++ concat (replicate times line.now)) }
 {
@@ -67,8 +67,8 @@ fn repeat_line(text: &mut String, line: &str, times: u32) -> Result<(), AllocErr
     Ok(())
 }
 
-/// The script of a history for its program: each event on a line of its own, as often as its run says.
-/// It is read as these events, where they are of the program's tasks and of positions up to 999, as those
+/// The script of a history for its program: each event on a line of its own, as often as its run states.
+/// It is read as these events, if they are of the program's tasks and of positions up to 999, as those
 /// of a machine are.
 pub fn write(alloc: Global, runs: &[EventRun], program: &Program) -> Result<Vec<u8>, AllocError>
     ensures text { IfOk result (λ text. text.items ≡ script_text program.now (events_of runs.now)) }

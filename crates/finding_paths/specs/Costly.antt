@@ -2,7 +2,7 @@
 --
 -- Later tasks wait for each register of a create mask until it is sent: forwarded with its last update,
 -- released, or sent when the task ends (Sohi, Breach, Vijaykumar, "Multiscalar Processors", ISCA 1995, section
--- 2.2). Which marks are told is this project's own.
+-- 2.2). Which marks are reported is this project's own.
 use Rattle.std.specs.Prelude.{◌≡◌, ℕ, ◌+◌, ◌<◌, Bool, true, false, List, [], ◌∷◌, length, slice_get, Some}
 use Rattle.mips_instructions.specs.Words.{has}
 use Rattle.mips_instructions.specs.Instruction.{dests, released}
@@ -53,7 +53,7 @@ pub data UnsentPath (p : Listing) (register i : ℕ) : ℕ → Type 0 where
   stay : UnsentPath p register i i
   onward : {j k : ℕ} → UnsentPath p register i j → (e : Edge p false j k) → sends e.at register ≡ false → UnsentPath p register i k
 
--- Some task comes to the instruction from its entry on such a path.
+-- Some task reaches the instruction from its entry on such a path.
 pub record ComesUnsent (p : Listing) (register index : ℕ) : Type 0 where
   pub task : ℕ
   pub descriptor : Descriptor

@@ -1,4 +1,4 @@
--- Which path shows a finding, rule by rule: where it begins, and what it comes to.
+-- Which path shows a finding, rule by rule: where it begins, and what it reaches.
 use Rattle.std.specs.Prelude.{◌≡◌, ℕ, Bool, true, false, List, Option, Some, None}
 use Rattle.task_descriptor.specs.Listing.{Listing}
 use Rattle.task_graph.specs.Edges.{Path}
@@ -20,8 +20,8 @@ abbrev pub to_index : (start index : ℕ) → Option Query
 to_index start index = Some (record { start = start; onward = false; sought = At index })
 
 -- By rule: a register that the entry's mask has is written on a path from the entry; one that is sent too
--- early is written again on a path from there; a mark that is wrong, and an exit, is come to from the entry.
--- The other rules speak of masks or of targets alone.
+-- early is written again on a path from there; a wrong mark or an exit is reached from the entry.
+-- The other rules concern masks or targets alone.
 abbrev pub query_by : Rule → Option ℕ → (entry index : ℕ) → Option Query
 query_by ExceedsCreate reg entry index = to_writer reg entry false
 query_by ForwardedInNext reg entry index = to_writer reg index true
@@ -35,7 +35,7 @@ query_by _ reg entry index = None
 abbrev pub query_of : (entry : ℕ) → Finding → Option Query
 query_of entry f = query_by f.rule f.reg entry f.index
 
--- The list is what is looked for: the indices of a path, where it is to go on of at least one edge.
+-- The list is what is looked for: the indices of a path, of at least one edge where it is to lead onward.
 abbrev pub leads : (onward : Bool) → Listing → (start : ℕ) → Sought → List ℕ → Type 0
 leads true p start sought path = LeadsOnward p start sought path
 leads false p start sought path = LeadsTo p start sought path
@@ -43,7 +43,7 @@ leads false p start sought path = LeadsTo p start sought path
 abbrev pub IsFoundBy : Listing → Query → List ℕ → Type 0
 IsFoundBy p query path = leads query.onward p query.start query.sought path
 
--- Some path comes to what is sought.
+-- Some path reaches what is sought.
 pub record Comes (p : Listing) (start : ℕ) (sought : Sought) : Type 0 where
   pub to : ℕ
   pub path : Path p start to

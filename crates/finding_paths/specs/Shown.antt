@@ -1,4 +1,4 @@
--- When a path shows a finding: the marks are as the rule says, and the path leads where they go wrong.
+-- When a path shows a finding: the marks are as the rule states, and the path leads to where they go wrong.
 use Rattle.std.specs.Prelude.{◌≡◌, ℕ, Bool, true, false, not, ◌&&◌, nat_eq, nat_le, ◌+◌, List, map, take, length, slice_get, Option, Some, None, Contains}
 use Rattle.std.specs.List.{list_any, All}
 use Rattle.std.specs.declared.alloc.Global.{Global}
@@ -21,7 +21,7 @@ use Rattle.finding_paths.specs.declared.query.Query.{Query}
 use Rattle.finding_paths.specs.declared.shown.ShownFinding.{ShownFinding}
 use Rattle.finding_paths.specs.Queries.{query_of, IsFoundBy}
 
--- What the rule says of the instruction m at i of the task d, and of the register; nothing of masks.
+-- What the rule states about the instruction m at i of the task d, and the register; nothing about masks.
 abbrev pub is_wrong : Listing → Descriptor → (i : ℕ) → Marked → Rule → Option ℕ → Bool
 is_wrong p d i m ExceedsCreate (Some r) = nat_eq i d.entry && not (has d.create r)
 is_wrong p d i m ForwardedInNext (Some r) = m.forward && dests m.op r
@@ -32,7 +32,7 @@ is_wrong p d i m FallsOff None = list_any (λ j. nat_le (length p.code) j) (ends
 is_wrong p d i m IndirectGoesOn None = is_indirect m.op && not (stops_always m.stop)
 is_wrong p d i m _ _ = false
 
--- The path shows the finding: an instruction that the task comes to is marked wrongly, and the path leads
+-- The path shows the finding: an instruction that the task reaches is marked wrongly, and the path leads
 -- to where it matters.
 pub record Shows (p : Listing) (f : Finding) (path : List ℕ) : Type 0 where
   pub task : Descriptor
@@ -45,7 +45,7 @@ pub record Shows (p : Listing) (f : Finding) (path : List ℕ) : Type 0 where
   pub is_query : query_of task.entry f ≡ Some query
   pub leads : IsFoundBy p query path
 
--- It does, and no path that does is shorter.
+-- The path shows the finding, and no shorter path does.
 pub record IsShortest (p : Listing) (f : Finding) (path : List ℕ) : Type 0 where
   pub shows : Shows p f path
   pub shortest : NoneShorter (Shows p f) path
@@ -61,8 +61,8 @@ abbrev pub IsShown : Listing → Finding → Option (Vec ℕ Global) → Type 0
 IsShown p f None = (d : Descriptor) → slice_get p.tasks f.task ≡ Some d → query_of d.entry f ≡ None
 IsShown p f (Some path) = IsShortest p f path.items
 
--- The list has the first findings of a least certificate, at most so many, each with what shows it, and
--- behind it are so many more.
+-- The list has the first findings of a least certificate, at most `most`, each with what shows it, and
+-- `more` findings follow them.
 pub record AreShown (p : Listing) (most : ℕ) (list : List ShownFinding) (more : ℕ) : Type 0 where
   pub cert : List (List (ℕ × ℕ))
   pub least : IsLeast p cert

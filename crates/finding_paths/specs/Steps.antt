@@ -89,6 +89,6 @@ pub record AreUnsent (p : Listing) (n : ℕ) (table : List (List Bool)) : Type 0
   pub widths : (r : ℕ) → r < n → IsReleased p r → length (slice_index_or table r []) ≡ length p.code
   pub exact : (r i : ℕ) → r < n → IsReleased p r → (is_marked (slice_index_or table r []) i ≡ true) ↔ ComesUnsent p r i
 
--- behind the list `old`, the list `new` has those of more marks that cost speed
+-- after the list `old`, the list `new` has those of more marks that cost speed
 abbrev pub Adds : Listing → (more old new : List CostlyMark) → Type 0
 Adds p more old new = (from : List CostlyMark) → Picked (IsCostly p) from old → Picked (IsCostly p) (from ++ more) new

@@ -16,7 +16,7 @@ pub record AreVisits (p : Listing) (start : ℕ) (visits : List Visit) : Type 0 
   pub earlier : ComeFromEarlier visits
   pub along : (k : ℕ) (u v : Visit) → slice_get visits (suc k) ≡ Some v → slice_get visits v.from ≡ Some u → Edge p false u.index v.index
 
--- the first visit is so many steps back
+-- the first visit is `steps` steps back from the visit `at`
 pub data StepsBack (visits : List Visit) : (at steps : ℕ) → Type 0 where
   at_first : StepsBack visits 0 0
   behind : {k n : ℕ} {v : Visit} → slice_get visits (suc k) ≡ Some v → StepsBack visits v.from n → StepsBack visits (suc k) (suc n)

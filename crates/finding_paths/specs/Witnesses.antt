@@ -1,4 +1,4 @@
--- What a witness is: a path along inner edges, told by the indices that it comes to.
+-- What a witness is: a path along inner edges, given by the indices that it visits.
 --
 -- Inner edges and paths are those of the task (the stop marks of Sohi, Breach, Vijaykumar,
 -- "Multiscalar Processors", ISCA 1995, section 2.2, say where it ends); witnesses are this project's choice.
@@ -19,7 +19,7 @@ is_sought_at (Some m) (Writes r) i = dests m.op r
 abbrev pub is_sought : Listing → Sought → (i : ℕ) → Bool
 is_sought p sought i = is_sought_at (slice_get p.code i) sought i
 
--- The indices that a path comes to, in their order, with both ends.
+-- The indices that a path visits, in order, with both ends.
 abbrev pub indices : (p : Listing) (i k : ℕ) → Path p i k → List ℕ
 indices p i k stay = i ∷ []
 indices p i k (onward {j = j} path edge) = indices p i j path ++ k ∷ []
@@ -42,13 +42,13 @@ pub record LeadsTo (p : Listing) (start : ℕ) (sought : Sought) (list : List �
   pub along : list ≡ indices p start to path
   pub is_it : is_sought p sought to ≡ true
 
--- The same of a path of at least one edge.
+-- Like `LeadsTo`, but for a path of at least one edge.
 pub record LeadsOnward (p : Listing) (start : ℕ) (sought : Sought) (list : List ℕ) : Type 0 where
   pub to : ℕ
   pub onward : Onward p start to
   pub along : list ≡ indices p start onward.before onward.path ++ to ∷ []
   pub is_it : is_sought p sought to ≡ true
 
--- Nothing that is such a list is shorter.
+-- No such list is shorter.
 abbrev pub NoneShorter : (List ℕ → Type 0) → List ℕ → Type 0
 NoneShorter such list = (other : List ℕ) → such other → length list ≤ length other

@@ -16,7 +16,7 @@ use task_descriptor::program::Program;
 pub(crate) struct FirstFindings {
     /// The first findings.
     pub(crate) list: Vec<Finding>,
-    /// How many findings there are, the first among them.
+    /// How many findings there are, including the first ones.
     pub(crate) count: usize,
 }
 

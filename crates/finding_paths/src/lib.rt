@@ -1,7 +1,7 @@
-//! Findings with the paths that show them: for what the checker says against a program's marks, a path
+//! Findings with the paths that show them: for what the checker reports against a program's marks, a path
 //! through the program on which the mark goes wrong; and the marks that are sound but cost time.
 //!
-//! Nothing rests on this crate: a path is checked against its definition, whatever was found.
+//! No trust rests on this crate: a path is checked against its definition, whatever was found.
 #![tactic(auto)]
 
 mod first;

@@ -12,9 +12,9 @@ pub enum CostlyMark {
     /// all of them have these registers in their create masks, but it has no forward bit: later tasks wait
     /// longer than they need. One of the tasks has a target.
     NotForwarded { index: u32 },
-    /// The instruction at this index releases the register, which was sent before on each way to it, in each
+    /// The instruction at this index releases the register, which was sent before on each path to it, in each
     /// task that reaches it: the release does nothing.
     SentBefore { index: u32, register: Reg },
-    /// No task reaches the instruction at this index, the first of the code or behind one that is reached.
+    /// No task reaches the instruction at this index, the first of the code or after one that is reached.
     Unreached { index: u32 },
 }

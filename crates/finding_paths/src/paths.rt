@@ -13,7 +13,7 @@ use task_descriptor::program::Program;
 use task_graph::edges::next_inside;
 
 /// A shortest path from the instruction at `start` along inner edges to what is sought, as the indices
-/// that it comes to, `start` first; `None` where there is no such path. It may be `start` alone. The
+/// that it visits, `start` first; `None` where there is no such path. It may be `start` alone. The
 /// caller sees to it that `start` is an instruction.
 ///
 /// # Errors
@@ -40,7 +40,7 @@ pub fn path_to(
 }
 
 /// A shortest path of at least one inner edge from the instruction at `start` to what is sought, as the
-/// indices that it comes to, `start` first; `None` where there is no such path. The caller sees to it
+/// indices that it visits, `start` first; `None` where there is no such path. The caller sees to it
 /// that `start` is an instruction.
 ///
 /// # Errors

@@ -15,7 +15,7 @@ use mips_instructions::instruction::Op;
 use mips_instructions::number::RegSet;
 use task_descriptor::program::Program;
 
-/// The registers of a task's create mask that it never produces; none of a task without a target.
+/// The registers of a task's create mask that it never produces; none for a task without a target.
 pub(crate) fn spare(program: &Program, cert: &Cert, task: u32) -> RegSet
     requires least { IsLeast program.now cert.now }
     requires there { task < length program.now.tasks }

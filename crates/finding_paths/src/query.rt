@@ -12,9 +12,9 @@ use mips_instructions::number::Reg;
 pub struct Query {
     /// The index of the instruction where the path begins.
     pub start: u32,
-    /// Whether the path goes on from there by one edge at least.
+    /// Whether the path continues from there by at least one edge.
     pub onward: bool,
-    /// What it comes to.
+    /// What it reaches.
     pub sought: Sought,
 }
 
@@ -33,7 +33,7 @@ fn to_writer(register: Option<Reg>, start: u32, onward: bool) -> Option<Query>
 }
 
 /// The query for a path that shows a finding of a task that begins at `entry`; `None` where the rule
-/// speaks of masks or of targets alone.
+/// concerns masks or targets alone.
 pub fn query_of(entry: u32, finding: &Finding) -> Option<Query>
     ensures { result ≡ query_of entry finding.now }
 {

@@ -109,7 +109,7 @@ pub(crate) fn has_target(descriptor: &Descriptor) -> bool
     }
 }
 
-/// Whether no task reaches the instruction, and it is the first or one reaches that before it.
+/// Whether no task reaches the instruction, and it is the first or some task reaches the one before it.
 pub(crate) fn begins_unreached(program: &Program, reaching: &[Option<u32>], index: u32) -> bool
     requires table { AreReaching program.now (length program.now.tasks) reaching.now }
     requires there { index < length program.now.code }

@@ -17,7 +17,7 @@ use std::alloc::{AllocError, Global};
 use task_descriptor::program::Program;
 
 /// The marks of a program that cost speed, and code that no task reaches, of any well-formed program: what
-/// is told of the tasks by task and register, what of the instructions by index and register, and last where
+/// is reported of tasks by task and register, of instructions by index and register, and last where
 /// code that no task reaches begins, by index. `least` is the program's least certificate.
 ///
 /// # Errors
@@ -50,7 +50,7 @@ fn add(list: &mut Vec<CostlyMark>, mark: CostlyMark, is_costly: bool) -> Result<
     Ok(())
 }
 
-/// Adds what is told of the tasks.
+/// Adds what is reported of the tasks.
 fn add_of_tasks(
     program: &Program,
     cert: &Cert,
@@ -91,7 +91,7 @@ fn add_of_task(
     Ok(())
 }
 
-/// Adds what is told of the instructions.
+/// Adds what is reported of the instructions.
 fn add_of_instructions(
     program: &Program,
     cert: &Cert,

@@ -48,7 +48,7 @@ fn begin(program: &Program, marks: &mut Vec<bool>, work: &mut Vec<u32>) -> Resul
     Ok(())
 }
 
-/// The inner successors of an instruction that does not send the register; none of one that does.
+/// The inner successors of an instruction that does not send the register; none for one that does.
 fn next_unsent(program: &Program, register: Reg, i: u32) -> Next
     requires { i < length program.now.code }
     ensures { (j : ℕ) → (is_among result j ≡ true) ↔ FollowsUnsent program.now register i j }

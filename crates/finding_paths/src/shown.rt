@@ -21,7 +21,7 @@ use task_descriptor::program::Program;
 pub struct ShownFinding {
     /// The finding.
     pub finding: Finding,
-    /// The indices that the path comes to, in their order; `None` where the rule speaks of masks or of
+    /// The indices that the path visits, in order; `None` where the rule concerns masks or
     /// targets alone.
     pub path: Option<Vec<u32>>,
 }
@@ -31,7 +31,7 @@ pub struct ShownFinding {
 pub struct ShownFindings {
     /// The first findings.
     pub list: Vec<ShownFinding>,
-    /// How many findings are behind these.
+    /// How many findings follow these.
     pub more: usize,
 }
 
@@ -58,7 +58,7 @@ fn found(alloc: Global, program: &Program, query: &Query) -> Result<Option<Vec<u
     }
 }
 
-/// A shortest path that shows a finding: `None` exactly where its rule speaks of masks or of targets
+/// A shortest path that shows a finding: `None` exactly where its rule concerns masks or targets
 /// alone. The finding is one that the checker has with the program's least certificate.
 ///
 /// # Errors
@@ -85,7 +85,7 @@ pub fn path_of(
 /// most `most` of them, each with a shortest path that shows it, and how many more there are. The findings
 /// are those of `least`, the least certificate, so there is none exactly where the marks are sound.
 ///
-/// Those that are not shown are counted, task by task, and no path is looked for: the memory for them is that
+/// Findings that are not shown are counted, task by task, without looking for a path: the memory for them is that
 /// of one task's findings.
 ///
 /// # Errors
@@ -101,7 +101,7 @@ pub fn shown_findings(
     ensures shown { IfOk result (λ shown. AreShown program.now most shown.list.items shown.more) }
     ensures sound { IfOk result (λ shown. ((shown.list.items ≡ []) × (shown.more ≡ 0)) ↔ Sound program.now) }
 {
-    // A program is well-formed, as its accessors say.
+    // A program is well-formed, as its accessors state.
     let _ = program.tasks();
     let mut list = Vec::new(alloc);
     if accepts(program, least) {

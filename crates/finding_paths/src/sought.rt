@@ -1,8 +1,8 @@
-//! What a path is looked for to.
+//! What a path is to reach.
 
 use mips_instructions::number::Reg;
 
-/// The instruction that a path is to come to.
+/// The instruction that a path is to reach.
 #[derive(Clone, Copy, Debug, PartialEq, Eq)]
 pub enum Sought {
     /// The instruction at this index.

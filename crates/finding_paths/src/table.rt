@@ -27,7 +27,7 @@ fn all_released(code: &[Marked]) -> RegSet
     set
 }
 
-/// The marks of a register that is released; none of any other, of which nobody asks.
+/// The marks of a register that is released; none for any other, which nobody asks about.
 fn marks_if_released(
     alloc: Global,
     program: &Program,
@@ -60,7 +60,7 @@ pub(crate) fn unsent_table(alloc: Global, program: &Program) -> Result<Vec<Vec<b
     Ok(table)
 }
 
-/// Whether the instruction releases the register, which was sent before on each way to it.
+/// Whether the instruction releases the register, which was sent before on each path to it.
 pub(crate) fn is_sent_before(
     program: &Program,
     reaching: &[Option<u32>],

@@ -25,7 +25,7 @@ pub enum Emit {
     Marks,
 }
 
-/// How `explain` lays out what it says.
+/// How `explain` lays out its report.
 #[derive(Clone, Copy, Debug, PartialEq, Eq)]
 pub enum Format {
     /// Lines for a person, in the form that compilers use.
@@ -39,7 +39,7 @@ pub enum Format {
 /// Whether the lines that `explain` writes for a person have colours.
 #[derive(Clone, Copy, Debug, PartialEq, Eq)]
 pub enum Colors {
-    /// Where a person sees them: on a terminal, and only if the environment does not ask for none.
+    /// On a terminal, where a person sees them, unless the environment asks for none.
     Auto,
     /// Wherever they go.
     Always,
@@ -47,26 +47,26 @@ pub enum Colors {
     Never,
 }
 
-/// What `run` writes of a run.
+/// What `run` writes for a run.
 #[derive(Clone, Copy, Debug, PartialEq, Eq)]
 pub enum RunEmit {
     /// The output words, and how the run ended.
     Report,
     /// The history, as an event script that `replay` reads.
     Script,
-    /// The same with what each event did, as a script that `replay --strict` judges.
+    /// The history with what each event did, as a script that `replay --strict` judges.
     ScriptWithValues,
-    /// How often each task was assigned, how that ended, and how much of its work was of use.
+    /// How often each task was assigned, how that ended, and how much of its work was useful.
     Summary,
     /// The run as a picture, in SVG, with a column for each event.
     Picture,
-    /// The same with a column for each step: of a run in steps.
+    /// The run as a picture, in SVG, with a column for each step: of a run in steps.
     StepPicture,
     /// Each event of the history with what it changed.
     Trace,
-    /// The same in JSON, an object on each line, for machines.
+    /// Each event of the history with what it changed, in JSON, an object on each line, for machines.
     Json,
-    /// In how many steps which task waited where, and for what: of a run in steps.
+    /// How many steps each task waited, where, and for what: of a run in steps.
     Waits,
     /// What each unit does in each step, as a value change dump: of a run in steps.
     Waveform,
@@ -74,18 +74,18 @@ pub enum RunEmit {
     Timeline,
 }
 
-/// What `replay` writes of a script.
+/// What `replay` writes for a script.
 #[derive(Clone, Copy, Debug, PartialEq, Eq)]
 pub enum ReplayEmit {
     /// What the machine answers to each event, and how it then stands.
     Answers,
-    /// How often each task was assigned, how that ended, and how much of its work was of use.
+    /// How often each task was assigned, how that ended, and how much of its work was useful.
     Summary,
     /// The events that were allowed as a picture, in SVG.
     Picture,
     /// Each event of the script with what the machine answers to it, and what it changed.
     Trace,
-    /// The same in JSON, an object on each line, for machines.
+    /// Each event of the script with the answer and the change, in JSON, an object on each line, for machines.
     Json,
     /// The events that were allowed as a timeline, in the JSON that viewers of traces read.
     Timeline,
@@ -93,7 +93,7 @@ pub enum ReplayEmit {
     State,
 }
 
-/// How `curve` lays out what its runs come to.
+/// How `curve` lays out the results of its runs.
 #[derive(Clone, Copy, Debug, PartialEq, Eq)]
 pub enum CurveEmit {
     /// A table with a row for each run.
@@ -144,17 +144,17 @@ pub enum Job {
     Annotate {
         emit: Emit,
     },
-    /// Says of each wrong mark of a program what is wrong, on which path, and what to do.
+    /// Explains each wrong mark of a program: what is wrong, on which path, and what to do.
     Explain {
-        /// The program's file as the words have it, for the diagnostics.
+        /// The program's file as the command line names it, for the diagnostics.
         name: String,
-        /// The certificate's file as the words have it, where one is to be explained, too.
+        /// The certificate's file as the command line names it, where one is to be explained, too.
         certificate: Option<String>,
-        /// The event script's file as the words have it, where one is to be explained, too.
+        /// The event script's file as the command line names it, where one is to be explained, too.
         script: Option<String>,
-        /// Whether marks that are right but cost speed are told, too.
+        /// Whether marks that are right but cost speed are reported, too.
         warnings: bool,
-        /// How what is said is laid out.
+        /// How the report is laid out.
         format: Format,
         /// Whether the lines for a person have colours.
         colors: Colors,
@@ -164,21 +164,21 @@ pub enum Job {
         certificate: CertificateSource,
         workers: Workers,
     },
-    /// Applies the events of a script to a machine of this many units: all, or the first so many.
+    /// Applies the events of a script to a machine of this many units: all, or the first `until`.
     Replay {
         certificate: CertificateSource,
         units: Units,
         emit: ReplayEmit,
         until: Option<Budget>,
     },
-    /// Applies the events of a script with expectations to a machine of this many units, up to the first that is not allowed
-    /// or does not do what is expected.
+    /// Applies the events of a script with expectations to a machine of this many units, up to the first that is not
+    /// allowed or does not do what is expected.
     ReplayStrictly {
         certificate: CertificateSource,
         units: Units,
     },
     /// Runs the program on a machine of this many units, which this many threads serve, up to this many
-    /// events. More threads than units are as many as units; a run in steps has one thread.
+    /// events. More threads than units count as one for each unit; a run in steps has one thread.
     Run {
         certificate: CertificateSource,
         schedule: Schedule,
@@ -188,7 +188,7 @@ pub enum Job {
         predict: Prediction,
         emit: RunEmit,
     },
-    /// Runs the program in steps on machines of 1, 2, 3 units and more, up to so many, each run up to this
+    /// Runs the program in steps on machines of 1, 2, 3 units and more, up to `units`, each run up to this
     /// many events.
     Curve {
         certificate: CertificateSource,
@@ -197,7 +197,7 @@ pub enum Job {
         predict: Prediction,
         emit: CurveEmit,
     },
-    /// Looks for a run that shows the harm of a wrong mark, on machines of 2, 3 units and more, up to so many, each
+    /// Looks for a run that shows the harm of a wrong mark, on machines of 2, 3 units and more, up to `units`, each
     /// run up to this many events.
     Demonstrate {
         units: Units,

@@ -16,8 +16,8 @@ pub const MOST_PREDICTIONS: usize = 64;
 /// The greatest number in a list of predictions: the last of 16 targets.
 pub const GREATEST_PREDICTION: u32 = 15;
 
-/// How far a run goes at most, 1..=1,000,000: instructions for `seq`, events for `run`, `replay` and `curve` (own
-/// choice).
+/// How far a run goes at most, 1..=1,000,000: instructions for `seq`, events for `run`, `replay` and
+/// `curve`.
 #[derive(Clone, Copy, Debug, PartialEq, Eq)]
 pub struct Budget {
     most: u32,
@@ -141,8 +141,8 @@ impl Workers {
     }
 }
 
-/// The list of `--predict`: the positions of targets, one after another: 1 to 64 numbers, each 0..=15 (own
-/// choice).
+/// The list of `--predict`: the positions of targets, one after another: 1 to 64 numbers, each
+/// 0..=15.
 #[derive(Debug, Drop)]
 pub struct PredictionList {
     numbers: Vec<u32>,

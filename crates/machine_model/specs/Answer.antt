@@ -1,5 +1,5 @@
 -- What the machine answers to an event: the first refusal whose condition holds; and replays as a
--- function (own).
+-- function.
 use Rattle.std.specs.Prelude.{ℕ, zero, suc, List, [], ◌∷◌, ◌++◌, Bool, true, false, not, nat_eq, nat_lt, length, take, drop, pred, if◌then◌else◌, slice_get, slice_set, is_some, is_none, Option, Some, None}
 use Rattle.std.specs.List.{fold, last_or}
 use Rattle.std.specs.Option.{option_or, option_and_then, unwrap_or}
@@ -61,7 +61,7 @@ refusal p units s (Drop k) =
     for_some (slice_get s.queue k) refused.NoSuch (λ u.
     unless (nat_lt 0 k) refused.NoSuch None)
 
--- where the run goes on, with n events before it
+-- while the run continues, with n events before it
 abbrev pub later_refusal : Listing → (units : ℕ) → State → (n : ℕ) → Event → Option Refused
 later_refusal p units s n e = option_or (refusal p units s e) (unless (nat_lt n most_events) refused.Full None)
 

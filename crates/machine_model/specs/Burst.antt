@@ -1,5 +1,5 @@
 -- Bursts: instructions of one unit that need nothing but its own registers and read-only data, so that
--- they may be made away from the machine and handed in later (own).
+-- they may be made away from the machine and handed in later.
 use Rattle.std.specs.Prelude.{◌≡◌, ℕ, zero, suc, Bool, true, false, Some}
 use Rattle.mips_instructions.specs.Instruction.{dests}
 use Rattle.mips_plain.specs.Effect.{may_run_ahead}

@@ -1,5 +1,5 @@
 -- What is claimed of the machine after any list of events: the counts c and h, and that what retired
--- is the plain machine's run (own; "the appearance of sequential execution", ISCA 1995, section 2).
+-- is the plain machine's run ("the appearance of sequential execution", ISCA 1995, section 2).
 use Rattle.std.specs.Prelude.{◌≡◌, ℕ, ◌+◌, List, [], ◌∷◌, false, true, length, slice_get, Some}
 use Rattle.std.specs.List.{sum_by, AllByRecursion}
 use Rattle.mips_plain.specs.PlainMachine.{State as PlainState, plain, reads}

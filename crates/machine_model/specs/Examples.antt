@@ -65,7 +65,7 @@ value_of (Some u) r = value u r
 abbrev pub value_at : Played → (k r : ℕ) → Option ℕ
 value_at played k r = value_of (slice_get played.state.queue k) r
 
--- Task A adds 1 to register 8 and register 8 to register 9 until register 8 is 4; task B puts out
+-- Task A adds 1 to register 8 and register 8 to register 9 until register 8 is 4; task B outputs
 -- register 9
 abbrev pub count : Listing
 count = record {
@@ -174,7 +174,7 @@ pub read_ahead_value : value_at (play read_only 2 read_ahead) 1 9 ≡ Some 7
 unfolding address index_of region effective least
 read_ahead_value = refl
 
--- what was loaded on the wrong path goes
+-- what was loaded on the wrong path is discarded
 abbrev pub read_and_squashed : List Event
 read_and_squashed = Assign 0 ∷ Assign 1 ∷ Exec 1 ∷ Exec 1 ∷ Exec 1 ∷ Exec 1 ∷ Exec 0 ∷ Exec 0 ∷ Squash 0 ∷ Assign 2 ∷ Transfer 1 8 ∷ Retire ∷ Exec 0 ∷ Exec 0 ∷ []
 
@@ -182,7 +182,7 @@ pub read_and_squashed_shows : Shows read_only 2 read_and_squashed (ok ∷ ok ∷
 unfolding address index_of region effective least
 read_and_squashed_shows = record { answers_are = refl; output_is = refl; c_is = refl; h_is = refl; outcome_is = refl }
 
--- Task A multiplies 2 ^ 32 - 2 by itself, task B puts out HI and LO
+-- Task A multiplies 2 ^ 32 - 2 by itself, task B outputs HI and LO
 abbrev pub product : Listing
 product = record {
   code = forwards (Imm Addiu 8 0 (negsuc 1)) ∷ forwards_and_stops (Mult Multu 8 8) ∷ bare (MoveFrom Mfhi 9) ∷ bare (Out 9) ∷ forwards (MoveFrom Mflo 9) ∷ bare (Out 9) ∷ bare Halt ∷ [];
@@ -208,7 +208,7 @@ pub product_ahead_shows : Shows product 2 product_ahead (ok ∷ ok ∷ ok ∷ ok
 unfolding address index_of region effective least
 product_ahead_shows = record { answers_are = refl; output_is = refl; c_is = refl; h_is = refl; outcome_is = refl }
 
--- the event of the head: at first the task at the start, behind four instructions the least register
+-- the event of the head: at first the task at the start, after four instructions the least register
 -- that is not sent
 pub count_begins : head_event count (opening count) ≡ Some (Assign 0)
 unfolding address index_of region effective least

@@ -1,4 +1,4 @@
--- The event that the head is ready for (own): while the run goes on there is always one. Also which
+-- The event that the head is ready for: while the run continues there is always one. Also which
 -- unit of the ring an event belongs to.
 use Rattle.std.specs.Prelude.{ℕ, zero, suc, ◌+◌, ◌-◌, ◌%◌, List, [], ◌∷◌, not, nat_eq, if◌then◌else◌, drop, is_none, position, Option, Some, None}
 use Rattle.std.specs.Option.{option_map}
@@ -48,8 +48,8 @@ growth s _ = 0
 -- Which unit an event belongs to. The units are numbered round a ring; the head is at the number of
 -- retired tasks, modulo their number.
 
--- the position that an event is at, in a queue of so many units: Assign is at the first position
--- behind it, Retire and Fault are at the head
+-- the position that an event is at, in a queue of the given number of units: Assign is at the first position
+-- after it, Retire and Fault are at the head
 abbrev pub position_of : (active : ℕ) → Event → ℕ
 position_of active (Assign t) = active
 position_of active (Exec k) = k

@@ -45,7 +45,7 @@ abbrev pub ReplayIsReplays : Type 0
 ReplayIsReplays =
     (p : Listing) (units : ℕ) (events : List Event) (s : State) → IsWellFormed p → (replay p units events ≡ Some s) ↔ Replays p units events s
 
--- there is a head event exactly while the run goes on, and it is allowed
+-- there is a head event exactly while the run continues, and it is allowed
 abbrev pub NeverStuck : Type 0
 NeverStuck =
     (p : Listing) (units : ℕ) (events : List Event) (s : State) → IsWellFormed p → Sound p → 0 < units → Replays p units events s → s.outcome ≡ Running → (e : Event) × (head_event p s ≡ Some e) × Next p units s e (after p s e)

@@ -1,4 +1,4 @@
--- Where a unit may stand, on a wrong path too (own): at an instruction that its task reaches, or behind
+-- Where a unit may stand, on a wrong path too: at an instruction that its task reaches, or after
 -- an exit.
 use Rattle.std.specs.Prelude.{◌≡◌, ℕ, ◌<◌, length}
 use Rattle.task_descriptor.specs.Listing.{Listing}

@@ -1,4 +1,4 @@
--- Replays: what a list of events leaves, each allowed where it comes (own).
+-- Replays: what a list of events leaves, each allowed where it comes.
 use Rattle.std.specs.Prelude.{◌≡◌, ℕ, List, [], ◌∷◌}
 use Rattle.task_descriptor.specs.Listing.{Listing}
 use Rattle.machine_model.specs.Machine.{State, opening}

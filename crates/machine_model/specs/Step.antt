@@ -39,7 +39,7 @@ started p s t = record {
   log = [];
 }
 
--- behind a stopped tail the task begins where the tail stopped, and the tail lists it; behind a
+-- after a stopped tail the task begins where the tail stopped, and the tail lists it; after a
 -- running tail it is a target; on an empty queue it begins at the next address
 abbrev pub follows_at : Listing → (tail t : ℕ) → Spot → Bool
 follows_at p tail t (Inside index) = is_target (task_at p tail) (task_at p t).entry
@@ -104,7 +104,7 @@ pub record Drains (p : Listing) (s : State) (k r : ℕ) (s' : State) : Type 0 wh
   pub sends : Sends p unit r after
   pub is : s' ≡ record s { queue = slice_set s.queue k after }
 
--- Squash: the next unit begins elsewhere than this one stopped, so all behind this one go
+-- Squash: the next unit begins elsewhere than this one stopped, so all behind this one are removed
 
 pub record Squashes (p : Listing) (s : State) (k : ℕ) (s' : State) : Type 0 where
   pub unit : Active
@@ -116,7 +116,7 @@ pub record Squashes (p : Listing) (s : State) (k : ℕ) (s' : State) : Type 0 wh
   pub is_elsewhere : nat_eq (begins p after.task) exit ≡ false
   pub is : s' ≡ record s { queue = take (suc k) s.queue }
 
--- Retire: the head hands over what it sent, and the next unit becomes the head
+-- Retire: the head passes on what it sent, and the next unit becomes the head
 
 abbrev pub next_begins : Listing → List Active → (at : ℕ) → Bool
 next_begins p [] at = true
@@ -160,7 +160,7 @@ pub record Faults (p : Listing) (s : State) (s' : State) : Type 0 where
   pub is_unlisted : is_listed p head.task exit ≡ false
   pub is : s' ≡ record s { outcome = standing.Unlisted exit }
 
--- Drop: a unit behind the head and all behind it go
+-- Drop: a unit behind the head and all behind it are removed
 
 pub record Drops (s : State) (k : ℕ) (s' : State) : Type 0 where
   pub unit : Active
@@ -178,7 +178,7 @@ Does p units s Retire s' = Retires p s s'
 Does p units s Fault s' = Faults p s s'
 Does p units s (Drop k) s' = Drops s k s'
 
--- event e is allowed in s, where the run goes on, and leaves s'
+-- event e is allowed in s, while the run continues, and leaves s'
 pub record Next (p : Listing) (units : ℕ) (s : State) (e : Event) (s' : State) : Type 0 where
   pub runs : s.outcome ≡ standing.Running
   pub does : Does p units s e s'

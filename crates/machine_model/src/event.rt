@@ -1,4 +1,4 @@
-//! The events of the machine, and what is said of a run.
+//! The events of the machine, and what is reported of a run.
 
 use mips_instructions::number::Reg;
 use mips_plain::outcome::Trap;
@@ -7,7 +7,7 @@ use mips_plain::outcome::Trap;
 /// task is its number among the program's tasks.
 #[derive(Clone, Copy, Debug, PartialEq, Eq)]
 pub enum Event {
-    /// A free unit takes this task, behind the tail.
+    /// A free unit takes this task, after the tail.
     Assign(u32),
     /// The unit at position k executes one instruction.
     Exec(u32),
@@ -15,14 +15,14 @@ pub enum Event {
     Transfer(u32, Reg),
     /// The stopped unit at position k sends this register of its create mask.
     Drain(u32, Reg),
-    /// The unit at position k has stopped, and the next unit begins elsewhere: all behind k go.
+    /// The unit at position k has stopped, and the next unit begins elsewhere: all behind k are removed.
     Squash(u32),
-    /// The head, stopped at a listed exit with its create mask sent, hands its registers and reads over,
-    /// and goes.
+    /// The head, stopped at a listed exit with its create mask sent, passes on its registers and reads,
+    /// and leaves.
     Retire,
     /// The head has stopped at an address that is not listed: the run ends.
     Fault,
-    /// The unit at position k, which is not the head, and all behind it go.
+    /// The unit at position k, which is not the head, and all behind it are removed.
     Drop(u32),
 }
 
@@ -31,7 +31,7 @@ pub enum Event {
 pub struct EventRun {
     /// The event.
     pub event: Event,
-    /// How many times it stands there, one behind the other.
+    /// How many times it occurs in a row.
     pub count: u32,
 }
 
@@ -52,16 +52,16 @@ pub struct Commit {
 pub enum Spot {
     /// Before the instruction at this index.
     Inside(u32),
-    /// Behind an exit of its task, at this address.
+    /// After an exit of its task, at this address.
     Stopped(u32),
 }
 
 /// How a run of the machine stands.
 #[derive(Clone, Copy, Debug, PartialEq, Eq)]
 pub enum Standing {
-    /// It goes on.
+    /// It continues.
     Running,
-    /// The head came to a `halt`.
+    /// The head reached a `halt`.
     Halted,
     /// The head met a trap.
     Trapped(Trap),

@@ -13,7 +13,7 @@ pub fn headline()
 
 /// For a sound program the run is Halted or Trapped only where the plain machine is so after h
 /// instructions. It is Unlisted at an address only where the plain machine, still running, is about to
-/// fetch there, and the head's task does not list it. While the run goes on, so does the plain machine.
+/// fetch there, and the head's task does not list it. While the run continues, so does the plain machine.
 pub fn how_a_run_ends()
     ensures { HowARunEnds }
 {}
@@ -39,7 +39,7 @@ pub fn replay_is_replays()
     ensures { ReplayIsReplays }
 {}
 
-/// With one unit or more, while the run of a sound program goes on there is a head event, and the machine
+/// With one unit or more, while the run of a sound program continues there is a head event, and the machine
 /// step allows it.
 pub fn never_stuck()
     ensures { NeverStuck }

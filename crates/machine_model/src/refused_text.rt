@@ -1,4 +1,4 @@
-//! What is said of an event that is refused.
+//! What is reported of an event that is refused.
 
 use crate::event::Refused;
 use std::error::Error;

@@ -29,7 +29,7 @@ told f = record {
   target_not_entry = f.entry.target_not_entry;
 }
 
--- two conditions agree, of each register
+-- two conditions agree on each register
 pub record Same (c d : Conditions) : Type 0 where
   pub entry_without_mask : c.entry_without_mask ≡ d.entry_without_mask
   pub next_without_mask : c.next_without_mask ≡ d.next_without_mask
@@ -44,13 +44,13 @@ pub record Same (c d : Conditions) : Type 0 where
   pub indirect_goes_on : c.indirect_goes_on ≡ d.indirect_goes_on
   pub target_not_entry : c.target_not_entry ≡ d.target_not_entry
 
--- whether the task's entry is behind, after the next index of its list: None where it is passed over
+-- whether the task's entry is done after the next index of its list: None where it is passed over
 abbrev pub begun_after : (begun : Bool) (index entry : ℕ) → Option Bool
 begun_after true index entry = Some true
 begun_after false index entry =
     if nat_lt index entry then Some false else if nat_eq index entry then Some true else None
 
--- the places that are left, once the entry is behind and before
+-- the places that are left, once the entry is done and before
 abbrev pub left_places : (begun : Bool) (entry : ℕ) → List (ℕ × ℕ) → List (ℕ × Option ℕ)
 left_places true entry es = masked es
 left_places false entry es = places entry es

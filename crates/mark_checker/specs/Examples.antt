@@ -45,7 +45,7 @@ pub missing_list : all_rules count (((0, 0x700) ∷ (1, 0x600) ∷ (2, 0x400) �
 unfolding each
 missing_list = refl
 
--- register 8 is written again behind index 1, so what index 0 forwards is not its last value
+-- register 8 is written again after index 1, so what index 0 forwards is not its last value
 abbrev pub written_again : Listing
 written_again = record {
   code = forwards (Imm Addiu 8 8 (pos 1)) ∷ forwards (Three Addu 9 9 8) ∷ bare (Imm Addiu 8 8 (pos 0)) ∷ bare (Imm Slti 10 8 (pos 4))
@@ -82,7 +82,7 @@ pub five_found :
 unfolding each
 five_found = refl
 
--- register 8 is released and written behind it; the mask there lacks it, too; the task runs behind the last
+-- register 8 is released and written after that; the mask there lacks it, too; the task runs past the last
 -- instruction
 abbrev pub released_too_early : Listing
 released_too_early = record {

@@ -17,7 +17,7 @@ use Rattle.mark_checker.specs.declared.look.Look.{Look}
 abbrev pub some_next : Look → (ℕ → Bool) → Bool
 some_next look test = holds_at look.next.first test || holds_at look.next.second test
 
--- what is looked at tells of the instruction m at i
+-- what is looked at describes the instruction m at i
 pub record Tells (p : Listing) (i : ℕ) (m : Marked) (look : Look) : Type 0 where
   pub next : (test : ℕ → Bool) → some_next look test ≡ list_any (λ j. nat_lt j (length p.code) && test j) (ends_of false m i)
   pub written : (r : ℕ) → has look.written r ≡ dests m.op r
@@ -33,7 +33,7 @@ AreLooks p looks = (i : ℕ) (m : Marked) (look : Look) → slice_get p.code i �
 abbrev pub AreEntries : Listing → List Bool → Type 0
 AreEntries p begins = (length begins ≡ 4097) × ((j : ℕ) → j ≤ 4096 → get_or begins j false ≡ is_entry p j)
 
--- an instruction at which no rule beside those of the entry finds anything
+-- an instruction at which no rule besides those of the entry finds anything
 pub record IsQuiet (look : Look) (es : List (ℕ × ℕ)) (create mask : ℕ) : Type 0 where
   pub stays : look.stays ≡ true
   pub masked : some_next look (λ j. is_none (mask_at es j)) ≡ false

@@ -1,4 +1,4 @@
--- What it means that a place is right, and what an accepted program and its certificate keep.
+-- What it means for a place to be right, and what holds of an accepted program and its certificate.
 use Rattle.std.specs.Prelude.{◌≡◌, ℕ, ◌<◌, length, true, false, List, [], ◌∷◌, slice_get, Option, Some}
 use Rattle.mips_instructions.specs.Words.{has}
 use Rattle.task_descriptor.specs.Listing.{Listing}
@@ -33,7 +33,7 @@ abbrev pub AllRight : Listing → Descriptor → List (ℕ × ℕ) → List (ℕ
 AllRight p d es [] = Unit {0}
 AllRight p d es (place ∷ rest) = IsRight p d es place × AllRight p d es rest
 
--- What an accepted program and its certificate keep: no rule finds anything, each place of each task
+-- What holds of an accepted program and its certificate: no rule finds anything, each place of each task
 -- is right, and so the program's annotations are sound.
 pub record IsAccepted (p : Listing) (cert : List (List (ℕ × ℕ))) : Type 0 where
   pub nothing_found : all_rules p cert ≡ []
@@ -46,7 +46,7 @@ pub record Checked : Type 0 where
   pub program : Listing
   pub cert : List (List (ℕ × ℕ))
 
--- What an accepted program says of one place, the instruction m at i with its mask.
+-- What holds at one place of an accepted program, the instruction m at i with its mask.
 pub record PlaceSays (p : Listing) (d : Descriptor) (es : List (ℕ × ℕ)) (i : ℕ) (m : Marked) (mask : ℕ) : Type 0 where
   -- the mask has each destination of the instruction
   pub destinations : (r : ℕ) → dests m.op r ≡ true → has mask r ≡ true

@@ -34,7 +34,7 @@ abbrev pub stops_always : Stop → Bool
 stops_always stop.Always = true
 stops_always _ = false
 
--- Whether each rule finds something at one place; for the rules 3 to 8 at which registers.
+-- Whether each rule finds something at one place; for rules 3 to 8, at which registers.
 pub record Conditions : Type 0 where
   pub entry_without_mask : Bool
   pub next_without_mask : Bool
@@ -73,7 +73,7 @@ conditions p d es i m mask =
 abbrev pub once : (t i : ℕ) → Rule → Bool → List Finding
 once t i rule holds = if holds then record { task = t; index = i; rule = rule; reg = None } ∷ [] else []
 
--- one finding for each register, 0 to 33, of which the condition holds
+-- one finding for each register, 0 to 33, for which the condition holds
 unfoldable pub each : (t i : ℕ) → Rule → (ℕ → Bool) → List Finding
 each t i rule holds =
     map (λ r. record { task = t; index = i; rule = rule; reg = Some r }) (filter holds (range_with_len 0 34))
@@ -98,8 +98,8 @@ found t i c =
 abbrev pub masked : List (ℕ × ℕ) → List (ℕ × Option ℕ)
 masked es = map (λ e. (e.0, Some e.1)) es
 
--- The places of a task that are looked at: the entries of its list, and before the first entry beyond
--- it the task's entry, if that has no mask. They rise, since a certificate's lists rise.
+-- The places of a task that are looked at: the entries of its list and, if the task's entry has no mask,
+-- that entry, before the first one beyond it. They rise, since a certificate's lists rise.
 abbrev pub places : (entry : ℕ) → List (ℕ × ℕ) → List (ℕ × Option ℕ)
 places entry [] = (entry, None) ∷ []
 places entry (e ∷ es) =

@@ -20,7 +20,7 @@ use task_descriptor::program::Program;
 
 /// Whether the rules find nothing. Then the program's annotations are sound, whoever made the
 /// certificate. Takes no memory.
-// Not inlined: only a call takes the room that the survey needs, some 170 kilobytes of the stack.
+// Not inlined, so that only a call takes the stack that the survey needs, some 170 kilobytes.
 #[inline(never)]
 pub fn accepts(program: &Program, cert: &Cert) -> bool
     ensures exact { (result ≡ true) ↔ (all_rules program.now cert.now ≡ []) }
@@ -46,8 +46,8 @@ fn accepts_surveyed(survey: &Survey<'_>, cert: &Cert) -> bool
     true
 }
 
-/// Whether the rules find nothing in one task of a surveyed program; so too for a task number that is not
-/// there. Takes no memory.
+/// Whether the rules find nothing in one task of a surveyed program; true also for a task number that does
+/// not exist. Takes no memory.
 pub fn accepts_task(survey: &Survey<'_>, cert: &Cert, task: u32) -> bool
     ensures { (result ≡ true) ↔ (rules survey.now cert.now task ≡ []) }
 {
@@ -146,7 +146,7 @@ impl Accepted {
     ghost use Rattle.mark_checker.specs.Rules.{all_rules};
     ghost use Rattle.mark_checker.specs.Places.{Checked, IsAccepted};
 
-    /// The two as accepted, exactly where the rules find nothing; else both are handed back. Takes no
+    /// Accepts the two exactly where the rules find nothing; otherwise both are handed back. Takes no
     /// memory.
     ///
     /// # Errors

@@ -23,7 +23,7 @@ pub(crate) fn append_faults(
     append_last(task, index, faults, list)
 }
 
-/// Appends what the rules 1 to 6 find.
+/// Appends what rules 1 to 6 find.
 fn append_first(
     task: u32,
     index: u32,
@@ -71,7 +71,7 @@ fn append_first(
     )
 }
 
-/// Appends what the rules 7 to 12 find.
+/// Appends what rules 7 to 12 find.
 fn append_last(
     task: u32,
     index: u32,

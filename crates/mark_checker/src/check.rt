@@ -17,8 +17,8 @@ use std::alloc::{AllocError, Global};
 use task_descriptor::descriptor::Descriptor;
 use task_descriptor::program::Program;
 
-/// The findings of one task, in order of index, rule and register; none for a task number that is not
-/// there.
+/// The findings of one task, in order of index, rule and register; none for a task number that does not
+/// exist.
 ///
 /// # Errors
 ///
@@ -36,7 +36,7 @@ pub fn check_task(
 }
 
 /// The findings of one task of a surveyed program, in order of index, rule and register; none for a task
-/// number that is not there. The survey serves for all tasks, so a check of one costs what its list is long.
+/// number that does not exist. One survey serves all tasks, so checking a task costs only its list's length.
 ///
 /// # Errors
 ///
@@ -133,8 +133,8 @@ fn append_places(
     )
 }
 
-/// Appends the findings of the next entry of the task's list, and before them those of the task's entry
-/// where it is passed over. Answers whether the task's entry is behind.
+/// Appends the findings of the next entry of the task's list, preceded by those of the task's entry
+/// where it is passed over. Returns whether the task's entry is done.
 fn append_next(
     survey: &Survey<'_>,
     masks: &Masks<'_>,

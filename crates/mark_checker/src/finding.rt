@@ -1,4 +1,4 @@
-//! Findings: what the rules say against a program and its certificate.
+//! Findings: what the rules report against a program and its certificate.
 
 use mips_instructions::number::Reg;
 use std::marker::Model;
@@ -23,7 +23,7 @@ pub enum Rule {
     ReleasedInNext,
     /// 8: a forwarded or released register is not in the create mask.
     SentNotCreated,
-    /// 9: a direct exit is no listed target.
+    /// 9: a direct exit is not a listed target.
     ExitNotListed,
     /// 10: an inner edge leads to no instruction.
     FallsOff,
@@ -67,7 +67,7 @@ pub struct Finding {
     pub index: u32,
     /// The rule.
     pub rule: Rule,
-    /// The register, for the rules 3 to 8.
+    /// The register, for rules 3 to 8.
     pub reg: Option<Reg>,
 }
 
@@ -103,7 +103,7 @@ impl Findings {
         &self.items
     }
 
-    /// The list again.
+    /// The list of the findings.
     pub fn into_vec(self) -> Vec<Finding>
         ensures { result.items ≡ self }
     {
@@ -112,7 +112,7 @@ impl Findings {
     }
 }
 
-/// What the rules say of a whole program and its certificate.
+/// What the rules report for a whole program and its certificate.
 #[derive(Debug, Drop)]
 pub struct Verdict {
     /// The findings; none where the program is accepted.

@@ -7,7 +7,7 @@ ghost use Rattle.task_descriptor.specs.declared.descriptor.Descriptor.{Descripto
 ghost use Rattle.mask_certificate.specs.Lists.{mask_at, list_of};
 ghost use Rattle.mark_checker.specs.Places.{IsAccepted, PlaceSays};
 
-/// What an accepted program says of one place: the mask there has every destination and every register
+/// What holds at one place of an accepted program: the mask there has every destination and every register
 /// of its inner successors' masks, and lies in the create mask where the place is reached from the entry.
 pub fn accepted_place()
     ensures { (p : Listing) (cert : List (List (ℕ × ℕ))) → IsWellFormed p → IsAccepted p cert → (t i mask : ℕ) (d : Descriptor) (m : Marked)

@@ -1,5 +1,5 @@
-//! What the rules look at in an instruction. It is the same for every task, so it is found out once for
-//! a program; what is left for each entry of a list is to compare a few sets.
+//! What the rules look at in an instruction. It does not depend on the task, so it is found out once per
+//! program; what is left for each entry of a list is to compare a few sets.
 
 use crate::place::{forwarded_by, goes_on_indirectly, released_by};
 use mips_instructions::number::RegSet;
@@ -25,7 +25,7 @@ pub(crate) struct Look {
     pub(crate) written: RegSet,
     /// The registers that it sends: forwards or releases.
     pub(crate) sent: RegSet,
-    /// It has no exit with an index, it doesn't fall off the code, and it doesn't go on indirectly.
+    /// It has no exit with an index, it doesn't fall off the code, and it doesn't continue indirectly.
     pub(crate) stays: bool,
 }
 

@@ -1,4 +1,4 @@
-//! What the rules say of one place: an instruction of a task with its mask.
+//! What the rules find at one place: an instruction of a task with its mask.
 
 use crate::survey::Survey;
 use mask_certificate::masks::Masks;
@@ -15,7 +15,7 @@ pub(crate) struct Faults {
     pub(crate) inside: InsideFaults,
 }
 
-/// What the rules 1, 5 and 12 find: nothing but at the task's entry.
+/// What rules 1, 5 and 12 find: nothing except at the task's entry.
 #[derive(Clone, Copy)]
 pub(crate) struct EntryFaults {
     pub(crate) without_mask: bool,
@@ -23,7 +23,7 @@ pub(crate) struct EntryFaults {
     pub(crate) target_not_entry: bool,
 }
 
-/// What the other rules find: nothing but where there is a mask.
+/// What the other rules find: nothing except where there is a mask.
 #[derive(Clone, Copy)]
 pub(crate) struct InsideFaults {
     pub(crate) next_without_mask: bool,
@@ -37,7 +37,7 @@ pub(crate) struct InsideFaults {
     pub(crate) indirect_goes_on: bool,
 }
 
-/// What the inner successors of an instruction say.
+/// What is found at the inner successors of an instruction.
 #[derive(Clone, Copy)]
 pub(crate) struct Ahead {
     /// One of them has no mask.
@@ -57,7 +57,7 @@ ghost use Rattle.mark_checker.specs.Rules.{conditions, in_mask, next_has, stops_
 ghost use Rattle.mark_checker.specs.Places.{IsClean};
 ghost use Rattle.mark_checker.specs.CheckerSteps.{holds_at, told, Same};
 
-/// What the rules say of an instruction at its index, with its mask or none.
+/// What the rules find at an instruction at its index, with its mask or none.
 #[inline]
 pub(crate) fn faults_at(
     survey: &Survey<'_>,
@@ -78,7 +78,7 @@ pub(crate) fn faults_at(
     Faults { entry, inside }
 }
 
-/// What the rules of the entry say of a place.
+/// What the rules of the entry find at a place.
 #[inline]
 fn entry_faults(
     survey: &Survey<'_>,
@@ -128,7 +128,7 @@ fn maskless_faults() -> InsideFaults
     }
 }
 
-/// What the other rules say of an instruction with this mask.
+/// What the other rules find at an instruction with this mask.
 #[inline]
 fn masked_faults(
     program: &Program,
@@ -178,7 +178,7 @@ fn masked_faults(
     }
 }
 
-/// What the inner successors say.
+/// What is found at the inner successors.
 #[inline]
 fn ahead_of(program: &Program, masks: &Masks<'_>, marked: &Marked, index: u32) -> Ahead
     requires { slice_get program.now.code index ≡ Some marked.now }
@@ -255,7 +255,7 @@ fn has_bad_target(survey: &Survey<'_>, descriptor: &Descriptor) -> bool
         .any(|target| !survey.begins_task(*target))
 }
 
-/// The registers of a mask; none of none.
+/// The registers of a mask; none where there is no mask.
 fn registers_of(mask: Option<RegSet>) -> RegSet
     ensures { (r : ℕ) → has result r ≡ in_mask mask r }
 {
@@ -345,7 +345,7 @@ fn registers(faults: &Faults) -> RegSet
     )
 }
 
-/// Whether the set has no member; it needs to be looked at below 34 alone.
+/// Whether the set has no member; only members below 34 need to be checked.
 pub(crate) fn is_nobody(set: RegSet) -> bool
     ensures all { (result ≡ true) → (r : ℕ) → has set r ≡ false }
     ensures below { ((r : ℕ) → r < 34 → has set r ≡ false) → result ≡ true }
@@ -355,7 +355,7 @@ pub(crate) fn is_nobody(set: RegSet) -> bool
 
 ghost use Rattle.mark_checker.specs.CheckerSteps.{begun_after as begun_after_of};
 
-/// Whether the task's entry is behind after the next index of its list, `begun` saying whether it was
+/// Whether the task's entry is done after the next index of its list, `begun` telling whether it was
 /// before; `None` where it is passed over.
 pub(crate) fn begun_after(begun: bool, index: u32, entry: u32) -> Option<bool>
     ensures { result ≡ begun_after_of begun index entry }

@@ -14,7 +14,7 @@ use mips_instructions::number::RegSet;
 use task_descriptor::descriptor::Descriptor;
 
 /// Whether it is plain from the survey that no rule finds anything at an entry of a task's list. `false`
-/// says nothing.
+/// leaves it open.
 #[inline]
 pub(crate) fn is_quiet(
     survey: &Survey<'_>,
@@ -34,7 +34,7 @@ pub(crate) fn is_quiet(
     }
 }
 
-/// Whether no rule beside those of the entry finds anything at an instruction that is looked at.
+/// Whether no rule besides those of the entry finds anything at an instruction that is looked at.
 #[inline]
 fn is_quiet_inside(look: &Look, masks: &Masks<'_>, create: RegSet, mask: RegSet) -> bool
     ensures { result ≡ true → IsQuiet look.now masks.now create mask }

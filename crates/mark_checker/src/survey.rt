@@ -9,11 +9,11 @@ use task_descriptor::program::Program;
 /// How many instructions a program has at most.
 pub(crate) const MOST_PLACES: usize = 4096;
 
-/// How many indices there are, that after the longest code too.
+/// How many indices there are, including the one after the longest code.
 pub(crate) const MOST_INDICES: usize = 4097;
 
 /// A program with what the rules look at in each of its instructions, and with the indices at which its
-/// tasks begin, so that several tasks can be checked without looking at the program anew. A contract sees
+/// tasks begin, so that several tasks can be checked without looking at the program again. A contract sees
 /// it as the program.
 #[derive(Drop)]
 pub struct Survey<'a> {
@@ -39,7 +39,7 @@ impl<'a> Survey<'a> {
     ghost use Rattle.task_graph.specs.Soundness.{is_entry};
     ghost use Rattle.mark_checker.specs.Looks.{AreEntries, AreLooks};
 
-    /// The survey of a program, over what was found out of it.
+    /// The survey of a program, from what was found out about it.
     pub(crate) fn over(program: &'a Program, looks: &'a [Look], begins: &'a [bool]) -> Survey<'a>
         requires looks { AreLooks program.now looks.now }
         requires entries { AreEntries program.now begins.now }

@@ -25,8 +25,8 @@ pub record TellsOf (list : List (ℕ × ℕ)) (right : Bool) : Type 0 where
   pub rising : right ≡ is_none (fault_in 0 0 0 list)
   pub masks : right ≡ true → All (λ entry. entry.1 < 2 ^ 34) list
 
--- These are the entries of the lines from the offset start on, in front of the first that is none, and
--- behind the last of them stands the offset end; it is told whether they are right.
+-- These are the entries of the lines from the offset start up to the first line that is not an entry; end is
+-- the offset after the last of them, and right tells whether they are right.
 pub record IsBlock (spelling : MaskSpelling) (text : List ℕ) (start : ℕ) (entries : List (ℕ × ℕ)) (end : ℕ) (right : Bool) : Type 0 where
   pub begins : start ≤ length text
   pub ends : end ≤ length text

@@ -28,11 +28,11 @@ index_in digits = if is_index digits then Some (digits_value 10 digits) else Non
 abbrev pub is_mask_digit : ℕ → Bool
 is_mask_digit byte = is_ascii_digit byte || is_in_range 97 102 byte
 
--- the value of a digit of a mask, and for any other byte more than any mask
+-- the value of a digit of a mask; for any other byte, a value above every mask
 abbrev pub mask_digit : ℕ → ℕ
 mask_digit byte = if is_mask_digit byte then digit_value byte else 2 ^ 34
 
--- a mask: as many digits as the spelling says, and no bit above 33
+-- a mask: as many digits as the spelling prescribes, and no bit above 33
 abbrev pub is_mask : MaskSpelling → List ℕ → Bool
 is_mask spelling digits = length digits == mask_digits spelling && (list_all is_mask_digit digits && nat_lt (digits_value 16 digits) (2 ^ 34))
 
@@ -69,8 +69,8 @@ judged_by None None = no_line
 abbrev pub judged : MaskSpelling → List ℕ → Judged
 judged spelling line = judged_by (entry_in spelling line) (name_in line)
 
--- The lines, of the parts between LFs: the last part is what stands behind the last LF, so it is no
--- line, and it is nothing at all where every line ends with LF.
+-- The lines among the parts between LFs: the last part is what follows the last LF, so it counts as no
+-- line, and as nothing at all where every line ends with LF.
 abbrev pub lines_of : MaskSpelling → List (List ℕ) → List Judged
 lines_of spelling [] = []
 lines_of spelling (last ∷ []) = if length last == 0 then [] else no_line ∷ []
@@ -82,7 +82,7 @@ is_newline byte = byte == 10
 abbrev pub lines_in : MaskSpelling → List ℕ → List Judged
 lines_in spelling text = lines_of spelling (slice_split is_newline text)
 
--- the entries in front of the first line that is none
+-- the entries before the first line that is not an entry
 abbrev pub entries_in : List Judged → List (ℕ × ℕ)
 entries_in [] = []
 entries_in (entry_line entry ∷ lines) = entry ∷ entries_in lines
@@ -100,13 +100,13 @@ opens name (entry_line entry) = false
 opens name (task_line found) = bytes_eq found name
 opens name no_line = false
 
--- what is wrong with line n where another `task` line has to stand, or no line at all
+-- what is wrong with line n where another `task` line, or no line at all, has to stand
 abbrev pub misplaced : ℕ → Judged → CertFault
 misplaced n (entry_line entry) = Line n
 misplaced n (task_line found) = TaskName n
 misplaced n no_line = Line n
 
--- the lines behind the `task` line of this name, where line n, the first of these lines, is that
+-- the lines after the `task` line of this name, where the first of these lines, line n, is that line
 abbrev pub behind_task_line : ℕ → List ℕ → List Judged → Result (List Judged) CertFault
 behind_task_line n name [] = Err MissingTask
 behind_task_line n name (line ∷ lines) = if opens name line then Ok lines else Err (misplaced n line)
@@ -128,7 +128,7 @@ lists_at n (name ∷ names) lines = do
 abbrev pub rising : List (List (ℕ × ℕ)) → Result (List (List (ℕ × ℕ))) CertFault
 rising lists = if is_none (first_fault 0 lists) then Ok lists else Err Shape
 
--- the lists that the text behind the first line spells
+-- the lists that the text after the first line spells
 abbrev pub body_of : MaskSpelling → List ℕ → List (List ℕ) → Result (List (List (ℕ × ℕ))) CertFault
 body_of spelling text names = lists_at 2 names (lines_in spelling text) >>= rising
 
@@ -148,7 +148,7 @@ cert_parse text names = parse_by (spelling_of text) text names
 abbrev pub names_in : List Descriptor → List (List ℕ)
 names_in tasks = map (λ task. task.name) tasks
 
--- those of a program's tasks
+-- the names of a program's tasks
 abbrev pub names_of : Listing → List (List ℕ)
 names_of program = names_in program.tasks
 

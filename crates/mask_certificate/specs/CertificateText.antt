@@ -1,5 +1,5 @@
--- The text of a certificate. The first line is `cert 2` or `cert 1`. Then for each task of
--- the program, in its order, stands `task NAME`, and a line for each entry: the index in decimal, a
+-- The text of a certificate. The first line is `cert 2` or `cert 1`. Then, for each task of the
+-- program in order, comes `task NAME`, and a line for each entry: the index in decimal, a
 -- space, and the mask in lower-case hexadecimal digits, 16 of them in `cert 2` and 8 in `cert 1`.
 -- Every line ends with LF, which is 10; a space is 32.
 use Rattle.std.specs.Prelude.{◌≡◌, ℕ, zero, suc, ◌<◌, ◌/◌, ◌%◌, ◌^◌, List, [], ◌∷◌, ◌++◌, length}

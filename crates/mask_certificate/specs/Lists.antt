@@ -18,8 +18,8 @@ abbrev pub mask_at : List (ℕ × ℕ) → ℕ → Option ℕ
 mask_at [] index = None
 mask_at (entry ∷ entries) index = if entry.0 == index then Some entry.1 else mask_at entries index
 
--- What is wrong at the first position of a list where something is: the index there is below the least
--- that it may be, which is one more than the index before it, or it is no index of an instruction.
+-- What is wrong at the first faulty position of a list: the index there is below the least that it may be,
+-- which is one more than the index before it, or it is not an index of an instruction.
 -- `position` is that of the first of these entries.
 abbrev pub fault_in : ℕ → ℕ → ℕ → List (ℕ × ℕ) → Option ListFault
 fault_in task position least [] = None
@@ -28,7 +28,7 @@ fault_in task position least (entry ∷ entries) =
     else (if nat_le 4096 entry.0 then Some (OutOfCode task position)
     else fault_in task (position + 1) (entry.0 + 1) entries)
 
--- what is wrong in the first list where something is; `task` is the task of the first of these lists
+-- what is wrong in the first faulty list; `task` is the task of the first of these lists
 abbrev pub first_fault : ℕ → List (List (ℕ × ℕ)) → Option ListFault
 first_fault task [] = None
 first_fault task (list ∷ lists) = option_or (fault_in task 0 0 list) (first_fault (task + 1) lists)

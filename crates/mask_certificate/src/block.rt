@@ -7,9 +7,9 @@ use mips_instructions::number::RegSet;
 use std::alloc::{AllocError, Global};
 use std::marker::Model;
 
-/// The entries of the lines from an offset of a text on, in front of the first line that is none: what
-/// reading needs of one task's list, and what it can find out before it knows whose list it is: whether
-/// the list rises, too, so that who takes the block over need not look at each entry again. A contract
+/// The entries of the lines from an offset of a text up to the first line that is not an entry: what
+/// reading needs of one task's list, and what it can find out before it knows whose list it is. This includes
+/// whether the list rises, so that whoever takes over the block need not look at each entry again. A contract
 /// sees a block as its spelling, text and offset; they determine the rest.
 #[derive(Drop)]
 pub struct Block<'a> {
@@ -36,7 +36,7 @@ impl<'a> Block<'a> {
     ghost use Rattle.mask_certificate.specs.CertificateReading.{lines_in, entries_in};
     ghost use Rattle.mask_certificate.specs.Blocks.{IsEnd, TellsOf};
 
-    /// Reads the block from an offset of a text on.
+    /// Reads the block that begins at an offset of a text.
     ///
     /// # Errors
     ///
@@ -76,7 +76,7 @@ impl<'a> Block<'a> {
         self.start
     }
 
-    /// The offset behind its last entry: where the first line begins that is none, or the text's end.
+    /// The offset after its last entry: where the first line that is not an entry begins, or the text's end.
     pub fn end(&self) -> usize
         ensures within { result ≤ length self.now.text }
         ensures lines { lines_in self.now.spelling (drop result self.now.text)
@@ -85,7 +85,7 @@ impl<'a> Block<'a> {
         self.end
     }
 
-    /// The entries, whether they are right as a list of a certificate, and the text behind them.
+    /// The entries, whether they are right as a list of a certificate, and the text after them.
     pub(crate) fn into_parts(self) -> (Vec<(u32, RegSet)>, bool, &'a [u8])
         ensures entries { result.0.items ≡ entries_in (lines_in self.entry.spelling (drop self.entry.start self.entry.text)) }
         ensures told { TellsOf result.0.items result.1 }

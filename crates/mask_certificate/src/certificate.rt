@@ -4,7 +4,7 @@ use mips_instructions::number::RegSet;
 use std::marker::Model;
 use thiserror::Error;
 
-/// How many indices of instructions there are: those of an entry lie below.
+/// The number of instruction indices: the index of an entry lies below it.
 pub const CODE_INDICES: u32 = 4096;
 
 /// What keeps lists from being a certificate: the first position where something is wrong.
@@ -43,9 +43,9 @@ impl Cert {
     ghost use Rattle.std.specs.Prelude.{◌≡◌, ◌<◌, ◌^◌, ◌↔◌, None, Some, true, false, is_none, IfSome, IfNone, vec_len, MatchResult};
     ghost use Rattle.mask_certificate.specs.Lists.{entries_of, first_fault, list_of, mask_at, Rises, IsCertificate};
 
-    /// The certificate of these lists, the list at position t being that of task t. Lists that are none
-    /// come back with what is wrong at the first position where something is: `NotRising` before
-    /// `OutOfCode` where both are. Empty lists rise. There are fewer than 2^32 lists, since tasks are
+    /// The certificate of these lists, the list at position t being that of task t. Lists that do not form one
+    /// come back with what is wrong at the first faulty position: `NotRising` before
+    /// `OutOfCode` where both apply. Empty lists rise. There are fewer than 2^32 lists, since tasks are
     /// counted by a `u32`.
     pub fn build(
         lists: Vec<Vec<(u32, RegSet)>>,
@@ -61,7 +61,7 @@ impl Cert {
         }
     }
 
-    /// The certificate of lists that are known to be right, so that none is looked at. There are fewer
+    /// The certificate of lists that are known to be right, so none is examined. There are fewer
     /// than 2^32 lists.
     pub(crate) fn of_right(lists: Vec<Vec<(u32, RegSet)>>) -> Cert
         requires few { vec_len lists < 2 ^ 32 }

@@ -19,7 +19,7 @@ pub enum CertFault {
     OutOfMemory,
 }
 
-/// How a certificate text spells its masks. The first line says which.
+/// How a certificate text spells its masks. The first line states which.
 #[derive(Clone, Copy, Debug, PartialEq, Eq)]
 pub enum MaskSpelling {
     /// `cert 1`: 8 digits, for registers 0 to 31.

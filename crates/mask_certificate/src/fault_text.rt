@@ -1,4 +1,4 @@
-//! What is said of a certificate text that is refused.
+//! What is reported for a certificate text that is refused.
 
 use crate::fault::CertFault;
 use std::error::Error;

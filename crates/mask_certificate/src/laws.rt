@@ -21,7 +21,7 @@ pub fn written_is_read()
     ensures { (cert : List (List (ℕ × ℕ))) (names : List (List ℕ)) → IsCertificate cert → AreNames names → length cert ≡ length names → cert_parse (cert_text cert names) names ≡ Ok cert }
 {}
 
-/// The lines of a text that is cut behind an LF are those of the front and then those of the rest. So a
+/// The lines of a text that is cut after an LF are those of the front and then those of the rest. So a
 /// text that lies in pieces is read one piece after another.
 pub fn lines_are_joined()
     ensures { (spelling : MaskSpelling) (front rest : List ℕ) → IsLines front

@@ -1,4 +1,4 @@
-//! How far a text that lies in parts is read.
+//! How far a text in parts has been read.
 
 use crate::block::Block;
 use crate::fault::MaskSpelling;
@@ -9,7 +9,7 @@ use std::alloc::{AllocError, Global};
 use std::marker::Model;
 use std::vec::IntoIter;
 
-/// What is still to be read of a text in parts, cut behind LFs: the rest of one part, and the parts behind
+/// What is still to be read of a text in parts, cut after LFs: the rest of one part, and the parts after
 /// it. At the end of a part the next one begins.
 #[derive(Drop)]
 pub(crate) struct Left<'a> {
@@ -54,7 +54,7 @@ impl<'a> Left<'a> {
         self.rest
     }
 
-    /// This text, read on so far that `rest` is what is left of the part.
+    /// This text, read further, so that `rest` is what is left of the part.
     pub(crate) fn with_rest(self, rest: &'a [u8]) -> Left<'a>
         requires { IsEnd self.rest rest.now }
         ensures { left_of result ≡ rest.now ++ joined self.entry.behind }
@@ -68,9 +68,9 @@ impl<'a> Left<'a> {
         from(text, rest, blocks, behind)
     }
 
-    /// The list at the front of what is left of the part, whether it is right, whether it reaches to the
-    /// end of the part, and what is left of the text behind it: from a block, if one begins there, and
-    /// else read.
+    /// The list at the front of what is left of the part, whether it is right, whether it reaches the
+    /// end of the part, and what is left of the text after it: taken from a block if one begins there, and
+    /// otherwise read.
     ///
     /// # Errors
     ///

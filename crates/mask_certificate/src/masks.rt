@@ -8,8 +8,8 @@ use std::marker::Model;
 #[derive(Drop)]
 pub struct Masks<'a> {
     entries: &'a [(u32, RegSet)],
-    // At the index of an entry its position. At any other index stands any number: a position is
-    // believed only where the entry there has the index.
+    // At the index of an entry, its position. Any other index holds an arbitrary number: a position is
+    // trusted only where the entry there has the index.
     positions: [u16; 4096],
 }
 

@@ -5,7 +5,7 @@ use std::alloc::Global;
 use std::marker::Model;
 
 /// A part of a certificate's text, and blocks of it that were read before, the block that stands first
-/// last. A contract sees it as its bytes: nothing rests on the blocks but speed.
+/// coming last. A contract sees it as its bytes: only speed depends on the blocks.
 #[derive(Drop)]
 pub struct CertificatePart<'a> {
     text: &'a [u8],

@@ -30,8 +30,8 @@ const FIRST_LINE: usize = 7;
 /// How many digits an index has at most.
 const MOST_INDEX_DIGITS: usize = 5;
 
-/// The index in front of the first space, and that space's offset; `None` where there is no space, or no
-/// index in front of it.
+/// The index before the first space, and that space's offset; `None` where there is no space, or no
+/// index before it.
 fn index_in_front(text: &[u8]) -> Option<(u32, usize)>
     ensures found { IfSome result (λ found. (position is_space text.now ≡ Some found.1) × (index_in (take found.1 text.now) ≡ Some found.0)) }
     ensures none { IfNone result ((space : ℕ) → position is_space text.now ≡ Some space → index_in (take space text.now) ≡ None) }
@@ -52,12 +52,12 @@ fn index_in_front(text: &[u8]) -> Option<(u32, usize)>
     None
 }
 
-/// What a byte that is no digit counts as a digit of a mask: more than any mask, so that eight digits
-/// with one such among them count more than any mask, whatever the others are.
+/// The value of a byte that is not a digit, taken as a digit of a mask: more than any mask, so that eight
+/// digits with such a byte among them are worth more than any mask, whatever the others are.
 const NO_DIGIT: u64 = 1 << 34;
 
-/// What each byte counts as a digit of a mask. A table, since the digits of a mask are hard to foretell
-/// for a branch.
+/// The value of each byte as a digit of a mask. A table, since a branch on the digits of a mask is hard to
+/// predict.
 const MASK_DIGITS: [u64; 256] = [
     NO_DIGIT, NO_DIGIT, NO_DIGIT, NO_DIGIT, NO_DIGIT, NO_DIGIT, NO_DIGIT, NO_DIGIT, NO_DIGIT,
     NO_DIGIT, NO_DIGIT, NO_DIGIT, NO_DIGIT, NO_DIGIT, NO_DIGIT, NO_DIGIT, NO_DIGIT, NO_DIGIT,
@@ -98,8 +98,8 @@ fn mask_digit_of(byte: u8) -> u64
 /// How many digits are read at a time.
 const HALF: usize = 8;
 
-/// The number that eight digits write behind those of `number`; more than any mask where one of them is
-/// none.
+/// The number that eight digits written after those of `number` give; more than any mask where one of them
+/// is not a digit.
 fn eight_more(number: u64, digits: &[u8]) -> u64
     requires small { number < 4 }
     requires eight { 8 ≤ length digits.now }
@@ -119,7 +119,7 @@ fn wide_mask_of(digits: &[u8]) -> Option<RegSet>
     ensures { result ≡ mask_in MaskSpelling.Wide digits.now }
 {
     let high = eight_more(0, digits);
-    // With the eight digits below it is a mask only where it is below 4.
+    // With the eight lower digits, it is a mask only where it is below 4.
     if high >= 4 {
         return None;
     }
@@ -167,7 +167,7 @@ fn next_entry(spelling: MaskSpelling, text: &[u8]) -> Option<((u32, RegSet), &[u
     ensures shorter { IfSome result (λ found. length found.1.now < length text.now) }
     ensures end { IfSome result (λ found. IsEnd text.now found.1.now) }
 {
-    // A mask's digits are as many as the spelling says, so the line's end is not looked for.
+    // The spelling fixes how many digits a mask has, so the line's end is not searched for.
     let (index, space) = index_in_front(text)?;
     let end = space + 1 + spelling.mask_digits();
     if !has_newline(text, end) {
@@ -177,7 +177,7 @@ fn next_entry(spelling: MaskSpelling, text: &[u8]) -> Option<((u32, RegSet), &[u
     Some(((index, mask), &text[end + 1..]))
 }
 
-/// The entries of the lines in front of the first that is none, and the text from that line on.
+/// The entries of the lines before the first that is not an entry, and the text from that line on.
 pub(crate) fn list_of(
     alloc: Global,
     spelling: MaskSpelling,
@@ -197,7 +197,7 @@ pub(crate) fn list_of(
     Ok((list, rest))
 }
 
-/// The text behind the `task` line of this name, which has to be the first line, line `line`.
+/// The text after the `task` line of this name, which has to be the first line, line `line`.
 fn behind<'a>(text: &'a [u8], line: usize, name: &Name) -> Result<&'a [u8], CertFault>
     ensures lines { (spelling : MaskSpelling) → MatchResult result
         (λ rest. behind_task_line line name.now (lines_in spelling text.now) ≡ Ok (lines_in spelling rest.now))
@@ -237,7 +237,7 @@ fn check_end(text: &[u8], line: usize) -> Result<(), CertFault>
     }
 }
 
-/// The last of these blocks, taken from them, unless it begins behind this offset: then it waits for its
+/// The last of these blocks, taken from them, unless it begins after this offset: then it waits for its
 /// turn.
 fn next_block<'a>(blocks: &mut Vec<Block<'a>>, offset: usize) -> Option<Block<'a>>
     ensures { (text : List ℕ) → AreOf text blocks.old.items
@@ -249,8 +249,8 @@ fn next_block<'a>(blocks: &mut Vec<Block<'a>>, offset: usize) -> Option<Block<'a
     }
 }
 
-/// The list at the front of what is left of a text, whether it is right, and the text behind it: from the
-/// last of these blocks, if it begins there, and else read.
+/// The list at the front of what is left of a text, whether it is right, and the text after it: from the
+/// last of these blocks if it begins there, and otherwise read.
 pub(crate) fn list_at<'a>(
     alloc: Global,
     spelling: MaskSpelling,
@@ -279,7 +279,7 @@ pub(crate) fn list_at<'a>(
     }
 }
 
-/// What is left of a text behind the `task` line of this name, which has to be its first line, line `line`.
+/// What is left of a text after the `task` line of this name, which has to be its first line, line `line`.
 fn behind_task<'a>(left: Left<'a>, line: usize, name: &Name) -> Result<Left<'a>, CertFault>
     ensures { (spelling : MaskSpelling) → MatchResult result
         (λ rest. behind_task_line line name.now (lines_in spelling (left_of left.entry)) ≡ Ok (lines_in spelling (left_of rest)))
@@ -300,8 +300,8 @@ fn check_left(left: &Left<'_>, line: usize) -> Result<(), CertFault>
     check_end(left.rest(), line)
 }
 
-/// The list at the front of what is left of a text, whether it is right, and what is left behind it. A
-/// list that reaches to the end of its part goes on in the next.
+/// The list at the front of what is left of a text, whether it is right, and what is left after it. A
+/// list that reaches the end of its part continues in the next.
 fn whole_list<'a>(
     alloc: Global,
     spelling: MaskSpelling,
@@ -322,10 +322,10 @@ fn whole_list<'a>(
     Ok((list, right, left))
 }
 
-/// The number of the line behind the `task` line at `line` and its list. The entries of a list that is not
-/// right go to the others of that kind: no certificate comes of them, but the lines behind are still read,
-/// for their faults, and in one list they are fewer than 2^63. A right list has at most 4,096 entries and
-/// stays. So a number of a line is a `usize`, however often the same memory stands in a text's parts.
+/// The number of the line after the `task` line at `line` and its list. The entries of a list that is not
+/// right join the others of that kind: no certificate comes of them, but the lines after them are still read,
+/// for their faults, and in one list they number fewer than 2^63. A right list has at most 4,096 entries and
+/// stays. So a line number is a `usize`, however often the same memory occurs in a text's parts.
 fn line_behind(
     line: usize,
     list: &mut Vec<(u32, RegSet)>,
@@ -403,7 +403,7 @@ fn spelling_of_left(left: &Left<'_>) -> Option<MaskSpelling>
     spelling_in(left.rest())
 }
 
-/// What is left behind the first line.
+/// What is left after the first line.
 fn behind_first_line(left: Left<'_>) -> Left<'_>
     requires { 7 ≤ length left.rest }
     ensures { left_of result ≡ drop 7 (left_of left.entry) }
@@ -444,9 +444,9 @@ pub fn read(alloc: Global, text: &[u8], program: &Program) -> Result<Cert, CertF
     read_parts(alloc, parts, program)
 }
 
-/// What `read` answers of a text that lies in parts, cut behind LFs. Of each part there may be blocks
-/// that were read before: one that stands where its task's turn comes is taken over and not read again.
-/// Nothing rests on the blocks but speed: where one is missing or stands elsewhere, that list is read
+/// What `read` returns for a text in parts, cut after LFs. A part may come with blocks that were
+/// read before: one that stands where its task's turn comes is taken over and not read again.
+/// Only speed depends on the blocks: where one is missing or stands elsewhere, that list is read
 /// here.
 pub fn read_parts(
     alloc: Global,

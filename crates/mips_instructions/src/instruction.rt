@@ -1,5 +1,5 @@
 //! The instructions (MIPS manual, the integer instructions; `out`, `release` and `halt` are this
-//! project's own): how each is written, what it reads and writes, and where it goes on. Nothing here needs
+//! project's own): how each is written, what it reads and writes, and where it continues. Nothing here needs
 //! memory. Each `Kind` names the mnemonics of one row.
 
 ghost use Rattle.std.specs.Prelude.{◌≡◌, ℕ, ◌||◌, if◌then◌else◌, [], ◌∷◌, map};
@@ -505,8 +505,8 @@ fn named_in(mnemonics: &[Mnemonic], word: &[u8]) -> Option<Mnemonic>
     None
 }
 
-/// One instruction, without marks. The fields stand in the order of the text, but the base of a load or
-/// a store before the offset.
+/// One instruction, without marks. The fields stand in the order of the text, except that the base of a
+/// load or a store comes before the offset.
 #[derive(Clone, Copy, Debug, PartialEq, Eq)]
 pub enum Op {
     /// `addu rd,rs,rt`: rd, rs, rt.
@@ -598,7 +598,7 @@ impl OperandList {
     }
 }
 
-/// A set with a register beside its members, if there is one.
+/// A set with a register added, if there is one.
 fn insert_some(set: RegSet, register: Option<Reg>) -> RegSet
     ensures { (r : ℕ) → has result r ≡ (has set r || is_source register r) }
 {
@@ -783,7 +783,7 @@ impl Op {
     }
 
     /// The word that an instruction which touches registers alone, at the address pc with the operands
-    /// a and b, writes to register r; `None` where r is no destination of it, and for a load, a store,
+    /// a and b, writes to register r; `None` where r is not one of its destinations, and for a load, a store,
     /// `out` and `halt`.
     pub fn alu(&self, a: u32, b: u32, pc: u32, r: Reg) -> Option<u32>
         ensures { result ≡ alu self.now a b pc r }
@@ -835,7 +835,7 @@ impl Op {
         }
     }
 
-    /// Whether a conditional branch with these operands is taken; false for all else.
+    /// Whether a conditional branch with these operands is taken; false for everything else.
     #[inline]
     pub fn taken(&self, a: u32, b: u32) -> bool
         ensures { result ≡ taken self.now a b }

@@ -5,10 +5,10 @@ use std::marker::Model;
 /// How many registers there are: the 32 general registers, HI and LO.
 pub const REGISTERS: usize = 34;
 
-/// The most instructions that a program has.
+/// The most instructions that a program can have.
 pub const MOST_INSTRUCTIONS: usize = 4096;
 
-/// A register, 0..=33: 0 to 31 are the general registers, 32 is HI, 33 is LO (own numbering).
+/// A register, 0..=33: 0 to 31 are the general registers, 32 is HI, 33 is LO.
 #[derive(Clone, Copy, Debug, PartialEq, Eq, PartialOrd, Ord, Hash)]
 pub struct Reg {
     number: u8,
@@ -32,10 +32,10 @@ impl Reg {
     /// Register 31, where `jal` puts its link (MIPS manual).
     pub const LINK: Reg = Reg { number: 31 };
 
-    /// HI, for the high half of a product (MIPS manual; own number).
+    /// HI, for the high half of a product (MIPS manual).
     pub const HI: Reg = Reg { number: 32 };
 
-    /// LO, for the low half of a product (MIPS manual; own number).
+    /// LO, for the low half of a product (MIPS manual).
     pub const LO: Reg = Reg { number: 33 };
 
     /// The register of this number; `None` above 33.
@@ -224,7 +224,7 @@ impl RegSet {
     ghost use Rattle.std.specs.Prelude.{◌≡◌, ℕ, ◌<◌, ◌↔◌, ◌^◌, true, false, not, ◌&&◌, ◌||◌, ◌==◌, IsTrue, IsSome, IfSome};
     ghost use Rattle.mips_instructions.specs.Words.{has};
 
-    /// The set without a member.
+    /// The empty set.
     #[inline]
     pub fn empty() -> RegSet
         ensures bits { result ≡ 0 }
@@ -233,7 +233,7 @@ impl RegSet {
         RegSet { bits: 0 }
     }
 
-    /// The set with this register beside its members.
+    /// The set with this register added.
     #[inline]
     pub fn insert(self, register: Reg) -> RegSet
         ensures members { (r : ℕ) → has result r ≡ (has self r || register == r) }
@@ -271,7 +271,7 @@ impl RegSet {
         }
     }
 
-    /// Whether each member is one of the other set.
+    /// Whether each member is in the other set.
     #[inline]
     pub fn is_subset(self, other: RegSet) -> bool
         ensures members { IsTrue result ↔ ((r : ℕ) → has self r ≡ true → has other r ≡ true) }
@@ -279,7 +279,7 @@ impl RegSet {
         self.bits & other.bits == self.bits
     }
 
-    /// Whether there is no member.
+    /// Whether the set is empty.
     #[inline]
     pub fn is_empty(self) -> bool
         ensures members { IsTrue result ↔ ((r : ℕ) → has self r ≡ false) }
@@ -297,7 +297,7 @@ impl RegSet {
         self.bits
     }
 
-    /// The set of these bits; `None` with a bit above 33.
+    /// The set of these bits; `None` if a bit above 33 is set.
     pub fn from_bits(bits: u64) -> Option<RegSet>
         ensures some { IsSome result ↔ (bits < 2 ^ 34) }
         ensures value { IfSome result (λ set. set ≡ bits) }

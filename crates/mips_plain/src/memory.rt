@@ -1,5 +1,5 @@
 //! The two regions of memory (the addresses are this project's choice): 65,536 bytes of read-only data from
-//! 0x10000000, and right behind it 65,536 bytes of data memory; little-endian.
+//! 0x10000000, and right after it 65,536 bytes of data memory; little-endian.
 
 ghost use Rattle.std.specs.Prelude.{ℕ, ◌≡◌, ◌+◌, ◌-◌, ◌<◌, ◌≤◌, ◌⊎◌, ◌↔◌, ◌++◌, length, take, drop, replicate, vec_len, Ok, Err, Some, IfOk, IfErr, IfSome, OnErr, IsTrue};
 ghost use Rattle.mips_plain.specs.MemoryMap.{byte_of, region, effective, number_at, put};
@@ -21,7 +21,7 @@ pub const REGION_BYTES: usize = 65_536;
 /// Where read-only data begins.
 pub const FIXED_START: u32 = 0x1000_0000;
 
-/// Where data memory begins: right behind read-only data.
+/// Where data memory begins: right after read-only data.
 pub const DATA_START: u32 = 0x1001_0000;
 
 /// Why a memory isn't made.
@@ -30,12 +30,12 @@ pub enum MemoryFault {
     /// 1: more than 65,536 bytes for data memory or for read-only data.
     #[error("1 TooMuch")]
     TooMuch,
-    /// 2: want of memory.
+    /// 2: out of memory.
     #[error("2 OutOfMemory")]
     OutOfMemory,
 }
 
-/// Where an access falls: in read-only data or in data memory, at an offset from its begin.
+/// Where an access falls: in read-only data or in data memory, at an offset from its beginning.
 #[derive(Clone, Copy, Debug, PartialEq, Eq)]
 pub enum MemoryPlace {
     /// In read-only data.
@@ -62,7 +62,7 @@ impl Model for Memory {
     ghost invariant = { λ m. (vec_len m.bytes ≡ 65536) × (vec_len m.fixed ≡ 65536) };
 }
 
-/// The bytes with zeros behind them, `size` in all.
+/// The bytes followed by zeros, `size` in all.
 fn padded(alloc: Global, start: &[u8], size: usize) -> Result<Vec<u8>, AllocError>
     requires { length start.now ≤ size }
     ensures items { IfOk result (λ v. v.items ≡ start.now ++ replicate (size - length start.now) 0) }
@@ -164,7 +164,7 @@ fn put_low(bytes: &mut Vec<u8>, size: usize, at: usize, word: u32)
 
 impl Memory {
     /// A memory that begins with these bytes in data memory and in read-only data; both are zero
-    /// behind them.
+    /// after them.
     pub fn new(alloc: Global, bytes: &[u8], fixed: &[u8]) -> Result<Memory, MemoryFault>
         ensures too_much { (result ≡ Err MemoryFault.TooMuch) ↔ ((65536 < length bytes.now) ⊎ (65536 < length fixed.now)) }
         ensures bytes { IfOk result (λ memory. byte_of memory.bytes ≡ byte_of bytes.now) }
@@ -228,7 +228,7 @@ impl Memory {
         }
     }
 
-    /// What a load of this kind at this address answers.
+    /// What a load of this kind at this address returns.
     #[inline]
     pub(crate) fn load_kind(&self, kind: LoadKind, at: u32) -> Result<u32, Trap>
         ensures value { IfOk result (λ word. loaded kind (region (load_size kind) at) (byte_of self.now.fixed) (byte_of self.now.bytes) ≡ Some word) }
@@ -270,7 +270,7 @@ impl Memory {
         }
     }
 
-    /// What a load at this address answers, or the first trap that holds: unaligned, then out of range.
+    /// What a load at this address returns, or the first trap that holds: unaligned, then out of range.
     pub fn load(&self, op: &Op, address: u32) -> Result<u32, Trap>
         requires { IsTrue (is_load op.now) }
         ensures value { IfOk result (λ word. load_at op.now address (byte_of self.now.fixed) (byte_of self.now.bytes) ≡ Some word) }
@@ -282,7 +282,7 @@ impl Memory {
         }
     }
 
-    /// Carries out a store at this address, or answers the first trap that holds: unaligned, then out
+    /// Carries out a store at this address, or returns the first trap that holds: unaligned, then out
     /// of range, then a store in read-only data; nothing is changed then.
     pub fn store(&mut self, op: &Op, address: u32, b: u32) -> Result<(), Trap>
         requires { IsTrue (is_store op.now) }
@@ -298,7 +298,7 @@ impl Memory {
     }
 }
 
-/// The byte at an offset of read-only data that begins with these bytes: zero behind them.
+/// The byte at an offset of read-only data that begins with these bytes: zero after them.
 #[inline]
 fn fixed_byte(fixed: &[u8], offset: usize) -> u8
     ensures { result ≡ byte_of fixed.now offset }
@@ -332,7 +332,7 @@ fn fixed_half(fixed: &[u8], at: usize) -> u16
     u16::from_le_bytes([fixed_byte(fixed, at), fixed_byte(fixed, at + 1)])
 }
 
-/// The offset in read-only data of an aligned access that lies whole in it.
+/// The offset in read-only data of an aligned access that lies entirely in it.
 #[inline(always)]
 fn fixed_offset(size: u32, at: u32) -> Option<usize>
     requires { (size ≡ 1) ⊎ ((size ≡ 2) ⊎ (size ≡ 4)) }

@@ -1,9 +1,9 @@
-//! How a run stands, what a trap says, and what an instruction read.
+//! How a run stands, what a trap reports, and what an instruction read.
 
 use std::alloc::{AllocError, AllocFailed};
 use thiserror::Error;
 
-/// Want of memory: a growth of the output was refused.
+/// Out of memory: the output could not grow.
 #[derive(Clone, Copy, Debug, PartialEq, Eq, Error)]
 #[error("out of memory")]
 pub struct OutOfMemory;
@@ -20,7 +20,7 @@ impl<T: Drop> From<AllocFailed<T>> for OutOfMemory {
     }
 }
 
-/// Why an instruction can't be carried out (own numbering; the first that holds is the one).
+/// Why an instruction can't be carried out (the first that holds applies).
 #[derive(Clone, Copy, Debug, PartialEq, Eq)]
 pub enum Trap {
     /// 1: the address is no multiple of the size.
@@ -36,9 +36,9 @@ pub enum Trap {
 /// How the plain machine stands.
 #[derive(Clone, Copy, Debug, PartialEq, Eq)]
 pub enum Outcome {
-    /// It goes on.
+    /// It continues.
     Running,
-    /// It came to a `halt`.
+    /// It reached a `halt`.
     Halted,
     /// It met a trap.
     Trapped(Trap),

@@ -1,4 +1,4 @@
-//! What a trap says.
+//! What a trap reports.
 
 use crate::outcome::Trap;
 use std::error::Error;

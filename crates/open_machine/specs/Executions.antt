@@ -1,4 +1,4 @@
--- What an Exec of the unit at a position leaves of the queue and of what the head's instructions change.
+-- The queue, and what the head's instructions change, after an Exec of the unit at a position.
 use Rattle.std.specs.Prelude.{◌≡◌, ℕ, List, slice_set, Some}
 use Rattle.mips_instructions.specs.Instruction.{reg_a, reg_b}
 use Rattle.mips_plain.specs.Effect.{memory_after, output_after, outcome_after}

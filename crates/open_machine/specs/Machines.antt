@@ -27,11 +27,11 @@ units_of m = m.processor.queue.capacity
 abbrev pub answer_to : OpenView → Event → Result (Unit {0}) Refused
 answer_to m e = answer m.program (units_of m) (state m) m.count e
 
--- the answer of the model, or that memory is wanted where the model says Ok
+-- the model's answer, or that memory is lacking where the model answers Ok
 abbrev pub IsAnswered : OpenView → Event → Result (Unit {0}) Refused → Type 0
 IsAnswered m e result = (result ≡ answer_to m e) ⊎ ((result ≡ Err refused.OutOfMemory) × (answer_to m e ≡ Ok tt))
 
--- a machine after an event: the next state by the machine step, one event more, over the same program
+-- a machine after an event: the next state by the machine step, one more event, over the same program
 pub record Applies (old : OpenView) (e : Event) (new : OpenView) : Type 0 where
   pub next : Next old.program (units_of old) (state old) e (state new)
   pub count : new.count ≡ old.count + 1
@@ -44,7 +44,7 @@ LogsWithin n us = (k : ℕ) (u : Active) → slice_get us k ≡ Some u → lengt
 abbrev pub AreShort : List Active → Type 0
 AreShort us = (k : ℕ) (u : Active) → slice_get us k ≡ Some u → length u.log < 2 ^ 32
 
--- after so many events there were no more Assigns, and no log has more reads
+-- after n events there were at most n Assigns, and no log has more than n reads
 pub record Grew (n : ℕ) (s : State) : Type 0 where
   pub assigns : s.assigns ≤ n
   pub logs : LogsWithin n s.queue
@@ -54,7 +54,7 @@ pub record IsOpen (m : OpenView) : Type 0 where
   pub room : m.count ≤ most_events
   pub grew : Grew m.count (state m)
 
--- a call for an event where the run goes on, behind n events (for private functions alone)
+-- a call for an event while the run continues, after n events (for private functions only)
 pub record Tries (p : Listing) (old : ProcessorView) (n : ℕ) (e : Event) (result : Result (Unit {0}) Refused) (new : ProcessorView) : Type 0 where
   pub answer :
       (result_err result ≡ later_refusal p old.queue.capacity (state_of old) n e)

@@ -1,4 +1,4 @@
-//! What an event that is allowed changes. None of these fails but for want of memory, and then nothing
+//! What an allowed event changes. Each of these functions fails only for lack of memory, and then nothing
 //! is changed.
 
 ghost use Rattle.std.specs.Prelude.{◌≡◌, ℕ, ◌+◌, ◌-◌, ◌^◌, ◌<◌, None, Some, OnOk, OnErr, length, slice_get};
@@ -20,7 +20,7 @@ use std::alloc::Global;
 use task_descriptor::program::Program;
 
 impl Processor {
-    /// A unit begins with a task, behind the tail.
+    /// A unit begins a task behind the tail.
     pub(crate) fn assign(&mut self, alloc: Global, program: &Program, task: u32)
         requires free { length self.old.queue.units < self.old.queue.capacity }
         requires room { self.old.assigns + 1 < 2 ^ 32 }
@@ -43,7 +43,7 @@ impl Processor {
     ///
     /// # Errors
     ///
-    /// `OutOfMemory` where its log or the output finds no room; nothing is changed then.
+    /// `OutOfMemory` where there is no room in its log or the output; nothing is changed then.
     pub(crate) fn exec(&mut self, program: &Program, position: u32) -> Result<(), OutOfMemory>
         requires allowed { refusal program.now self.old.queue.capacity (state_of self.old) (event.Exec position) ≡ None }
         requires runs { self.old.world.outcome ≡ standing.Running }
@@ -61,7 +61,7 @@ impl Processor {
         ensures state { state_of self.new ≡ after program.now (state_of self.old) (event.Transfer position register) }
         ensures capacity { self.new.queue.capacity ≡ self.old.queue.capacity }
     {
-        // Read, so that the contract can speak of the program; the change itself has no need of it.
+        // Read only so that the contract can mention the program; the change itself does not need it.
         let _ = program.start();
         self.queue.arrive(position as usize, register, word);
     }
@@ -73,48 +73,48 @@ impl Processor {
         ensures state { state_of self.new ≡ after program.now (state_of self.old) (event.Drain position register) }
         ensures capacity { self.new.queue.capacity ≡ self.old.queue.capacity }
     {
-        // Read, so that the contract can speak of the program; the change itself has no need of it.
+        // Read only so that the contract can mention the program; the change itself does not need it.
         let _ = program.start();
         self.queue.send(position as usize, register, word);
     }
 
-    /// All units behind a position go.
+    /// Removes all units behind a position.
     pub(crate) fn squash(&mut self, program: &Program, position: u32)
         ensures state { state_of self.new ≡ after program.now (state_of self.old) (event.Squash position) }
         ensures capacity { self.new.queue.capacity ≡ self.old.queue.capacity }
     {
-        // Read, so that the contract can speak of the program; the change itself has no need of it.
+        // Read only so that the contract can mention the program; the change itself does not need it.
         let _ = program.start();
         self.queue.keep(position as usize + 1);
     }
 
-    /// The unit at a position and all behind it go.
+    /// Removes the unit at a position and all behind it.
     pub(crate) fn drop_from(&mut self, program: &Program, position: u32)
         ensures state { state_of self.new ≡ after program.now (state_of self.old) (event.Drop position) }
         ensures capacity { self.new.queue.capacity ≡ self.old.queue.capacity }
     {
-        // Read, so that the contract can speak of the program; the change itself has no need of it.
+        // Read only so that the contract can mention the program; the change itself does not need it.
         let _ = program.start();
         self.queue.keep(position as usize);
     }
 
-    /// The run ends at an address that is not listed, at which the head has stopped.
+    /// The run ends at an unlisted address, at which the head has stopped.
     pub(crate) fn fault(&mut self, program: &Program, exit: u32)
         requires { option_and_then (λ u. exit_of u.place) (slice_get (state_of self.old).queue 0) ≡ Some exit }
         ensures state { state_of self.new ≡ after program.now (state_of self.old) event.Fault }
         ensures capacity { self.new.queue.capacity ≡ self.old.queue.capacity }
     {
-        // Read, so that the contract can speak of the program; the change itself has no need of it.
+        // Read only so that the contract can mention the program; the change itself does not need it.
         let _ = program.start();
         self.world.end(Standing::Unlisted(exit));
     }
 
-    /// The head hands its registers and reads over at an exit, and goes; the next unit takes what has
-    /// not arrived.
+    /// The head retires at an exit: its registers and reads are taken over, and it leaves the queue; the next
+    /// unit takes what has not arrived.
     ///
     /// # Errors
     ///
-    /// `OutOfMemory` where its reads or its commit find no room; nothing is changed then.
+    /// `OutOfMemory` where there is no room for its reads or its commit; nothing is changed then.
     pub(crate) fn retire(&mut self, program: &Program, exit: u32) -> Result<(), OutOfMemory>
         requires exit { option_and_then (λ u. exit_of u.place) (slice_get (state_of self.old).queue 0) ≡ Some exit }
         requires small { (u : Active) → slice_get (state_of self.old).queue 0 ≡ Some u → length u.log < 2 ^ 32 }

@@ -1,5 +1,5 @@
 //! A plain machine that takes any well-formed program, whether the checker accepts its marks or not: a list of
-//! units, changed by one event after another as the machine step says. It is written to be simple, not fast.
+//! units, changed by one event after another as the machine step specifies. It is written to be simple, not fast.
 #![tactic(auto)]
 
 mod allowed;

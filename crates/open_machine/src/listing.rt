@@ -1,4 +1,4 @@
-//! What the machine looks up of its program: where a task begins, what it produces, what it lists.
+//! What the machine looks up in its program: where a task begins, what it produces, what it lists.
 
 ghost use Rattle.std.specs.Prelude.{◌≡◌};
 ghost use Rattle.mips_instructions.specs.Words.{address};

@@ -9,7 +9,7 @@ use std::alloc::Global;
 use std::marker::Model;
 use task_descriptor::program::Program;
 
-/// The most events of a machine: with as many before it, an event is refused.
+/// The most events of a machine: after that many, an event is refused.
 pub const MOST_EVENTS: usize = 1_000_000;
 
 /// A multiscalar machine over a well-formed program, whether its marks are sound or not.
@@ -39,11 +39,11 @@ impl<'a> OpenMachine<'a> {
     ghost use Rattle.machine_model.specs.declared.event.Standing.TheVariants as standing;
     ghost use Rattle.open_machine.specs.Machines.{state, units_of, IsAnswered, Applies};
 
-    /// A machine at the start of the program, with so many units, at most 16, none of them at work.
+    /// A machine at the start of the program, with the given number of units, at most 16, none of them at work.
     ///
     /// # Errors
     ///
-    /// `OutOfMemory` where the queue or the memory found no room.
+    /// `OutOfMemory` where there was no room for the queue or the memory.
     pub fn new(
         alloc: Global,
         program: &'a Program,
@@ -64,7 +64,7 @@ impl<'a> OpenMachine<'a> {
         })
     }
 
-    /// Applies an event, exactly where the machine step allows it and fewer than 1,000,000 were applied.
+    /// Applies an event, exactly where the machine step allows it and fewer than 1,000,000 have been applied.
     ///
     /// # Errors
     ///
@@ -76,7 +76,7 @@ impl<'a> OpenMachine<'a> {
         ensures kept { (self.new.program ≡ self.old.program) × (units_of self.new ≡ units_of self.old) }
     {
         answer_is_next();
-        // A program says that it is well formed, which the law asks for, where its start is read.
+        // Reading a program's start gives that it is well formed, which the law requires.
         let _ = self.program.start();
         if !self.is_running() {
             return Err(Refused::Ended);
@@ -87,7 +87,7 @@ impl<'a> OpenMachine<'a> {
         Ok(())
     }
 
-    /// Whether the run goes on.
+    /// Whether the run continues.
     pub fn is_running(&self) -> bool
         ensures { IsTrue result ↔ ((state self.now).outcome ≡ standing.Running) }
     {
@@ -124,7 +124,7 @@ impl<'a> OpenMachine<'a> {
         self.processor.active()
     }
 
-    /// The unit at a position from the head, 0 being the head; `None` behind the tail.
+    /// The unit at a position from the head, 0 being the head; `None` past the tail.
     pub fn unit(&self, position: u32) -> Option<&OpenUnit>
         ensures { option_map active_of (option_copied result) ≡ slice_get (state self.now).queue position }
     {
@@ -138,14 +138,14 @@ impl<'a> OpenMachine<'a> {
         self.processor.outcome()
     }
 
-    /// What the retired tasks read, the first first.
+    /// What the retired tasks read, oldest first.
     pub fn reads(&self) -> &[Read]
         ensures { result.now ≡ (state self.now).reads }
     {
         self.processor.reads()
     }
 
-    /// One commit for each retired task, the first first.
+    /// One commit for each retired task, oldest first.
     pub fn commits(&self) -> &[Commit]
         ensures { result.now ≡ (state self.now).commits }
     {

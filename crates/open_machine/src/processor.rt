@@ -53,11 +53,11 @@ impl Processor {
     ghost use Rattle.unit_core.specs.Units.{active_of};
     ghost use Rattle.processor_steps.specs.Processors.{state_of};
 
-    /// A processor at the start of a program, with so many units, at most 16, none of them at work.
+    /// A processor at the start of a program, with the given number of units, at most 16, none of them at work.
     ///
     /// # Errors
     ///
-    /// `OutOfMemory` where the queue or the memory found no room.
+    /// `OutOfMemory` where there was no room for the queue or the memory.
     pub(crate) fn new(
         alloc: Global,
         program: &Program,
@@ -99,7 +99,7 @@ impl Processor {
         self.queue.len()
     }
 
-    /// The unit at a position from the head, 0 being the head; `None` behind the tail.
+    /// The unit at a position from the head, 0 being the head; `None` past the tail.
     pub(crate) fn unit(&self, position: u32) -> Option<&OpenUnit>
         ensures { option_map active_of (option_copied result) ≡ slice_get (state_of self.now).queue position }
     {
@@ -113,14 +113,14 @@ impl Processor {
         self.world.outcome()
     }
 
-    /// What the retired tasks read, the first first.
+    /// What the retired tasks read, oldest first.
     pub(crate) fn reads(&self) -> &[Read]
         ensures { result.now ≡ (state_of self.now).reads }
     {
         &self.reads
     }
 
-    /// One commit for each retired task, the first first.
+    /// One commit for each retired task, oldest first.
     pub(crate) fn commits(&self) -> &[Commit]
         ensures { result.now ≡ (state_of self.now).commits }
     {

@@ -44,7 +44,7 @@ impl Queue {
     ghost use Rattle.machine_model.specs.declared.event.Refused.TheVariants as refused;
     ghost use Rattle.machine_model.specs.declared.event.Standing.TheVariants as standing;
 
-    /// A queue without a unit, with room for so many units.
+    /// An empty queue, with room for the given number of units.
     pub(crate) fn new(alloc: Global, capacity: u32) -> Result<Queue, AllocError>
         requires { capacity ≤ 16 }
         ensures { IfOk result (λ queue. (queue.units ≡ []) × (queue.capacity ≡ capacity)) }
@@ -77,14 +77,14 @@ impl Queue {
         self.ring.get(position)
     }
 
-    /// The unit behind all others.
+    /// The last unit, the tail.
     pub(crate) fn tail(&self) -> Option<&OpenUnit>
         ensures active { option_map active_of (option_copied result) ≡ last_or None (actives self.now) }
     {
         self.ring.back()
     }
 
-    /// Puts a unit behind all others.
+    /// Adds a unit at the tail.
     pub(crate) fn push(&mut self, unit: OpenUnit)
         requires { length self.old.units < self.old.capacity }
         ensures { self.new ≡ record self.old { units = self.old.units ++ unit ∷ [] } }
@@ -92,15 +92,15 @@ impl Queue {
         let _ = self.ring.try_push_back(unit);
     }
 
-    /// Takes the head away.
+    /// Removes the head.
     fn pop(&mut self)
         ensures { self.new ≡ record self.old { units = drop 1 self.old.units } }
     {
         let _ = self.ring.pop_front();
     }
 
-    /// The head hands over what it sent of a create mask, and its reads, behind others, and goes. Nothing is
-    /// changed where the reads find no room.
+    /// Removes the head: what it sent for a create mask goes into the registers, and its reads are appended to
+    /// others. Nothing is changed where there is no room for the reads.
     pub(crate) fn pop_into(
         &mut self,
         create: RegSet,
@@ -123,7 +123,7 @@ impl Queue {
         Ok(())
     }
 
-    /// Keeps so many units from the head on.
+    /// Keeps the given number of units, counted from the head.
     pub(crate) fn keep(&mut self, count: usize)
         ensures { self.new ≡ record self.old { units = take count self.old.units } }
     {
@@ -162,7 +162,7 @@ impl Queue {
         unit.send(register, word);
     }
 
-    /// Each register that has not arrived at the head arrives there, with its word of these.
+    /// Each register that has not arrived at the head arrives there, with its word from these.
     pub(crate) fn fill_head(&mut self, words: &[u32; 34])
         ensures active { actives self.new ≡ filled (λ r. slice_index words.now r) (actives self.old) }
         ensures capacity { self.new.capacity ≡ self.old.capacity }
@@ -183,7 +183,7 @@ impl Queue {
         }
     }
 
-    /// The unit at a position executes one instruction, where the run goes on.
+    /// The unit at a position executes one instruction, while the run continues.
     pub(crate) fn exec(
         &mut self,
         position: usize,
@@ -224,7 +224,7 @@ fn created_by(program: &Program, units: &[OpenUnit]) -> RegSet
     set
 }
 
-/// Puts the words that a unit sent of its create mask into the registers.
+/// Puts the words that a unit sent for its create mask into the registers.
 fn hand_over(head: &OpenUnit, create: RegSet, registers: &mut [u32; 34])
     ensures { (r : ℕ) → slice_index registers.new r ≡ unwrap_or (if has create r then (active_of head.now).sent r else None) (slice_index registers.old r) }
 {

@@ -16,7 +16,7 @@ use std::alloc::Global;
 use task_descriptor::program::Program;
 
 impl Processor {
-    /// Assign, behind so many events.
+    /// Assign, after `count` events.
     fn try_assign(
         &mut self,
         alloc: Global,
@@ -33,7 +33,7 @@ impl Processor {
         Ok(())
     }
 
-    /// Exec, behind so many events.
+    /// Exec, after `count` events.
     fn try_exec(&mut self, program: &Program, count: usize, position: u32) -> Result<(), Refused>
         requires { self.old.world.outcome ≡ standing.Running }
         ensures { Tries program.now self.old count (events.Exec position) result self.new }
@@ -46,7 +46,7 @@ impl Processor {
         }
     }
 
-    /// Transfer, behind so many events.
+    /// Transfer, after `count` events.
     fn try_transfer(
         &mut self,
         program: &Program,
@@ -62,7 +62,7 @@ impl Processor {
         Ok(())
     }
 
-    /// Drain, behind so many events.
+    /// Drain, after `count` events.
     fn try_drain(
         &mut self,
         program: &Program,
@@ -78,7 +78,7 @@ impl Processor {
         Ok(())
     }
 
-    /// Squash, behind so many events.
+    /// Squash, after `count` events.
     fn try_squash(&mut self, program: &Program, count: usize, position: u32) -> Result<(), Refused>
         ensures { Tries program.now self.old count (events.Squash position) result self.new }
     {
@@ -88,7 +88,7 @@ impl Processor {
         Ok(())
     }
 
-    /// Retire, behind so many events.
+    /// Retire, after `count` events.
     fn try_retire(&mut self, program: &Program, count: usize) -> Result<(), Refused>
         requires { AreShort (state_of self.old).queue }
         ensures { Tries program.now self.old count events.Retire result self.new }
@@ -101,7 +101,7 @@ impl Processor {
         }
     }
 
-    /// Fault, behind so many events.
+    /// Fault, after `count` events.
     fn try_fault(&mut self, program: &Program, count: usize) -> Result<(), Refused>
         ensures { Tries program.now self.old count events.Fault result self.new }
     {
@@ -111,7 +111,7 @@ impl Processor {
         Ok(())
     }
 
-    /// Drop, behind so many events.
+    /// Drop, after `count` events.
     fn try_drop(&mut self, program: &Program, count: usize, position: u32) -> Result<(), Refused>
         ensures { Tries program.now self.old count (events.Drop position) result self.new }
     {
@@ -121,7 +121,7 @@ impl Processor {
         Ok(())
     }
 
-    /// One event where the run goes on, behind so many events.
+    /// One event while the run continues, after `count` events.
     ///
     /// # Errors
     ///

@@ -1,4 +1,4 @@
-//! What an instruction changes beside its unit.
+//! What an instruction changes besides its unit.
 
 use machine_model::event::Standing;
 use mips_instructions::instruction::Op;
@@ -33,7 +33,7 @@ impl World {
     ghost use Rattle.unit_core.specs.ExecParts.{loads, IsAddress};
     ghost use Rattle.machine_model.specs.declared.event.Standing.TheVariants.{Running};
 
-    /// A world with this memory, in which nothing was put out and the run goes on. Takes no memory.
+    /// A world with this memory, in which nothing was put out and the run continues. Takes no memory.
     pub(crate) fn new(alloc: Global, memory: Memory) -> World
         ensures contents { result.contents ≡ memory }
         ensures output { result.output ≡ [] }
@@ -53,7 +53,7 @@ impl World {
         self.outcome
     }
 
-    /// Whether the run goes on.
+    /// Whether the run continues.
     pub(crate) fn is_running(&self) -> bool
         ensures { IsTrue result ↔ (self.now.outcome ≡ Running) }
     {
@@ -67,9 +67,9 @@ impl World {
         self.outcome = outcome;
     }
 
-    /// Carries out what an instruction with the operands a and b does beside its registers, and answers the
+    /// Carries out what an instruction with the operands a and b does besides its registers, and returns the
     /// word that it loads, if it loads one. `fixed` are the bytes that the program's read-only data begins
-    /// with. Want of memory is answered only by `out`; nothing is changed then.
+    /// with. Lack of memory is reported only by `out`; nothing is changed then.
     pub(crate) fn carry_out(
         &mut self,
         op: &Op,

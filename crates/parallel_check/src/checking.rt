@@ -17,7 +17,7 @@ use std::thread;
 use std::thread::Threads;
 use task_descriptor::program::Program;
 
-/// How many workers there are at most.
+/// The most workers there may be.
 pub const MOST_WORKERS: u32 = 16;
 
 /// The findings of all tasks, one task after another, by several workers: for every number of workers and

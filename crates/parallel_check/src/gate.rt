@@ -2,7 +2,7 @@
 
 use std::marker::Sync;
 
-/// Is called around the check of each task, by who checks it, so that a caller can watch the workers or hold
+/// Is called around the check of each task, by whoever checks it, so that a caller can watch the workers or hold
 /// them up. Nothing that a gate does changes what is answered.
 pub trait CheckGate: Sync {
     /// Before a worker checks a task. Workers are counted from 0. A task that no worker checked, for want of

@@ -5,14 +5,14 @@ ghost use Rattle.std.specs.Prelude.{◌≡◌, ◌<◌, ◌≤◌, IfOk, IfErr};
 use std::alloc::AllocError;
 use std::sync::atomic::{AtomicUsize, Ordering};
 
-/// The numbers from 0 on and below a count, for workers that share them by drawing.
+/// The numbers from 0 to below a count, for workers that share them by drawing.
 #[derive(Drop)]
 pub(crate) struct Numbers {
     next: AtomicUsize,
     count: usize,
 }
 
-/// A number that a worker has drawn. It cannot be let go: who drew it has to use it.
+/// A number that a worker has drawn. It cannot be dropped: whoever drew it has to use it.
 pub(crate) struct Drawn {
     number: usize,
 }
@@ -57,7 +57,7 @@ impl From<AllocError> for End {
 }
 
 impl Numbers {
-    /// The numbers from 0 on and below a count.
+    /// The numbers from 0 to below a count.
     pub(crate) fn below(count: usize) -> Numbers
         ensures { result.count ≡ count }
     {

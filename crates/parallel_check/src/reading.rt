@@ -1,8 +1,8 @@
 //! Reading a certificate's text by several workers.
 //!
 //! The text lies in pieces, and each is cut into shares. A worker draws shares and reads the lists of the
-//! tasks whose lines begin there, as blocks, without knowing which tasks these are or whether all is right
-//! in front of them. Then the whole is read in order, as by one reader, except that a list for which
+//! tasks whose lines begin there, as blocks, without knowing which tasks these are or whether all before
+//! them is right. Then the whole is read in order, as by one reader, except that a list for which
 //! there is a block is not read again.
 
 ghost use Rattle.std.specs.Prelude.{◌≡◌, ◌≢◌, ◌↔◌, ◌⊎◌, ◌+◌, ◌*◌, ◌<◌, ◌≤◌, true, ℕ, List, [], length, map, slice_get, slice_index_or, Some, Ok, Err, OnOk, IfOk, IfSome};
@@ -31,7 +31,7 @@ use std::{mem, thread};
 use task_descriptor::program::{MOST_TASKS, Program};
 use text_pieces::text::Text;
 
-/// From how many bytes on a text is shared out. A shorter one is read in less time than threads are made.
+/// The least number of bytes of a text that is shared out. A shorter one is read in less time than threads are made.
 const LEAST_SHARED: usize = 65_536;
 
 /// How many shares of the text there are for each worker: several, so that none waits long for the others
@@ -39,7 +39,7 @@ const LEAST_SHARED: usize = 65_536;
 const SHARES_EACH: usize = 8;
 
 /// What `mask_certificate::reading::read` answers, faults included, by several workers, of a text that lies
-/// in pieces, cut behind LFs. Any number of workers will do: 0 counts as 1, and more than 16 count as 16. A
+/// in pieces, cut after LFs. Any number of workers will do: 0 counts as 1, and more than 16 count as 16. A
 /// short text is read by one.
 pub fn read_shared<G: ReadGate, R: Threads + Sync>(
     rt: &R,
@@ -57,14 +57,14 @@ pub fn read_shared<G: ReadGate, R: Threads + Sync>(
     ReadAhead::new(rt, alloc, &pieces, workers, gate)?.read(alloc, program)
 }
 
-/// Whether the text in these pieces is shared out among so many workers.
+/// Whether the text in these pieces is shared out among the given number of workers.
 pub fn is_shared_out(pieces: &[&[u8]], workers: u32) -> bool
     ensures { (result ≡ true) ↔ ((1 < workers) × (65536 ≤ length (joined (map (λ piece. piece.now) pieces.now)))) }
 {
     workers > 1 && is_long(pieces)
 }
 
-/// Whether these pieces have as many bytes as are shared out.
+/// Whether these pieces have enough bytes to be shared out.
 fn is_long(pieces: &[&[u8]]) -> bool
     ensures { (result ≡ true) ↔ (65536 ≤ length (joined (map (λ piece. piece.now) pieces.now))) }
 {
@@ -103,7 +103,7 @@ impl<'a> ReadAhead<'a> {
     ghost use Rattle.mask_certificate.specs.CertificateText.{Spells};
     ghost use Rattle.mask_certificate.specs.CertificateReading.{cert_parse, names_of};
 
-    /// Lets the workers read a text in pieces, cut behind LFs. Any number of them will do: 0 counts as 1,
+    /// Lets the workers read a text in pieces, cut after LFs. Any number of them will do: 0 counts as 1,
     /// and more than 16 count as 16. A text that is not shared out (`is_shared_out`) is left to `read`.
     ///
     /// # Errors
@@ -158,8 +158,8 @@ fn blocks_of<'a, G: ReadGate, R: Threads + Sync>(
     }
 }
 
-/// The blocks that each worker read, each with the number of its piece. It cannot be let go: who has it puts
-/// the blocks to their pieces.
+/// The blocks that each worker read, each with the number of its piece. It cannot be dropped: whoever has it puts
+/// the blocks with their pieces.
 struct ReadBlocks<'a> {
     lists: Vec<Vec<(usize, Block<'a>)>>,
 }
@@ -226,7 +226,7 @@ fn together<'a>(
     Ok(found)
 }
 
-/// For each piece no block.
+/// For each piece, no block.
 fn empty<'a>(alloc: Global, pieces: &[&'a [u8]]) -> Result<Vec<Vec<Block<'a>>>, AllocError>
     ensures groups { IfOk result (λ groups. AreGroups (map (λ piece. piece.now) pieces.now) groups.items) }
     ensures order { IfOk result (λ groups. AreInOrder (length pieces.now) groups.items) }
@@ -239,7 +239,7 @@ fn empty<'a>(alloc: Global, pieces: &[&'a [u8]]) -> Result<Vec<Vec<Block<'a>>>, 
     Ok(groups)
 }
 
-/// Puts each block to those of its piece, behind them.
+/// Puts each block after those of its piece.
 fn put_all<'a>(
     pieces: &[&'a [u8]],
     found: Vec<(usize, Block<'a>)>,
@@ -256,7 +256,7 @@ fn put_all<'a>(
     Ok(())
 }
 
-/// Puts a block to those of its piece, behind them.
+/// Puts a block after those of its piece.
 fn put<'a>(
     pieces: &[&'a [u8]],
     piece: usize,
@@ -397,7 +397,7 @@ fn read_share<'a, G: ReadGate>(
     Ok(())
 }
 
-/// The offset behind the first line of a task that begins from an offset on and before another.
+/// The offset after the first task line that begins at or after one offset and before another.
 fn list_from(text: &[u8], from: usize, to: usize) -> Option<usize>
     requires { to ≤ length text.now }
     ensures { IfSome result (λ start. start ≤ length text.now) }

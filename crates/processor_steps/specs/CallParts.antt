@@ -1,4 +1,4 @@
--- What the parts of a call on a processor do: words for private functions alone.
+-- What the parts of a call on a processor do: definitions for private functions only.
 use Rattle.std.specs.Prelude.{◌≡◌, ℕ, ◌⊎◌, List, slice_get, slice_set, true, false, Option, Some, None, Result, OnOk, OnErr}
 use Rattle.std.specs.Result.{result_err}
 use Rattle.task_descriptor.specs.Listing.{Listing}
@@ -31,11 +31,11 @@ pub record AheadStep (p : Listing) (k : ℕ) (us us' : List Active) : Type 0 whe
   pub step : StepsAlone p unit after
   pub is : us' ≡ slice_set us k after
 
--- the refusal holds, or there is none and memory is wanted
+-- the refusal holds, or there is none and memory is lacking
 abbrev pub IsRefusedBy : Refused → Option Refused → Type 0
 IsRefusedBy why refusal = (refusal ≡ Some why) ⊎ ((why ≡ refused.OutOfMemory) × (refusal ≡ None))
 
--- a call on a processor that does not take memory answers just what refuses the event, and leaves what
+-- a call on a processor that takes no memory returns exactly what refuses the event, and leaves what
 -- the event leaves
 pub record Does (p : Listing) (old : ProcessorView) (n : ℕ) (e : Event) (result : Result (Unit {0}) Refused) (new : ProcessorView) : Type 0 where
   pub refused : result_err result ≡ later_refusal p old.queue.capacity (state_of old) n e

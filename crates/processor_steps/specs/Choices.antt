@@ -1,4 +1,4 @@
--- Which task may come behind a tail (own): at the targets of one that runs on, else the one task that
+-- Which task may come after a tail: one at the targets of a tail that still runs, else the one task that
 -- may follow.
 use Rattle.std.specs.Prelude.{ℕ, List, [], slice_get, length, ◌%◌, if◌then◌else◌, Option, Some, None}
 use Rattle.std.specs.Option.{option_and_then}
@@ -19,12 +19,12 @@ abbrev pub targets_behind : Listing → Option Active → List ℕ
 targets_behind p None = []
 targets_behind p (Some tail) = targets_at p tail.task tail.place
 
--- the task that begins at the target at this position, modulo their number
+-- the task that begins at the target with this index, modulo the number of targets
 abbrev pub task_chosen : Listing → (targets : List ℕ) → (answer : ℕ) → Option ℕ
 task_chosen p targets answer =
     option_and_then (λ target. task_beginning p (address target)) (slice_get targets (answer % length targets))
 
--- the task that may follow a tail, by the answer where it has not stopped
+-- the task that may follow a tail; where the tail has not stopped, the answer chooses it
 abbrev pub task_at_spot : Listing → (tail : ℕ) → Spot → (answer : ℕ) → Option ℕ
 task_at_spot p tail (Inside index) answer = task_chosen p (task_at p tail).targets answer
 task_at_spot p tail (Stopped at) answer = if is_listed p tail at then task_beginning p at else None

@@ -1,5 +1,5 @@
--- Worked examples, computed by the checker: what is seen of a processor, which events it refuses, and
--- which task may come behind its tail.
+-- Worked examples, computed by the checker: what a processor shows, which events it refuses, and
+-- which task may come after its tail.
 use Rattle.std.specs.Prelude.{◌≡◌, false, [], ◌∷◌, ◌++◌, replicate, slice_get, Some, None, Ok, Err}
 use Rattle.std.proofs.Common.{refl, arith, inl, inr}
 use Rattle.mips_instructions.specs.Words.{address}
@@ -35,7 +35,7 @@ head = record {
       ∷ [];
 }
 
--- Behind it the same task has taken register 8, written 2 to it and sent it; 9 and 10 are reserved.
+-- Behind it, another unit on the same task has taken register 8, written 2 to it and sent it; 9 and 10 are reserved.
 abbrev pub tail : UnitView
 tail = record {
   task = 0;
@@ -49,7 +49,7 @@ tail = record {
   log = record { pc = 0x400000; a = 1; b = 0 } ∷ [];
 }
 
--- all of the two units are at work, and nothing has retired; data memory begins with the bytes 7 and 8
+-- both units are at work, and nothing has retired; data memory begins with the bytes 7 and 8
 abbrev pub processor : ProcessorView
 processor = record {
   queue = record { units = head ∷ tail ∷ []; capacity = 2 };
@@ -74,14 +74,14 @@ seen_reserved = refl
 pub seen_no_more : slice_get (state_of processor).queue 2 ≡ None
 seen_no_more = refl
 
--- data memory has 0 behind the bytes that are kept
+-- data memory has 0 after the bytes that are kept
 pub seen_byte : (state_of processor).memory 1 ≡ 8
 seen_byte = refl
 
 pub seen_behind : (state_of processor).memory 2 ≡ 0
 seen_behind = refl
 
--- four instructions of the head and one of the tail, beside seven that have retired
+-- four instructions of the head and one of the tail, besides seven that have retired
 pub executed : executed_by (state_of (record processor { commits = record { task = 0; exit = 0x400000; count = 7 } ∷ [] })) ≡ 12
 executed = refl
 
@@ -97,7 +97,7 @@ exec_of_waiting = refl
 pub exec_of_none : refusal count 2 (state_of processor) (Exec 2) ≡ Some refused.NoSuch
 exec_of_none = refl
 
--- a `halt` is executed by the head alone
+-- only the head executes a `halt`
 abbrev pub halting : Active
 halting = active_of (record tail { task = 1; place = Inside 5 })
 
@@ -109,7 +109,7 @@ pub halt_behind : refusal count 2 (record (state_of processor) { queue = active_
 unfolding least
 halt_behind = refl
 
--- a millionth event is allowed, and no further one; any other refusal comes before that
+-- the millionth event is allowed, and no further one; any other refusal comes first
 pub one_more : later_refusal count 2 (state_of processor) 999999 (Drop 1) ≡ None
 one_more = refl
 
@@ -124,7 +124,7 @@ pub retire_refused : Steps count processor 5 Retire (Err (refused.Unfinished 10)
 unfolding least
 retire_refused = record { allowed = tt; refused = inl refl; next = tt; kept = record { capacity = refl; fixed = refl }; err = refl }
 
--- so does want of memory for an event that may take some, as for the `slti` of the tail
+-- so does lack of memory for an event that may take some, such as the `slti` of the tail
 abbrev pub at_slti : ProcessorView
 at_slti = record processor { queue = record { units = head ∷ record tail { place = Inside 2 } ∷ []; capacity = 2 } }
 
@@ -145,7 +145,7 @@ dropped = record {
   err = tt;
 }
 
--- behind the tail, which has not stopped, a target of its task, the answer being taken modulo their number
+-- after the tail, which has not stopped: a target of its task, by the answer modulo the number of targets
 pub two_targets : targets_behind count (Some (active_of tail)) ≡ 0 ∷ 4 ∷ []
 two_targets = refl
 
@@ -157,7 +157,7 @@ pub last_target : task_behind count 0x400000 (Some (active_of tail)) 4294967295 
 unfolding address
 last_target = refl
 
--- behind a tail that has stopped the task where it stopped, if it is listed, whatever the answer
+-- after a tail that has stopped: the task where it stopped, if it is listed, whatever the answer
 pub no_target : targets_behind count (Some (active_of head)) ≡ []
 no_target = refl
 
@@ -169,7 +169,7 @@ pub stopped_elsewhere : task_behind count 0 (Some (active_of (record head { plac
 unfolding address
 stopped_elsewhere = refl
 
--- on an empty queue the task at the next address
+-- on an empty queue: the task at the next address
 pub next_task : task_behind count 0x400010 None 0 ≡ Some 1
 unfolding address
 next_task = refl

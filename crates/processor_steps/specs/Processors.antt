@@ -1,5 +1,5 @@
--- The processor as contracts see it: lists for its arrays and vectors, and one word from them to the
--- state that the machine step speaks of.
+-- The processor as contracts see it: lists for its arrays and vectors, and one function from them to the
+-- state that the machine step uses.
 use Rattle.std.specs.Prelude.{◌≡◌, ℕ, ◌+◌, ◌⊎◌, List, map, length, slice_index, slice_get, nat_eq, position, Bool, true, false, Option, Some, None, Result, OnOk, OnErr, IfErr}
 use Rattle.std.specs.List.{sum_by}
 use Rattle.mips_plain.specs.declared.outcome.Read.{Read}
@@ -67,8 +67,8 @@ takes_memory (Exec k) = true
 takes_memory Retire = true
 takes_memory _ = false
 
--- a call on a processor where the run goes on: it answers what refuses the event, or for one that
--- takes memory that it is wanted; Ok leaves a state by the machine step, else nothing is changed
+-- a call on a processor while the run continues: it returns what refuses the event or, for an event that
+-- takes memory, that memory is lacking; Ok leaves a state by the machine step, else nothing is changed
 pub record Steps (p : Listing) (old : ProcessorView) (n : ℕ) (e : Event) (result : Result (Unit {0}) Refused) (new : ProcessorView) : Type 0 where
   pub allowed : OnOk result (later_refusal p old.queue.capacity (state_of old) n e ≡ None)
   pub refused : IfErr result (λ why.
@@ -78,7 +78,7 @@ pub record Steps (p : Listing) (old : ProcessorView) (n : ℕ) (e : Event) (resu
   pub kept : Keeps old new
   pub err : OnErr result (new ≡ old)
 
--- how many instructions the active tasks, and with the retired ones all tasks, executed
+-- how many instructions the active tasks executed, and how many all tasks did, the retired ones included
 abbrev pub by_units : List Active → ℕ
 by_units us = sum_by (λ u. length u.log) us
 

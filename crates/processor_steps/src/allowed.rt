@@ -1,4 +1,4 @@
-//! Whether an event is allowed: each function looks, and answers the first refusal beside 1 Ended and
+//! Whether an event is allowed: each function returns the first refusal other than 1 Ended and
 //! 16 Full, or what the event needs. None changes anything or takes memory.
 
 ghost use Rattle.std.specs.Prelude.{◌≡◌, ℕ, ◌-◌, ◌<◌, None, Some, IfOk, OnOk, length, slice_get, is_none, nat_lt, drop};
@@ -64,7 +64,7 @@ impl Processor {
         }
     }
 
-    /// The word that the unit at a position takes of a register.
+    /// The word that the unit at a position takes for a register.
     pub(crate) fn word_to_take(
         &self,
         program: &Program,
@@ -89,7 +89,7 @@ impl Processor {
         }
     }
 
-    /// The word that the unit at a position passes on of a register.
+    /// The word that the unit at a position passes on for a register.
     fn word_passed(&self, program: &Program, position: u32, register: Reg) -> Option<u32>
         ensures { result ≡ option_and_then (λ giver. pass program.now giver register) (slice_get (state_of self.now).queue position) }
     {
@@ -99,7 +99,7 @@ impl Processor {
         }
     }
 
-    /// Whether the unit at a position, which has to have stopped, may send a register.
+    /// Whether the unit at a position, which must have stopped, may send a register.
     pub(crate) fn may_send(
         &self,
         program: &Program,
@@ -126,7 +126,7 @@ impl Processor {
         Ok(())
     }
 
-    /// Whether all units behind a position may go.
+    /// Whether all units behind a position may be squashed.
     pub(crate) fn may_squash(&self, program: &Program, position: u32) -> Result<(), Refused>
         ensures { result_err result ≡ refusal program.now self.now.queue.capacity (state_of self.now) (event.Squash position) }
     {
@@ -185,7 +185,7 @@ impl Processor {
         }
     }
 
-    /// The address, not listed, at which the head has stopped.
+    /// The unlisted address at which the head has stopped.
     pub(crate) fn unlisted_exit(&self, program: &Program) -> Result<u32, Refused>
         ensures refused { result_err result ≡ refusal program.now self.now.queue.capacity (state_of self.now) event.Fault }
         ensures exit { IfOk result (λ exit. option_and_then (λ u. exit_of u.place) (slice_get (state_of self.now).queue 0) ≡ Some exit) }
@@ -202,7 +202,7 @@ impl Processor {
         Ok(exit)
     }
 
-    /// Whether the unit at a position and all behind it may go.
+    /// Whether the unit at a position and all behind it may be dropped.
     pub(crate) fn may_drop(&self, program: &Program, position: u32) -> Result<(), Refused>
         ensures { result_err result ≡ refusal program.now self.now.queue.capacity (state_of self.now) (event.Drop position) }
     {
@@ -213,7 +213,7 @@ impl Processor {
     }
 }
 
-/// Whether the history has room behind so many events.
+/// Whether the history has room after the given number of events.
 #[inline]
 pub(crate) fn room_behind(count: usize) -> Result<(), Refused>
     ensures { result_err result ≡ unless (nat_lt count most_events) refused.Full None }

@@ -1,4 +1,4 @@
-//! What an event that is allowed changes. None of these fails but for want of memory, and then nothing
+//! What an allowed event changes. Each of these functions fails only for lack of memory, and then nothing
 //! is changed.
 
 ghost use Rattle.std.specs.Prelude.{◌≡◌, ℕ, ◌+◌, ◌-◌, ◌^◌, ◌<◌, None, Some, OnOk, OnErr, drop, length, slice_get, slice_set, slice_index};
@@ -25,7 +25,7 @@ use unit_core::read_log::ReadLog;
 use unit_core::unit::Unit;
 
 impl Processor {
-    /// A unit begins with a task, behind the tail.
+    /// A unit begins a task behind the tail.
     pub(crate) fn assign(&mut self, alloc: Global, accepted: &Accepted, task: u32)
         requires there { task < length accepted.now.program.tasks }
         requires free { length self.old.queue.units < self.old.queue.capacity }
@@ -46,13 +46,13 @@ impl Processor {
         self.assigns += 1;
     }
 
-    /// The unit at a position goes on as a burst did, which is left without a step where its reads are many.
-    /// The caller sees to it that the burst was made on that unit, which since has at most more registers
-    /// arrived. Where no unit is there, only the number of units and read-only data are promised.
+    /// The unit at a position continues from where a burst ended; a burst with many reads is left without a step.
+    /// The caller ensures that the burst was made on that unit, and that since then at most more registers have
+    /// arrived there. Where no unit is there, only the number of units and read-only data are promised.
     ///
     /// # Errors
     ///
-    /// `OutOfMemory` where the reads of the burst find no room; nothing is changed then.
+    /// `OutOfMemory` where there is no room for the reads of the burst; nothing is changed then.
     pub fn take_burst(&mut self, position: u32, burst: &mut Burst<'_>) -> Result<(), OutOfMemory>
         ensures state { OnOk result ((u : Active) → slice_get (state_of self.old).queue position ≡ Some u
             → state_of self.new ≡ with_queue (state_of self.old) (slice_set (state_of self.old).queue position (carried_on (active_of burst.old.after) u))) }
@@ -70,7 +70,7 @@ impl Processor {
         ensures state { state_of self.new ≡ after program.now (state_of self.old) (event.Transfer position register) }
         ensures kept { Keeps self.old self.new }
     {
-        // Read, so that the contract can speak of the program; the change itself has no need of it.
+        // Read only so that the contract can mention the program; the change itself does not need it.
         let _ = program.start();
         self.queue.arrive(position as usize, register, word);
     }
@@ -86,43 +86,43 @@ impl Processor {
         self.queue.send(position as usize, accepted, register);
     }
 
-    /// All units behind a position go.
+    /// Removes all units behind a position.
     pub(crate) fn squash(&mut self, program: &Program, position: u32)
         ensures state { state_of self.new ≡ after program.now (state_of self.old) (event.Squash position) }
         ensures kept { Keeps self.old self.new }
     {
-        // Read, so that the contract can speak of the program; the change itself has no need of it.
+        // Read only so that the contract can mention the program; the change itself does not need it.
         let _ = program.start();
         self.queue.keep(position as usize + 1);
     }
 
-    /// The unit at a position and all behind it go.
+    /// Removes the unit at a position and all behind it.
     pub(crate) fn drop_from(&mut self, program: &Program, position: u32)
         ensures state { state_of self.new ≡ after program.now (state_of self.old) (event.Drop position) }
         ensures kept { Keeps self.old self.new }
     {
-        // Read, so that the contract can speak of the program; the change itself has no need of it.
+        // Read only so that the contract can mention the program; the change itself does not need it.
         let _ = program.start();
         self.queue.keep(position as usize);
     }
 
-    /// The run ends at an address that is not listed, at which the head has stopped.
+    /// The run ends at an unlisted address, at which the head has stopped.
     pub(crate) fn fault(&mut self, program: &Program, exit: u32)
         requires { option_and_then (λ u. exit_of u.place) (slice_get (state_of self.old).queue 0) ≡ Some exit }
         ensures state { state_of self.new ≡ after program.now (state_of self.old) event.Fault }
         ensures kept { Keeps self.old self.new }
     {
-        // Read, so that the contract can speak of the program; the change itself has no need of it.
+        // Read only so that the contract can mention the program; the change itself does not need it.
         let _ = program.start();
         self.world.end(Standing::Unlisted(exit));
     }
 
-    /// The head hands its registers and reads over at an exit, and goes; the next unit takes what has
-    /// not arrived.
+    /// The head retires at an exit: its registers and reads are taken over, and it leaves the queue; the next
+    /// unit takes what has not arrived.
     ///
     /// # Errors
     ///
-    /// `OutOfMemory` where its reads or its commit find no room; nothing is changed then.
+    /// `OutOfMemory` where there is no room for its reads or its commit; nothing is changed then.
     pub(crate) fn retire(&mut self, program: &Program, exit: u32) -> Result<(), OutOfMemory>
         requires exit { option_and_then (λ u. exit_of u.place) (slice_get (state_of self.old).queue 0) ≡ Some exit }
         requires small { (u : Active) → slice_get (state_of self.old).queue 0 ≡ Some u → length u.log < 2 ^ 32 }

@@ -18,7 +18,7 @@ use task_descriptor::program::Program;
 use unit_core::unit::Unit;
 
 impl Processor {
-    /// The event that the head is ready for, where the run goes on: on an empty queue the Assign of the
+    /// The event that the head is ready for while the run continues; on an empty queue, the Assign of the
     /// task at the next address. `None` where no task begins there.
     pub fn event_at_head(&self, program: &Program) -> Option<Event>
         ensures { result ≡ event_of_queue program.now (state_of self.now).next (state_of self.now).queue }
@@ -42,7 +42,7 @@ impl Processor {
         }
     }
 
-    /// The event that a head which has stopped is ready for.
+    /// The event that a stopped head is ready for.
     fn event_at_exit(&self, program: &Program, head: &Unit, exit: u32) -> Event
         ensures { result ≡ event_of_head_at program.now (active_of head.now) (drop 1 (state_of self.now).queue) (spot.Stopped exit) }
     {
@@ -71,9 +71,9 @@ impl Processor {
         }
     }
 
-    /// The task that may be assigned next: behind a tail that has not stopped the one at the target at
-    /// this position modulo their number; behind a stopped tail the one at its exit, on an empty queue the
-    /// one at the next address, whatever the answer. `None` where no task may follow.
+    /// The task that may be assigned next: after a tail that has not stopped, the one at the target with index
+    /// `answer` modulo the number of targets; after a stopped tail, the one at its exit; on an empty queue, the
+    /// one at the next address. The last two hold whatever the answer. `None` where no task may follow.
     pub fn task_to_assign(&self, program: &Program, answer: u32) -> Option<u32>
         ensures { result ≡ task_behind program.now (state_of self.now).next (last_or None (state_of self.now).queue) answer }
     {
@@ -84,7 +84,7 @@ impl Processor {
     }
 }
 
-/// The task that may be assigned behind a tail at a spot.
+/// The task that may be assigned after a tail at a spot.
 fn task_behind_tail(program: &Program, tail: u32, spot: Spot, answer: u32) -> Option<u32>
     ensures { result ≡ task_at_spot program.now tail spot answer }
 {
@@ -95,7 +95,7 @@ fn task_behind_tail(program: &Program, tail: u32, spot: Spot, answer: u32) -> Op
     }
 }
 
-/// The task that begins at the target at this position modulo their number.
+/// The task that begins at the target with index `answer` modulo the number of targets.
 fn task_of_choice(program: &Program, targets: &[Place], answer: u32) -> Option<u32>
     ensures { result ≡ task_chosen program.now targets.now answer }
 {

@@ -1,4 +1,4 @@
-//! What is known of every event that nothing refuses, from the theorems about the model.
+//! What the theorems about the model give for every event that nothing refuses.
 
 ghost use Rattle.std.specs.Prelude.{◌≡◌, ℕ, None};
 ghost use Rattle.machine_model.specs.Machine.{State};
@@ -10,12 +10,12 @@ ghost use Rattle.machine_model.specs.declared.event.Standing.TheVariants as stan
 use machine_model::laws::answer_is_next;
 use mark_checker::accept::Accepted;
 
-/// Where the run goes on and nothing refuses an event, the machine step allows it; the call does
+/// While the run continues and nothing refuses an event, the machine step allows it; the call does
 /// nothing.
 pub(crate) fn known(accepted: &Accepted)
     ensures { (units : ℕ) (s : State) (e : Event) → s.outcome ≡ standing.Running → refusal accepted.now.program units s e ≡ None → Next accepted.now.program units s e (after accepted.now.program s e) }
 {
-    // A program says that it is well formed, which the law asks for, where its start is read.
+    // Reading a program's start gives that it is well formed, which the law requires.
     let _ = accepted.program().start();
     answer_is_next();
 }

@@ -1,5 +1,5 @@
-//! The processor at one moment: a queue of units on a ring, memory, and what retired; and each event's
-//! change of it.
+//! The processor at one moment: a queue of units on a ring, memory, and what retired; and how each event
+//! changes it.
 #![tactic(auto)]
 
 mod allowed;

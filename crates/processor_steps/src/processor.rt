@@ -13,7 +13,7 @@ use unit_core::read_log::ReadLog;
 use unit_core::unit::Unit;
 use unit_core::world::World;
 
-/// The most events of a machine: with as many before it, an event is refused.
+/// The most events of a machine: after that many, an event is refused.
 pub const MOST_EVENTS: usize = 1_000_000;
 
 /// What the events of a machine change.
@@ -61,11 +61,11 @@ impl Processor {
     ghost use Rattle.unit_core.specs.Units.{active_of};
     ghost use Rattle.processor_steps.specs.Processors.{state_of, position_with as position_with_serial};
 
-    /// A processor at the start of a program, with so many units, at most 16, none of them at work.
+    /// A processor at the start of a program, with the given number of units, at most 16, none of them at work.
     ///
     /// # Errors
     ///
-    /// `OutOfMemory` where the ring or the memory found no room.
+    /// `OutOfMemory` where there was no room for the ring or the memory.
     pub fn new(alloc: Global, program: &Program, units: u32) -> Result<Processor, OutOfMemory>
         requires { units ≤ 16 }
         ensures opening { IfOk result (λ processor. state_of processor ≡ opening program.now) }
@@ -107,7 +107,7 @@ impl Processor {
         self.queue.len()
     }
 
-    /// The unit at a position from the head, 0 being the head; `None` behind the tail.
+    /// The unit at a position from the head, 0 being the head; `None` past the tail.
     #[inline]
     pub fn unit(&self, position: u32) -> Option<&Unit>
         ensures { option_map active_of (option_copied result) ≡ slice_get (state_of self.now).queue position }
@@ -130,7 +130,7 @@ impl Processor {
         &self.world
     }
 
-    /// What the retired tasks read, the first first.
+    /// What the retired tasks read, oldest first.
     #[inline]
     pub fn reads(&self) -> &ReadLog
         ensures { result.now.reads ≡ self.now.reads }
@@ -138,7 +138,7 @@ impl Processor {
         &self.reads
     }
 
-    /// One commit for each retired task, the first first.
+    /// One commit for each retired task, oldest first.
     #[inline]
     pub fn commits(&self) -> &[Commit]
         ensures { result.now ≡ self.now.commits }

@@ -50,7 +50,7 @@ impl Queue {
     ghost use Rattle.machine_model.specs.declared.event.Refused.TheVariants as refused;
     ghost use Rattle.machine_model.specs.declared.event.Standing.TheVariants as standing;
 
-    /// A queue without a unit, with room for so many units.
+    /// An empty queue, with room for the given number of units.
     pub(crate) fn new(alloc: Global, capacity: u32) -> Result<Queue, AllocError>
         requires { capacity ≤ 16 }
         ensures { IfOk result (λ queue. (queue.units ≡ []) × (queue.capacity ≡ capacity)) }
@@ -86,7 +86,7 @@ impl Queue {
         self.ring.get(position)
     }
 
-    /// The unit behind all others.
+    /// The last unit, the tail.
     #[inline]
     pub(crate) fn tail(&self) -> Option<&Unit>
         ensures active { option_map active_of (option_copied result) ≡ last_or None (actives self.now) }
@@ -94,7 +94,7 @@ impl Queue {
         self.ring.back()
     }
 
-    /// Puts a unit behind all others.
+    /// Adds a unit at the tail.
     #[inline(always)]
     pub(crate) fn push(&mut self, unit: Unit)
         requires { length self.old.units < self.old.capacity }
@@ -103,15 +103,15 @@ impl Queue {
         let _ = self.ring.try_push_back(unit);
     }
 
-    /// Takes the head away.
+    /// Removes the head.
     fn pop(&mut self)
         ensures { self.new ≡ record self.old { units = drop 1 self.old.units } }
     {
         let _ = self.ring.pop_front();
     }
 
-    /// The head hands over what it sent of a create mask, and its reads, behind others, and goes; its empty log
-    /// becomes the spare one. Nothing is changed where the reads find no room.
+    /// Removes the head: what it sent for a create mask goes into the registers, its reads are appended to others,
+    /// and its empty log becomes the spare one. Nothing is changed where there is no room for the reads.
     pub(crate) fn pop_into(
         &mut self,
         create: RegSet,
@@ -136,7 +136,7 @@ impl Queue {
         Ok(())
     }
 
-    /// Keeps so many units from the head on.
+    /// Keeps the given number of units, counted from the head.
     pub(crate) fn keep(&mut self, count: usize)
         ensures { self.new ≡ record self.old { units = take count self.old.units } }
     {
@@ -178,7 +178,7 @@ impl Queue {
         let _ = unit.drain(accepted, register);
     }
 
-    /// Each register that has not arrived at the head arrives there, with its word of these.
+    /// Each register that has not arrived at the head arrives there, with its word from these.
     pub(crate) fn fill_head(&mut self, words: &[u32; 34])
         ensures active { actives self.new ≡ filled (λ r. slice_index words.now r) (actives self.old) }
         ensures capacity { self.new.capacity ≡ self.old.capacity }
@@ -254,7 +254,7 @@ impl Queue {
         }
     }
 
-    /// The unit at a position goes on as the burst did, which was made on it.
+    /// The unit at a position continues from where the burst made on it ended.
     pub(crate) fn take(&mut self, position: usize, burst: &mut Burst<'_>) -> Result<(), OutOfMemory>
         ensures active { OnOk result ((u : Active) → slice_get (actives self.old) position ≡ Some u
             → actives self.new ≡ slice_set (actives self.old) position (carried_on (active_of burst.old.after) u)) }
@@ -270,7 +270,7 @@ impl Queue {
         }
     }
 
-    /// What the unit at a position is refused an instruction by, want of memory aside.
+    /// What refuses an instruction of the unit at a position, lack of memory aside.
     pub(crate) fn exec_refusal(&self, position: usize, accepted: &Accepted) -> Option<Refused>
         requires { ArePlaced accepted.now (actives self.now) }
         ensures { result ≡ for_some (slice_get (actives self.now) position) refused.NoSuch (refusal_of accepted.now.program (nat_eq position 0)) }
@@ -315,7 +315,7 @@ pub(crate) fn refused_by(wait: Wait) -> Refused
     }
 }
 
-/// Puts the words that a unit sent of its create mask into the registers.
+/// Puts the words that a unit sent for its create mask into the registers.
 fn hand_over(head: &Unit, create: RegSet, registers: &mut [u32; 34])
     ensures { (r : ℕ) → slice_index registers.new r ≡ unwrap_or (if has create r then (active_of head.now).sent r else None) (slice_index registers.old r) }
 {

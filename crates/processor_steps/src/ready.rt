@@ -1,4 +1,4 @@
-//! What a unit is ready for, beside what the head is.
+//! What a unit is ready for, apart from the head's event.
 
 ghost use Rattle.std.specs.Prelude.{◌≡◌, ℕ, ◌<◌, ◌↔◌, ◌&&◌, false, None, Some, IsTrue, slice_get, is_none, is_some};
 ghost use Rattle.std.specs.Option.{option_map};
@@ -21,7 +21,7 @@ use task_descriptor::program::Program;
 use unit_core::unit::Unit;
 
 impl Processor {
-    /// Where the unit at a position stands; `None` behind the tail.
+    /// Where the unit at a position stands; `None` past the tail.
     #[inline]
     pub fn spot(&self, position: u32) -> Option<Spot>
         ensures { result ≡ option_map (λ u. u.place) (slice_get (state_of self.now).queue position) }
@@ -32,9 +32,9 @@ impl Processor {
         }
     }
 
-    /// Whether the unit at a position lacks nothing for its next instruction, and this needs nothing but
-    /// the unit's registers and read-only data: so it may stand in a burst. The caller sees to it that
-    /// the units are ones of this program and certificate.
+    /// Whether the unit at a position lacks nothing for its next instruction, and the instruction needs only
+    /// the unit's registers and read-only data, so that it may be part of a burst. The caller ensures that
+    /// the units belong to this program and certificate.
     #[inline]
     pub fn can_run_ahead(&self, accepted: &Accepted, position: u32) -> bool
         requires { ArePlaced accepted.now (state_of self.now).queue }
@@ -96,7 +96,7 @@ fn passed(program: &Program, giver: &Unit) -> RegSet
     common(create, giver.sent_set()).union(giver.arrived_set().minus(create))
 }
 
-/// The registers of its create mask that a unit has not sent and has a value of; none where it has not
+/// The registers of its create mask that a unit has not sent and has a value for; none where it has not
 /// stopped.
 #[inline]
 fn registers_left(program: &Program, unit: &Unit) -> RegSet

@@ -21,7 +21,7 @@ use std::alloc::Global;
 use task_descriptor::program::Program;
 
 impl Processor {
-    /// Assign, behind so many events.
+    /// Assign, after `count` events.
     #[inline(always)]
     pub(crate) fn try_assign(
         &mut self,
@@ -39,7 +39,7 @@ impl Processor {
         Ok(())
     }
 
-    /// Transfer, behind so many events.
+    /// Transfer, after `count` events.
     #[inline]
     pub(crate) fn try_transfer(
         &mut self,
@@ -56,7 +56,7 @@ impl Processor {
         Ok(())
     }
 
-    /// Drain, behind so many events.
+    /// Drain, after `count` events.
     #[inline]
     pub(crate) fn try_drain(
         &mut self,
@@ -74,7 +74,7 @@ impl Processor {
         Ok(())
     }
 
-    /// Squash, behind so many events.
+    /// Squash, after `count` events.
     pub(crate) fn try_squash(
         &mut self,
         program: &Program,
@@ -89,7 +89,7 @@ impl Processor {
         Ok(())
     }
 
-    /// Fault, behind so many events.
+    /// Fault, after `count` events.
     pub(crate) fn try_fault(&mut self, program: &Program, count: usize) -> Result<(), Refused>
         ensures { Does program.now self.old count events.Fault result self.new }
     {
@@ -99,7 +99,7 @@ impl Processor {
         Ok(())
     }
 
-    /// Drop, behind so many events.
+    /// Drop, after `count` events.
     pub(crate) fn try_drop(
         &mut self,
         program: &Program,
@@ -114,8 +114,8 @@ impl Processor {
         Ok(())
     }
 
-    /// One instruction of the head, where the run goes on, behind so many events: `step` for an Exec at
-    /// position 0. It is a call of its own because most events are of this kind, so it pays not to look for
+    /// One instruction of the head, while the run continues, after `count` events: `step` for an Exec at
+    /// position 0. It is a separate call because most events are of this kind, so it pays not to look for
     /// others.
     ///
     /// # Errors
@@ -133,7 +133,7 @@ impl Processor {
         self.queue.exec_head(accepted, &mut self.world)
     }
 
-    /// The same for the unit at a position behind the head.
+    /// Like `exec_head`, but for the unit at a position behind the head.
     ///
     /// # Errors
     ///
@@ -157,7 +157,7 @@ impl Processor {
         self.queue.exec_ahead(position as usize, accepted)
     }
 
-    /// The same for the unit at any position.
+    /// Like `exec_head`, but for the unit at any position.
     #[inline(never)]
     fn exec(&mut self, accepted: &Accepted, count: usize, position: u32) -> Result<(), Refused>
         requires runs { self.old.world.outcome ≡ standing.Running }
@@ -182,7 +182,7 @@ impl Processor {
         }
     }
 
-    /// Retire, behind so many events.
+    /// Retire, after `count` events.
     #[inline(always)]
     pub(crate) fn try_retire(&mut self, accepted: &Accepted, count: usize) -> Result<(), Refused>
         requires runs { self.old.world.outcome ≡ standing.Running }
@@ -198,7 +198,7 @@ impl Processor {
         }
     }
 
-    /// One event where the run goes on, behind so many events. Exec and Retire may take memory, no other
+    /// One event while the run continues, after `count` events. Exec and Retire may take memory; no other
     /// event does.
     ///
     /// # Errors
@@ -235,7 +235,7 @@ impl Processor {
         }
     }
 
-    /// Whether nothing but the run's end and the history's room can refuse an event.
+    /// Whether only the run's end and the history's room can refuse an event.
     pub fn is_allowed(&self, accepted: &Accepted, event: Event) -> bool
         requires { ArePlaced accepted.now (state_of self.now).queue }
         ensures { IsTrue result ↔ (refusal accepted.now.program self.now.queue.capacity (state_of self.now) event ≡ None) }

@@ -1,4 +1,4 @@
--- Worked examples of the statements, computed by the checker: the tokens of a line, and what they say.
+-- Worked examples of the statements, computed by the checker: the tokens of a line, and what they mean.
 use Rattle.std.specs.Prelude.{◌≡◌, pos, negsuc, true, [], ◌∷◌, Ok, Err, codes, refl}
 use Rattle.mips_instructions.specs.declared.instruction.Op.TheVariants.{Imm, ShiftBy, Logic, Load, Release}
 use Rattle.mips_instructions.specs.declared.instruction.ImmKind.TheVariants.{Addiu}

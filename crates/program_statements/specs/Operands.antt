@@ -25,7 +25,7 @@ abbrev pub number_or_offset : Number → List Token → Option (ℕ × List Toke
 number_or_offset n rest None = (operand.Number n, rest)
 number_or_offset n rest (Some base) = (operand.Offset n base.0, base.1)
 
--- the first operand of these tokens, and the tokens behind it
+-- the first operand of these tokens, and the tokens after it
 unfoldable pub operand_at : List Token → Result (Operand × List Token) StatementFault
 operand_at (token.Register r ∷ rest) = general r >>= λ r. Ok (operand.Register r, rest)
 operand_at (token.Number n ∷ rest) = Ok (number_or_offset n rest (base_at rest))

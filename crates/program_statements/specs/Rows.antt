@@ -1,5 +1,5 @@
 -- What each instruction of a text means: a row for each mnemonic (MIPS manual; `out`, `release`, `halt`
--- and the pseudo-instructions' forms are own). The operands' number and kinds are judged before the
+-- and the pseudo-instructions' forms are this project's). The operands' number and kinds are judged before the
 -- ranges of their numbers.
 use Rattle.std.specs.Prelude.{ℕ, ◌-◌, ◌/◌, ◌%◌, ◌^◌, pos, List, Result, Ok, Err, nat_lt, nat_le, if◌then◌else◌}
 use Rattle.std.specs.Int.{w32, cast_signed}

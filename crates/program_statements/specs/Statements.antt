@@ -1,5 +1,5 @@
--- The statement of a line (own format; tasks and marks after the 1995 paper, section 2.2): what its first
--- token, the operands and the marks at its end say.
+-- The statement of a line (tasks and marks after the 1995 paper, section 2.2): what its first
+-- token, the operands and the marks at its end mean.
 use Rattle.std.specs.Prelude.{ℕ, ◌-◌, ◌^◌, bit_or, List, [], ◌∷◌, ◌++◌, length, take, drop, reverse, take_while, codes, Bool, true, false, Option, Some, None, Result, Ok, Err, if◌then◌else◌}
 use Rattle.std.specs.Str.{bytes_eq}
 use Rattle.std.specs.Int.{w32, to_le_bytes}
@@ -44,7 +44,7 @@ abbrev pub with_registers : ℕ → List ℕ → ℕ
 with_registers set [] = set
 with_registers set (r ∷ rs) = with_registers (bit_or set (2 ^ r)) rs
 
--- the set of the registers at the front, and the tokens behind them
+-- the set of the registers at the front, and the tokens after them
 unfoldable pub registers_at : List Token → Result (ℕ × List Token) StatementFault
 registers_at tokens = registers_of tokens >>= λ x. Ok (with_registers 0 x.0, x.1)
 
@@ -85,7 +85,7 @@ bytes_of (n ∷ ns) = do
 
 -- Directives.
 
--- a list that may be empty is written `-`
+-- an empty list is written `-`
 abbrev pub create_at : List Token → Result (ℕ × List Token) StatementFault
 create_at (token.Minus ∷ rest) = Ok (0, rest)
 create_at tokens = registers_at tokens
@@ -94,7 +94,7 @@ abbrev pub targets_at : List Token → Result (List Operand) StatementFault
 targets_at (token.Minus ∷ []) = Ok []
 targets_at tokens = places_of tokens
 
--- `create=` or `targets=`, and the tokens behind it
+-- `create=` or `targets=`, and the tokens after it
 abbrev pub after_word : List ℕ → List Token → Result (List Token) StatementFault
 after_word word (token.Name name ∷ token.Equals ∷ rest) = if bytes_eq name word then Ok rest else Err fault.Operand
 after_word word _ = Err fault.Operand
@@ -197,7 +197,7 @@ mark_count tokens = length (take_while is_mark (reverse tokens))
 
 -- Statements.
 
--- an instruction stands in code alone
+-- an instruction stands only in code
 abbrev pub in_code : Section → Result Statement StatementFault → Result Statement StatementFault
 in_code section.Text s = s
 in_code section.Data s = Err fault.Mnemonic

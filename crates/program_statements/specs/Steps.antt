@@ -15,7 +15,7 @@ abbrev pub Shows : {X Y F : Type 0} → (X → Y) → Result X F → Result Y F 
 Shows view (Ok x) stage = stage ≡ Ok (view x)
 Shows view (Err f) stage = stage ≡ Err f
 
--- the same, or memory ran out
+-- a fault is what a stage gives, or memory ran out
 abbrev pub Fails : {Y : Type 0} → StatementError → Result Y StatementFault → Type 0
 Fails errors.OutOfMemory stage = Unit {0}
 Fails (errors.Fault f) stage = stage ≡ Err f

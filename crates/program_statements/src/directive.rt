@@ -14,7 +14,7 @@ use program_tokens::token::{Directive, Token};
 use std::alloc::Global;
 use task_descriptor::name::Name;
 
-/// The registers behind `create=`, and the tokens behind them; none is written `-`.
+/// The registers after `create=`, and the tokens after them; no registers are written `-`.
 fn create_at(tokens: &[Token]) -> Result<(RegSet, &[Token]), StatementFault>
     ensures { Shows (λ x. (x.0, x.1.now)) result (create_at tokens.now) }
 {
@@ -24,7 +24,7 @@ fn create_at(tokens: &[Token]) -> Result<(RegSet, &[Token]), StatementFault>
     }
 }
 
-/// What stands behind `targets=`; nothing is written `-`.
+/// The targets after `targets=`; no targets are written `-`.
 fn targets_at(alloc: Global, tokens: &[Token]) -> Result<Vec<Operand>, StatementError>
     ensures { Gives (λ places. places.items) result (targets_at tokens.now) }
 {
@@ -34,7 +34,7 @@ fn targets_at(alloc: Global, tokens: &[Token]) -> Result<Vec<Operand>, Statement
     }
 }
 
-/// The tokens behind a word and `=`.
+/// The tokens after a word and `=`.
 fn after_word<'a>(word: &[u8], tokens: &'a [Token]) -> Result<&'a [Token], StatementFault>
     ensures { Shows (λ x. x.now) result (after_word word.now tokens.now) }
 {
@@ -50,7 +50,7 @@ fn after_word<'a>(word: &[u8], tokens: &'a [Token]) -> Result<&'a [Token], State
     }
 }
 
-/// The name at the front, and the tokens behind it.
+/// The name at the front, and the tokens after it.
 fn name_at(tokens: &[Token]) -> Result<(Name, &[Token]), StatementFault>
     ensures { Shows (λ x. (x.0, x.1.now)) result (name_at tokens.now) }
 {
@@ -141,7 +141,7 @@ fn space_of(tokens: &[Token]) -> Result<Statement, StatementError>
     }
 }
 
-/// The statement of a directive in a section, with the tokens behind it.
+/// The statement of a directive in a section, with the tokens after it.
 pub fn directive_of(
     alloc: Global,
     section: Section,

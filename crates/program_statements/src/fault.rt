@@ -10,7 +10,7 @@ use thiserror::Error;
 /// the faults of a program text; a byte that no text has (2) and bytes that are no token (3) come before.
 #[derive(Clone, Copy, Debug, PartialEq, Eq, Error)]
 pub enum StatementFault {
-    /// 4: the statement is none that the section has.
+    /// 4: the section has no such statement.
     #[error("4 Mnemonic")]
     Mnemonic,
     /// 5: the operands are not of the statement's number and kinds.

@@ -1,4 +1,4 @@
-//! The statements of a program text: what the tokens of one line say, before names are resolved (MIPS
+//! The statements of a program text: what the tokens of one line mean, before names are resolved (MIPS
 //! assembler mnemonics; tasks and marks as in Sohi, Breach, Vijaykumar, ISCA 1995).
 #![tactic(auto)]
 

@@ -28,7 +28,7 @@ fn release_of(tokens: &[Token]) -> Result<Instruction, StatementFault>
     }
 }
 
-/// The instruction of a mnemonic with the tokens behind it.
+/// The instruction of a mnemonic with the tokens after it.
 fn instruction_of(mnemonic: Mnemonic, tokens: &[Token]) -> Result<Instruction, StatementFault>
     ensures { result ≡ instruction_of mnemonic tokens.now }
 {
@@ -45,7 +45,7 @@ fn mnemonic_of(name: &Name) -> Option<Mnemonic>
     Mnemonic::named(name.bytes())
 }
 
-/// The instruction of a name with the tokens behind it, in a section.
+/// The instruction of a name with the tokens after it, in a section.
 fn code_of(section: Section, name: &Name, tokens: &[Token]) -> Result<Statement, StatementFault>
     ensures { result ≡ in_code section (of_mnemonic (mnemonic_named name.now mnemonics) tokens.now) }
 {
@@ -90,9 +90,9 @@ fn with_marks(marks: &[Token], statement: Statement) -> Result<Statement, Statem
     }
 }
 
-/// The statement of a line in this section, which its tokens behind the labels spell, or its first fault:
+/// The statement of a line in this section, which its tokens after the labels spell, or its first fault:
 /// the number and kinds of the operands are judged first, then the ranges of the numbers, then the marks.
-/// Want of memory may be told in place of any of these.
+/// Lack of memory may be reported in place of any of these.
 pub fn statement_of(
     alloc: Global,
     section: Section,

@@ -14,7 +14,7 @@ use program_tokens::token::{Number, Token};
 use smallvec::SmallVec;
 use std::alloc::Global;
 
-/// The set with this register beside its members, register r being bit r.
+/// The set with this register added, register r being bit r.
 fn with_register(set: RegSet, register: Reg) -> RegSet
     ensures { result ≡ bit_or set (2 ^ register) }
 {
@@ -22,7 +22,7 @@ fn with_register(set: RegSet, register: Reg) -> RegSet
     set.insert(register)
 }
 
-/// The set of the registers at the front, and the tokens behind them.
+/// The set of the registers at the front, and the tokens after them.
 #[tactic(auto, unfolding(crate::specs::Statements::registers_at, crate::specs::Statements::registers_of))]
 pub fn registers_at(tokens: &[Token]) -> Result<(RegSet, &[Token]), StatementFault>
     ensures { Shows (λ x. (x.0, x.1.now)) result (registers_at tokens.now) }

@@ -43,7 +43,7 @@ fn with_mark(marks: Marks, token: Token) -> Result<Marks, StatementFault>
     }
 }
 
-/// The marks with these.
+/// The marks with those of these tokens added.
 pub fn marks_after(none: Marks, tokens: &[Token]) -> Result<Marks, StatementFault>
     ensures { result ≡ marks_after none tokens.now }
 {

@@ -38,7 +38,7 @@ pub enum Operands {
     Three(Operand, Operand, Operand),
 }
 
-/// The base of an offset, as `($8)`, and the tokens behind it.
+/// The base of an offset, as `($8)`, and the tokens after it.
 #[tactic(auto, unfolding(crate::specs::Operands::base_at))]
 fn base_at(tokens: &[Token]) -> Option<(Gpr, &[Token])>
     ensures { option_map (λ x. (x.0, x.1.now)) result ≡ base_at tokens.now }
@@ -58,7 +58,7 @@ fn general_of(register: Reg) -> Result<Gpr, StatementFault>
     Gpr::new(register.get()).ok_or(StatementFault::Operand)
 }
 
-/// The first operand of these tokens, and the tokens behind it.
+/// The first operand of these tokens, and the tokens after it.
 #[tactic(auto, unfolding(crate::specs::Operands::operand_at))]
 fn operand_at(tokens: &[Token]) -> Result<(Operand, &[Token]), StatementFault>
     ensures { Shows (λ x. (x.0, x.1.now)) result (operand_at tokens.now) }
@@ -78,7 +78,7 @@ fn operand_at(tokens: &[Token]) -> Result<(Operand, &[Token]), StatementFault>
     }
 }
 
-/// The operands, the first two of which are known, and these tokens stand behind them.
+/// The operands, of which the first two are known and these tokens follow them.
 #[tactic(auto, unfolding(crate::specs::Operands::after_two))]
 fn after_two(first: Operand, second: Operand, tokens: &[Token]) -> Result<Operands, StatementFault>
     ensures { result ≡ after_two first second tokens.now }
@@ -94,7 +94,7 @@ fn after_two(first: Operand, second: Operand, tokens: &[Token]) -> Result<Operan
     }
 }
 
-/// The operands, the first of which is known, and these tokens stand behind it.
+/// The operands, of which the first is known and these tokens follow it.
 #[tactic(auto, unfolding(crate::specs::Operands::after_one))]
 fn after_one(first: Operand, tokens: &[Token]) -> Result<Operands, StatementFault>
     ensures { result ≡ after_one first tokens.now }

@@ -158,7 +158,7 @@ pub struct Task {
 pub enum Statement {
     /// A line with labels alone, or with nothing.
     Empty,
-    /// A label: it stands for the place behind it.
+    /// A label: it stands for the place after it.
     Label(Name),
     /// `.text`, `.data`, `.rodata`: where the lines after it go.
     Section(Section),

@@ -13,7 +13,7 @@ use Rattle.program_tokens.specs.declared.token.LineFault.TheVariants as fault
 pub two_lines : lines (codes "a" ++ 10 ∷ codes "b") ≡ codes "a" ∷ codes "b" ∷ []
 two_lines = refl
 
--- behind the last LF stands an empty line
+-- an empty line follows the last LF
 pub last_newline : lines (codes "a" ++ 10 ∷ []) ≡ codes "a" ∷ [] ∷ []
 last_newline = refl
 
@@ -77,12 +77,12 @@ pub minus_zero : line_tokens (codes "-0") ≡ Ok (Number (Small (pos 0)) ∷ [])
 unfolding line_tokens tokens_after token_of kind_of number_of magnitude_of number_in register_of register_named
 minus_zero = refl
 
--- a `_` behind digits begins a name
+-- a `_` after digits begins a name
 pub underscore : line_tokens (codes "1_") ≡ Ok (Number (Small (pos 1)) ∷ Name (codes "_") ∷ [])
 unfolding line_tokens tokens_after token_of kind_of number_of magnitude_of number_in register_of register_named
 underscore = refl
 
--- a letter behind digits is a fault
+-- a letter after digits is a fault
 pub letter : line_tokens (codes "1a") ≡ Err fault.Token
 unfolding line_tokens tokens_after token_of kind_of number_of magnitude_of number_in register_of register_named
 letter = refl

@@ -1,4 +1,4 @@
--- The tokens of a line of a program text (own format, in the manner of the MIPS assemblers): the longest
+-- The tokens of a line of a program text (in the manner of the MIPS assemblers): the longest
 -- is taken, from left to right.
 use Rattle.std.specs.Prelude.{ℕ, zero, suc, List, [], ◌∷◌, Option, Some, None, Result, Ok, Err, Bool, false, length, drop, slice_index, codes, if◌then◌else◌, ◌==◌, ◌&&◌, ◌||◌, take_while}
 use Rattle.std.specs.List.{list_all}
@@ -52,7 +52,7 @@ kind_of b after =
     else (if b == byte "!" then kind.Mark
     else kind.Sign)))))
 
--- With which bytes each kind goes on, as far as they reach.
+-- The bytes with which each kind continues, as far as they reach.
 abbrev pub goes_on : Kind → ℕ → Bool
 goes_on kind.Name b = is_name_byte b
 goes_on kind.Register b = is_name_byte b
@@ -111,8 +111,8 @@ with_token None after = Err fault.Token
 with_token (Some first) (Err fault) = Err fault
 with_token (Some first) (Ok others) = Ok (first ∷ others)
 
--- The tokens of a text behind its first `taken` bytes, which belong to a token before them: blanks are
--- passed over, a `#` ends the text, and each token takes as many bytes as its kind goes on with.
+-- The tokens of a text after its first `taken` bytes, which belong to a token before them: blanks are
+-- passed over, a `#` ends the text, and each token takes as many bytes as its kind continues with.
 unfoldable pub tokens_after : ℕ → List ℕ → Result (List Token) LineFault
 tokens_after taken [] = Ok []
 tokens_after (suc taken) (b ∷ bs) = tokens_after taken bs

@@ -1,4 +1,4 @@
--- Numbers in a program text (own format; hexadecimal as the MIPS assemblers write it).
+-- Numbers in a program text (hexadecimal as the MIPS assemblers write it).
 use Rattle.std.specs.Prelude.{ℕ, ℤ, pos, neg_ℤ, List, [], ◌∷◌, Option, Some, None, Bool, false, length, drop, slice_index, codes, if◌then◌else◌, ◌==◌, ◌&&◌, ◌^◌, nat_lt, nat_eq}
 use Rattle.std.specs.List.{list_all, starts_with}
 use Rattle.std.specs.Option.{option_map}
@@ -23,7 +23,7 @@ unfoldable pub magnitude_of : List ℕ → Option ℕ
 magnitude_of text =
     if starts_with nat_eq text (codes "0x") then number_in 16 (drop 2 text) else number_in 10 text
 
--- A number from 2^40 on is beyond every range of the grammar, so its size is not kept.
+-- A number whose magnitude is 2^40 or more is beyond every range of the grammar, so its size is not kept.
 abbrev pub limited : ℕ → ℤ → Number
 limited magnitude z = if nat_lt magnitude (2 ^ 40) then Small z else Large
 

@@ -1,4 +1,4 @@
--- What may stand behind the `$` of a register.
+-- What may follow the `$` of a register.
 use Rattle.std.specs.Prelude.{ℕ, List, [], ◌∷◌, Option, Some, None, Bool, length, slice_index, codes, if◌then◌else◌, ◌==◌, ◌&&◌, nat_lt, nat_le}
 use Rattle.std.specs.List.{position}
 use Rattle.std.specs.Option.{option_and_then}

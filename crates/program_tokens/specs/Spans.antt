@@ -1,4 +1,4 @@
--- Where the tokens of a line stand (own format): the tokens are those of the grammar, taken from left to
+-- Where the tokens of a line stand: the tokens are those of the grammar, taken from left to
 -- right in the same way.
 use Rattle.std.specs.Prelude.{ℕ, zero, suc, ◌+◌, List, [], ◌∷◌, length, if◌then◌else◌, ◌==◌, take_while}
 use Rattle.std.specs.Str.{byte}
@@ -6,7 +6,7 @@ use Rattle.std.specs.Str.Lines.{strip_carriage_return}
 use Rattle.program_tokens.specs.Grammar.{is_blank, kind_of, goes_on}
 use Rattle.program_tokens.specs.declared.span.TokenSpan.{TokenSpan}
 
--- The places of the tokens of a text behind its first `taken` bytes, which belong to a token before them;
+-- The places of the tokens of a text after its first `taken` bytes, which belong to a token before them;
 -- `column` is that of the text's first byte. What is no token has a place as well.
 unfoldable pub spans_after : (column taken : ℕ) → List ℕ → List TokenSpan
 spans_after column taken [] = []

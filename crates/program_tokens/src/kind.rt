@@ -1,4 +1,4 @@
-//! How each kind of token begins and goes on.
+//! How each kind of token begins and continues.
 
 ghost use Rattle.std.specs.Prelude.{◌≡◌, length, take_while};
 ghost use Rattle.program_tokens.specs.Grammar.{is_text_byte, is_blank, is_name_start, is_name_byte, begins_number, kind_of, goes_on};
@@ -76,7 +76,7 @@ pub(crate) fn kind_of(first: u8, after: &[u8]) -> Kind
     }
 }
 
-/// With how many of these bytes a token of this kind goes on.
+/// How many of these bytes continue a token of this kind.
 pub(crate) fn run_len(kind: Kind, bytes: &[u8]) -> usize
     ensures { result ≡ length (take_while (goes_on kind) bytes.now) }
 {

@@ -60,7 +60,7 @@ fn has_leading_zero(word: &[u8]) -> bool
     word.len() > 1 && word[0] == b'0'
 }
 
-/// The register that a word behind a `$` spells.
+/// The register that a word after a `$` spells.
 #[tactic(auto, unfolding(crate::specs::Registers::register_of))]
 pub(crate) fn register_of(word: &[u8]) -> Option<Reg>
     ensures { result ≡ register_of word.now }

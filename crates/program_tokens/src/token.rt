@@ -1,4 +1,4 @@
-//! The tokens of a program text (own grammar, in the manner of the MIPS assemblers).
+//! The tokens of a program text (in the manner of the MIPS assemblers).
 
 ghost use Rattle.std.specs.Prelude.{◌≡◌};
 ghost use Rattle.program_tokens.specs.declared.token.TokenFault.TheVariants.{OutOfMemory};
@@ -33,7 +33,7 @@ pub enum Token {
     Colon,
     /// `=`
     Equals,
-    /// A `-` with no digit directly behind it.
+    /// A `-` with no digit directly after it.
     Minus,
 }
 
@@ -53,7 +53,7 @@ impl Default for Number {
     }
 }
 
-/// What a directive's letters say.
+/// What a directive's letters mean.
 #[derive(Clone, Copy, Debug, PartialEq, Eq)]
 pub enum Directive {
     /// `.start`
@@ -76,12 +76,12 @@ pub enum Directive {
     Unknown,
 }
 
-/// What a mark's letters say (the 1995 paper, section 2.2: forward and stop bits).
+/// What a mark's letters mean (the 1995 paper, section 2.2: forward and stop bits).
 #[derive(Clone, Copy, Debug, PartialEq, Eq)]
 pub enum Mark {
     /// `!f`: the instruction forwards its result.
     Forward,
-    /// `!s`: the task stops behind the instruction.
+    /// `!s`: the task stops after the instruction.
     Always,
     /// `!st`: the task stops where the branch is taken.
     Taken,

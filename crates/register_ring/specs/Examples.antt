@@ -13,7 +13,7 @@ use Rattle.register_ring.specs.Ports.{Ports, arrived_of, sent_of, arrived_fresh,
 abbrev pub head_words : List ℕ
 head_words = 0 ∷ range_with_len 101 33
 
--- behind a task that may write registers 8, 31 and LO these are reserved
+-- after a task that may write registers 8, 31 and LO, these are reserved
 abbrev pub reserving : Words
 reserving = arrived_fresh head_words 0x280000100
 
@@ -38,11 +38,11 @@ arrives = refl
 pub others_wait : put 8 2 reserving 31 ≡ None
 others_wait = refl
 
--- what has arrived lies within what has arrived once one more register has
+-- what has arrived is contained in what has arrived after one more register
 pub within_more : AllIn reserving (put 8 2 reserving)
 within_more r word is = grind (arith, nat_tests, is)
 
--- and not where the same register has arrived with another word
+-- but not where the same register has arrived with another word
 pub not_within : AllIn (put 8 2 no_pairs) (put 8 3 no_pairs) → ⊥
 not_within within = let e = within 8 2 refl in cc
 
@@ -67,21 +67,21 @@ not_arrived = refl
 pub not_sent : sent_of port 8 ≡ None
 not_sent = refl
 
--- a register stays as it was sent first
+-- a register stays as it was first sent
 pub first_stays : put_first 9 42 (sent_of port) 9 ≡ Some 5
 first_stays = refl
 
 pub sent_now : put_first 8 42 (sent_of port) 8 ≡ Some 42
 sent_now = refl
 
--- of registers 8 and 9 in the create mask what was sent is passed on, and not what arrived
+-- for registers 8 and 9 in the create mask, what was sent is passed on, not what arrived
 pub passes_sent : passed 0x300 port 9 ≡ Some 5
 passes_sent = refl
 
 pub holds_arrived : passed 0x300 port 8 ≡ None
 holds_arrived = refl
 
--- of any other register what arrived, and not what was sent
+-- for any other register, what arrived, not what was sent
 pub passes_arrived : passed 0x300 port 7 ≡ Some 1
 passes_arrived = refl
 

@@ -1,5 +1,5 @@
 -- Words for some of the registers: pairs of a register and a word, at most one for each register,
--- kept as the set of the registers that have one beside a word for each register (own).
+-- kept as the set of the registers that have one, alongside a word for each register.
 use Rattle.std.specs.Prelude.{ℕ, List, nat_eq, if◌then◌else◌, slice_index, Some, None}
 use Rattle.std.specs.Option.{option_or}
 use Rattle.mips_instructions.specs.Words.{has}
@@ -16,6 +16,6 @@ pairs held r = if has held.set r then Some (slice_index held.words r) else None
 abbrev pub no_pairs : Words
 no_pairs r = None
 
--- the pairs with one for a register put in, unless it has one
+-- the pairs with one added for a register, unless it already has one
 abbrev pub put_first : (r word : ℕ) → Words → Words
 put_first r word words s = option_or (words s) (if nat_eq s r then Some word else None)

@@ -1,5 +1,5 @@
--- What stands between a unit and its neighbours on the ring (ISCA 1995, section 2.2; own in form):
--- the registers that arrived from before it, and those that it sent on.
+-- What stands between a unit and its neighbours on the ring (ISCA 1995, section 2.2; the form is ours):
+-- the registers that arrived from its predecessor, and those that it sent on.
 use Rattle.std.specs.Prelude.{ℕ, List, nat_lt, if◌then◌else◌, slice_index, Some, None}
 use Rattle.std.specs.Option.{option_or}
 use Rattle.mips_instructions.specs.Words.{has}
@@ -10,7 +10,7 @@ pub record Ports : Type 0 where
   pub arrived : Held
   pub sent : Held
 
--- what arrived; a number that is no register stands for one that arrived with 0
+-- what arrived; a number that is not a register stands for one that arrived with 0
 abbrev pub arrived_of : Ports → Words
 arrived_of port r = if nat_lt r 34 then pairs port.arrived r else Some 0
 
@@ -21,7 +21,7 @@ sent_of port r = pairs port.sent r
 abbrev pub arrived_fresh : (words : List ℕ) → (accum : ℕ) → Words
 arrived_fresh words accum r = if has accum r then None else Some (slice_index words r)
 
--- what arrived, and for each other register its word of these
+-- what arrived, and for each other register its word from these
 abbrev pub filled_with : (words : List ℕ) → Words → Words
 filled_with words arrived r = option_or (arrived r) (Some (slice_index words r))
 

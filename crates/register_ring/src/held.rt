@@ -4,7 +4,7 @@ use crate::members::next_member;
 use mips_instructions::number::{REGISTERS, Reg, RegSet};
 use std::marker::Model;
 
-/// Words for some of the registers, at most one for each: a mask with an array.
+/// Words for some of the registers, at most one for each: a mask and an array.
 #[derive(Clone, Copy, Debug)]
 pub struct RegisterWords {
     set: RegSet,
@@ -57,7 +57,7 @@ impl RegisterWords {
         ensures value { result ≡ self.now.set }
         ensures range { result < 2 ^ 34 }
     {
-        // The number of a set tells its range.
+        // The number of a set gives its range.
         let _ = self.set.bits();
         self.set
     }
@@ -74,7 +74,7 @@ impl RegisterWords {
         }
     }
 
-    /// Gives a register a word, in place of the one that it may have.
+    /// Gives a register a word, replacing any that it has.
     #[inline]
     pub fn put(&mut self, register: Reg, word: u32)
         ensures { pairs self.new ≡ put register word (pairs self.old) }
@@ -83,7 +83,7 @@ impl RegisterWords {
         self.words[usize::from(register.get())] = word;
     }
 
-    /// Gives each register without a word its word of these.
+    /// Gives each register without a word its word from these.
     pub fn fill(&mut self, words: &[u32; 34])
         ensures { (r : ℕ) → r < 34 → pairs self.new r ≡ option_or (pairs self.old r) (Some (slice_index words.now r)) }
     {
@@ -100,7 +100,7 @@ impl RegisterWords {
         self.set.is_subset(same)
     }
 
-    /// Whether the same registers have a word here and there, and the same one.
+    /// Whether the same registers have a word here and there, with equal words.
     pub fn is_same(&self, other: &RegisterWords) -> bool
         ensures { IsTrue result ↔ (pairs self.now ≡ pairs other.now) }
     {
@@ -125,7 +125,7 @@ fn all_registers() -> RegSet
     }
 }
 
-/// Whether all words are the same. Each is looked at, without a branch, so that several are compared at
+/// Whether all words are equal. Every word is looked at, without a branch, so that several are compared at
 /// once.
 #[inline]
 fn are_same(words: &[u32; 34], others: &[u32; 34]) -> bool
@@ -149,8 +149,8 @@ fn differing(words: &[u32; 34], others: &[u32; 34]) -> RegSet
     each_differing(words, others)
 }
 
-/// The same. Each register is looked at, without a branch: that takes less time than to go from one member
-/// of a set to the next.
+/// Like `differing`, but always looks at each register, without a branch: that takes less time than going
+/// from one member of a set to the next.
 fn each_differing(words: &[u32; 34], others: &[u32; 34]) -> RegSet
     ensures { (r : ℕ) → has result r ≡ not (slice_index words.now r == slice_index others.now r) }
 {

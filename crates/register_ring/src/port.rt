@@ -16,8 +16,8 @@ use std::marker::Model;
 #[derive(Clone, Copy, Debug, PartialEq, Eq)]
 pub struct AlreadyThere;
 
-/// What a unit took from the unit before it, and what it sent on (ISCA 1995, section 2.2): for each
-/// of the two at most one word for each register.
+/// What a unit took from the unit before it, and what it sent on (ISCA 1995, section 2.2): in each
+/// case at most one word for each register.
 #[derive(Clone, Copy, Debug)]
 pub struct Port {
     arrived: RegisterWords,
@@ -79,7 +79,7 @@ impl Port {
         }
     }
 
-    /// What is passed on of a register: what was sent, if it is in the create mask, else what arrived.
+    /// What is passed on for a register: what was sent, if it is in the create mask, else what arrived.
     #[inline]
     pub fn pass(&self, create: RegSet, register: Reg) -> Option<u32>
         ensures { result ≡ passed create self.now register }
@@ -91,7 +91,7 @@ impl Port {
         }
     }
 
-    /// Each register that has not arrived arrives, with its word of these.
+    /// Each register that has not arrived arrives, with its word from these.
     pub fn fill(&mut self, words: &[u32; 34])
         ensures arrived { arrived_of self.new ≡ filled_with words.now (arrived_of self.old) }
         ensures sent { sent_of self.new ≡ sent_of self.old }
@@ -131,7 +131,7 @@ impl Port {
         self.sent.set()
     }
 
-    /// Takes what another one sent, in place of what it sent itself.
+    /// Replaces what it sent with what another port sent.
     #[inline]
     pub fn take_sent(&mut self, other: &Port)
         ensures arrived { arrived_of self.new ≡ arrived_of self.old }
@@ -141,7 +141,7 @@ impl Port {
     }
 
     /// Whether each register that has arrived here has arrived there with the same word, and both
-    /// have sent the same.
+    /// have sent the same words.
     pub fn is_within(&self, other: &Port) -> bool
         ensures { IsTrue result ↔ (AllIn (arrived_of self.now) (arrived_of other.now) × (sent_of self.now ≡ sent_of other.now)) }
     {

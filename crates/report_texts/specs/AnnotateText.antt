@@ -39,7 +39,7 @@ pub record IsProposalCertificate (p : Listing) (bytes : List ℕ) : Type 0 where
 abbrev pub marks_refused : MarksFault → Report
 marks_refused fault = record { bytes = codes "marks refused: " ++ (marks_fault_text fault ++ 10 ∷ []); status = 1 }
 
--- what is written of an answer; want of memory is none
+-- what is written for an answer; running out of memory is none
 abbrev pub marks_report : Result (List ℕ) MarksFault → Option Report
 marks_report (Ok bytes) = Some (record { bytes = bytes; status = 0 })
 marks_report (Err marks_fault.OutOfMemory) = None
@@ -61,7 +61,7 @@ pub record IsMarksReport (text : List ℕ) (p : Listing) (report : Report) : Typ
 abbrev pub IsWritten : (List ℕ → Type 0) → Report → Type 0
 IsWritten Is report = Is report.bytes × (report.status ≡ 0)
 
--- what `annotate` writes of a text that spells the program p: the proposal, the proposal's certificate, that of
+-- what `annotate` writes for a text that spells the program p: the proposal, the proposal's certificate, that of
 -- the program as it stands, or the text itself with other marks
 abbrev pub IsAnnotation : Emit → List ℕ → Listing → Report → Type 0
 IsAnnotation Text text p report = IsWritten (IsProposalText p) report
@@ -73,6 +73,6 @@ abbrev pub IsAnnotateRead : Emit → List ℕ → Result Listing AsmFault → Re
 IsAnnotateRead emit text (Ok p) report = IsAnnotation emit text p report
 IsAnnotateRead emit text (Err fault) report = report ≡ program_refused fault
 
--- what `annotate` writes of a program text
+-- what `annotate` writes for a program text
 abbrev pub IsAnnotateReport : Emit → List ℕ → Report → Type 0
 IsAnnotateReport emit text report = IsAnnotateRead emit text (parse text) report

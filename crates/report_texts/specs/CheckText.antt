@@ -4,6 +4,6 @@ use Rattle.report_texts.specs.OutputTexts.{Report}
 use Rattle.report_texts.specs.VerdictTexts.{program_accepted}
 use Rattle.report_texts.specs.JudgedTexts.{judged}
 
--- what `check` writes of a program text and the text of its certificate
+-- what `check` writes for a program text and the text of its certificate
 abbrev pub check_text : (program certificate : List ℕ) → Report
 check_text program certificate = judged program_accepted program certificate

@@ -12,7 +12,7 @@ use Rattle.mark_checker.specs.Rules.{all_rules}
 use Rattle.report_texts.specs.OutputTexts.{Report, program_refused}
 use Rattle.report_texts.specs.VerdictTexts.{certificate_refused, program_found}
 
--- what is written of the two texts, or the program in which nothing is found
+-- what is written for the two texts, or the program in which nothing is found
 pub data Judgement : Type 0 where
   refused : Report → Judgement
   accepted : Listing → Judgement
@@ -32,7 +32,7 @@ program_judged (Err fault) certificate = refused (program_refused fault)
 abbrev pub judgement : (program certificate : List ℕ) → Judgement
 judgement program certificate = program_judged (parse program) certificate
 
--- what a job writes that goes on with a program in which nothing is found
+-- what a job writes that continues with a program in which nothing is found
 abbrev pub goes_on : (rest : Listing → Report) → Judgement → Report
 goes_on rest (refused report) = report
 goes_on rest (accepted p) = rest p

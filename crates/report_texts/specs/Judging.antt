@@ -1,4 +1,4 @@
--- What a job goes on with, as a judgement. No public contract but that of `judge` cites it.
+-- What a job continues with, as a judgement. No public contract but that of `judge` cites it.
 use Rattle.std.specs.Prelude.{◌≡◌, ℕ, List, Ok}
 use Rattle.task_descriptor.specs.Listing.{Listing}
 use Rattle.mask_certificate.specs.CertificateText.{cert_text}

@@ -31,7 +31,7 @@ closing_status Running = 3
 closing_status Halted = 0
 closing_status (Trapped trap) = 1
 
--- what every job writes of a text that is no program
+-- what every job writes for a text that is no program
 abbrev pub program_refused : AsmFault → Report
 program_refused fault = record {
   bytes = codes "program refused: " ++ (asm_fault_text fault ++ 10 ∷ []);

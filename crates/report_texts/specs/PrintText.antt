@@ -10,6 +10,6 @@ abbrev pub print_read : Result Listing AsmFault → Report
 print_read (Ok p) = record { bytes = canonical_text p; status = 0 }
 print_read (Err fault) = program_refused fault
 
--- what `print` writes of a program text
+-- what `print` writes for a program text
 abbrev pub print_text : List ℕ → Report
 print_text text = print_read (parse text)

@@ -6,7 +6,7 @@ use Rattle.annotated_asm.specs.declared.fault.AsmFault.{AsmFault}
 use Rattle.annotated_asm.specs.ProgramText.{parse}
 use Rattle.report_texts.specs.OutputTexts.{Report, words_text, closing_text, closing_status, program_refused}
 
--- what `seq` writes of a program, with at most this many instructions
+-- what `seq` writes for a program, with at most this many instructions
 abbrev pub run_report : ℕ → Listing → Report
 run_report budget p =
     let end = plain (input p) budget in
@@ -19,6 +19,6 @@ abbrev pub seq_read : ℕ → Result Listing AsmFault → Report
 seq_read budget (Ok p) = run_report budget p
 seq_read budget (Err fault) = program_refused fault
 
--- what `seq` writes of a program text
+-- what `seq` writes for a program text
 abbrev pub seq_text : ℕ → List ℕ → Report
 seq_text budget text = seq_read budget (parse text)

@@ -9,7 +9,7 @@ use Rattle.mark_checker.specs.Numbers.{number_of}
 use Rattle.mark_checker.specs.declared.finding.Finding.{Finding}
 use Rattle.report_texts.specs.OutputTexts.{Report}
 
--- what every job with a certificate writes of a text that is none
+-- what every job with a certificate writes for a text that is none
 abbrev pub certificate_refused : CertFault → Report
 certificate_refused fault = record {
   bytes = codes "certificate refused: " ++ (cert_fault_text fault ++ 10 ∷ []);
@@ -32,7 +32,7 @@ finding_text p finding =
     name_at (slice_get p.tasks finding.task) ++ (codes " " ++ (decimal finding.index ++ (codes " rule "
     ++ (decimal (number_of finding.rule) ++ (codes " " ++ (register_text finding.reg ++ 10 ∷ []))))))
 
--- what every job with a certificate writes of findings, of which there are some
+-- what every job with a certificate writes for findings, of which there is at least one
 abbrev pub program_found : Listing → List Finding → Report
 program_found p findings = record {
   bytes = flat_map (finding_text p) findings ++ (codes "refused " ++ (decimal (length findings) ++ 10 ∷ []));

@@ -15,7 +15,7 @@ use mask_certificate::writing::write;
 use std::alloc::{AllocError, Global};
 use task_descriptor::program::Program;
 
-/// What `annotate` writes of a program text.
+/// What `annotate` writes for a program text.
 pub fn annotate(alloc: Global, emit: Emit, text: &[u8]) -> Result<JobReport, AllocError>
     ensures { IfOk result (λ report. IsAnnotateReport emit text.now report) }
 {
@@ -26,7 +26,7 @@ pub fn annotate(alloc: Global, emit: Emit, text: &[u8]) -> Result<JobReport, All
     }
 }
 
-// What `annotate` writes of a text that spells a program.
+// What `annotate` writes for a text that spells a program.
 fn annotation(
     alloc: Global,
     emit: Emit,

@@ -29,7 +29,7 @@ use std::thread::Threads;
 use task_descriptor::program::Program;
 use text_pieces::text::Text;
 
-/// What `check` writes of a program text and the text of its certificate. This many threads share the
+/// What `check` writes for a program text and the text of its certificate. This many threads share the
 /// work, and it is the same for any number of them. One thread alone makes the least certificate.
 pub fn check<R: Threads + Sync>(
     rt: &R,
@@ -90,7 +90,7 @@ fn check_by_text<R: Threads + Sync>(
     }
 }
 
-// Reads the program, and the certificate as far as that goes without it. Where the certificate is shared
+// Reads the program, and the certificate as far as is possible without it. Where the certificate is shared
 // out, a thread of its own reads the program meanwhile.
 fn read_texts<'a, R: Threads + Sync>(
     rt: &R,

@@ -24,7 +24,7 @@ use std::alloc::{AllocError, Global};
 use task_descriptor::program::Program;
 use text_pieces::text::Text;
 
-/// What a job with a certificate goes on with.
+/// What a job with a certificate continues with.
 #[derive(Debug, Drop)]
 pub enum Judged {
     /// A text is refused, or the rules find something: what the job writes.
@@ -34,7 +34,7 @@ pub enum Judged {
 }
 
 /// Judges a program text, then the text of its certificate, and then the one by the other. With the least
-/// certificate it comes to what it comes to with the text that `annotate --emit keep` writes.
+/// certificate the result is the same as with the text that `annotate --emit keep` writes.
 pub fn judge(alloc: Global, source: CertificateSource, texts: &Texts) -> Result<Judged, AllocError>
     ensures { IfOk result (λ judged. OfCertificate source texts.now.program.items texts.now.certificate (λ certificate.
         as_judgement judged ≡ judgement texts.now.program.items certificate)) }
@@ -55,7 +55,7 @@ pub(crate) fn keep(alloc: Global, program: &Program) -> Result<Cert, AllocError>
 {
     written_is_read();
     let cert = certify(alloc, program)?;
-    // That its lists are those of a certificate is what any of them says.
+    // Any one of its lists shows that they are those of a certificate.
     cert.list(0);
     Ok(cert)
 }
@@ -80,7 +80,7 @@ fn judge_program(alloc: Global, program: Program, certificate: &Text) -> Result<
     }
 }
 
-/// What the text of a certificate says of a program: the certificate, or the fault of its text.
+/// What the text of a certificate gives for a program: the certificate, or the fault of its text.
 pub fn read(alloc: Global, certificate: &Text, program: &Program) -> Result<Cert, CertFault>
     ensures { (result ≡ Err CertFault.OutOfMemory) ⊎ (result ≡ cert_parse certificate.now (names_of program.now)) }
 {

@@ -7,7 +7,7 @@ use annotated_asm::assembler::assemble;
 use annotated_asm::fault::AsmFault;
 use std::alloc::{AllocError, Global};
 
-/// What `print` writes of a program text.
+/// What `print` writes for a program text.
 pub fn print(alloc: Global, text: &[u8]) -> Result<JobReport, AllocError>
     ensures { IfOk result (λ report. report ≡ print_text text.now) }
 {

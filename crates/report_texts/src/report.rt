@@ -1,4 +1,4 @@
-//! What a job writes and the status, and the texts that refuse.
+//! What a job writes and the status, and the texts of refusals.
 ghost use Rattle.std.specs.Prelude.{◌≡◌, IfOk};
 ghost use Rattle.report_texts.specs.OutputTexts.{program_refused};
 
@@ -44,7 +44,7 @@ impl JobReport {
     }
 }
 
-/// What every job writes of a text that is no program.
+/// What every job writes for a text that is no program.
 pub fn refused_program(alloc: Global, fault: AsmFault) -> Result<JobReport, AllocError>
     ensures { IfOk result (λ report. report ≡ program_refused fault) }
 {

@@ -11,7 +11,7 @@ use mips_plain::outcome::OutOfMemory;
 use std::alloc::{AllocError, Global};
 use task_descriptor::program::Program;
 
-/// What `seq` writes of a program text.
+/// What `seq` writes for a program text.
 pub fn seq(alloc: Global, budget: Budget, text: &[u8]) -> Result<JobReport, AllocError>
     ensures { IfOk result (λ report. report ≡ seq_text budget text.now) }
 {
@@ -22,7 +22,7 @@ pub fn seq(alloc: Global, budget: Budget, text: &[u8]) -> Result<JobReport, Allo
     }
 }
 
-// What `seq` writes of a program.
+// What `seq` writes for a program.
 fn run(alloc: Global, budget: Budget, program: &Program) -> Result<JobReport, AllocError>
     ensures { IfOk result (λ report. report ≡ run_report budget program.now) }
 {

@@ -11,7 +11,7 @@ use mips_instructions::number::Reg;
 use std::alloc::{AllocError, Global};
 use task_descriptor::program::Program;
 
-/// What every job with a certificate writes of a text that is none.
+/// What every job with a certificate writes for a text that is none.
 pub fn refused_certificate(alloc: Global, fault: CertFault) -> Result<JobReport, AllocError>
     ensures { IfOk result (λ report. report ≡ certificate_refused fault) }
 {
@@ -69,7 +69,7 @@ fn write_findings(
     Ok(())
 }
 
-/// What every job with a certificate writes of findings, of which there are some.
+/// What every job with a certificate writes for findings, of which there is at least one.
 pub fn found_program(
     alloc: Global,
     program: &Program,

@@ -1,4 +1,4 @@
--- Lives added to the shares of stretches one by one, and what comes of stretches counted. For private functions.
+-- Lives added to the shares of stretches one by one, and counts of what happens in stretches. For private functions.
 use Rattle.std.specs.List.{range_with_len}
 use Rattle.std.specs.Prelude.{◌≡◌, ℕ, ◌+◌, ◌*◌, ◌<◌, List, length, map, slice_index, slice_set, nat_lt, if◌then◌else◌, ◌^◌}
 use Rattle.task_lives.specs.declared.life.Life.{Life}
@@ -41,7 +41,7 @@ pub record HasSums (len : ℕ) (places : List ℕ) (lives : List Life) (sums : S
   pub executed : sums.executed.items ≡ map (occurrences (map (stretch_with len) places)) (range_with_len 0 290)
   pub ended : sums.ended.items ≡ map (occurrences (map (end_part len) lives)) (range_with_len 0 1160)
 
--- what is said of a stretch, by the sums
+-- the title of a stretch, from the sums
 abbrev pub hover_by : Counted → (events : ℕ) → (executed ended : List ℕ) → (stretch : ℕ) → Hover
 hover_by counts events executed ended stretch =
     OfStretch counts (stretch * length_of events + 1) (end_of events stretch) (record {

@@ -1,4 +1,4 @@
--- Worked examples, computed by the checker: lengths, titles, a bar, marks, a stretch and what is said of it.
+-- Worked examples, computed by the checker: lengths, titles, a bar, marks, a stretch and its title.
 use Rattle.std.specs.Prelude.{◌≡◌, ℕ, ◌+◌, ◌*◌, [], ◌∷◌, ◌++◌, codes, replicate}
 use Rattle.std.specs.Fmt.{digits}
 use Rattle.std.proofs.Common.{refl}

@@ -1,4 +1,4 @@
--- The parts of the file that every picture has: what a colour says, a pattern or a dashed border says too.
+-- The parts of the file that every picture has: what a colour shows, a pattern or a dashed border shows too.
 use Rattle.std.specs.Prelude.{ℕ, List, [], ◌∷◌, ◌++◌, codes, flat_map}
 
 -- lines, each with its LF

@@ -66,12 +66,12 @@ heading_text name units events =
 abbrev pub opening_text : (name : List ℕ) → (units events : ℕ) → List ℕ
 opening_text name units events = front_text name units events ++ heading_text name units events
 
--- the text of the picture of a run of so many events, by its shapes
+-- the text of the picture of a run of the given number of events, from its shapes
 abbrev pub file_text : (name : List ℕ) → List Descriptor → (units events : ℕ) → List Shape → List ℕ
 file_text name tasks units events shapes =
     opening_text name units events ++ (shapes_text tasks shapes ++ (codes "</svg>" ++ 10 ∷ []))
 
--- the whole text, of a history of a program of this name, which may be empty, on so many units
+-- the whole text, of a history of a program of this name, which may be empty, on the given number of units
 unfoldable pub picture_text : (name : List ℕ) → Listing → (units : ℕ) → List Event → List ℕ
 picture_text name p units history =
     file_text name p.tasks units (length history) (shapes_of p.tasks units history (lives_of units history))

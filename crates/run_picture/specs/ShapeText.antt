@@ -90,7 +90,7 @@ counted_text counted.Steps = codes "step"
 abbrev pub when_text : Counted → (number : ℕ) → List ℕ
 when_text counts number = codes "<title>" ++ (counted_text counts ++ (codes " " ++ (decimal number ++ codes ": ")))
 
--- a stretch from one event or step to another, and what comes of it
+-- a stretch from one event or step to another, and what happens in it
 abbrev pub stretch_text : Counted → (first last : ℕ) → List ℕ
 stretch_text counts first last =
     if nat_eq first last then codes "<title>" ++ (counted_text counts ++ (codes " " ++ decimal first))

@@ -1,4 +1,4 @@
--- Shapes that say nothing where a pointer rests on them.
+-- Shapes without a title.
 use Rattle.std.specs.Prelude.{ℕ}
 use Rattle.run_picture.specs.declared.shape.Shape.{Shape}
 use Rattle.run_picture.specs.declared.shape.Style.{Style}

@@ -1,5 +1,5 @@
--- What comes of a stretch of a long run: how many instructions are executed in it, and how many tasks retire, are squashed
--- or are dropped.
+-- What happens in a stretch of a long run: how many instructions are executed in it, and how many tasks retire, are
+-- squashed or are dropped.
 use Rattle.std.specs.Prelude.{ℕ, ◌+◌, ◌*◌, ◌/◌, List, [], ◌∷◌, ◌++◌, map, nat_eq, if◌then◌else◌}
 use Rattle.std.specs.List.{count_by}
 use Rattle.machine_model.specs.declared.event.Event.{Event}
@@ -31,7 +31,7 @@ stretch_with length place = place / length
 abbrev pub end_part : (length : ℕ) → Life → ℕ
 end_part length life = life.last / length * 4 + part_of life.ending
 
--- how often a number is there
+-- how often a number occurs
 abbrev pub occurrences : (numbers : List ℕ) → (number : ℕ) → ℕ
 occurrences numbers number = count_by (λ n. nat_eq n number) numbers
 

@@ -53,7 +53,7 @@ end_of events stretch = min (stretch * length_of events + length_of events) even
 abbrev pub height_of : (events stretch count : ℕ) → ℕ
 height_of events stretch count = count * 4000 / max (end_of events stretch - stretch * length_of events) 1
 
--- what is said of a stretch of a run of so many events or steps; they are numbered from 1
+-- the title of a stretch of a run of the given number of events or steps, which are numbered from 1
 abbrev pub hover_of : Counted → (events : ℕ) → (places : List ℕ) → List Life → (stretch : ℕ) → Hover
 hover_of counts events places lives stretch =
     OfStretch counts (stretch * length_of events + 1) (end_of events stretch) (tally_in (length_of events) places lives stretch)
@@ -75,7 +75,7 @@ rectangle_of events part below here hover =
 abbrev pub column_part : (events part below here : ℕ) → Hover → List Shape
 column_part events part below here hover = if nat_lt 0 here then rectangle_of events part below here hover ∷ [] else []
 
--- of so many units, of the places where instructions are executed, and of the lives
+-- for the given number of units, the places where instructions are executed, and the lives
 abbrev pub stretches_of : Counted → (units events : ℕ) → (places : List ℕ) → List Life → List Shape
 stretches_of counts units events places lives =
     flat_map (λ part. column_part events part (below_of (length_of events) lives part) (share_of (length_of events) lives part) (hover_of counts events places lives (stretch_at part)))

@@ -44,7 +44,7 @@ pub fn width(events: u32, life: Life) -> u64
     right.saturating_sub(left)
 }
 
-/// Adds the names of the tasks on the bars that have room for one. An error says that memory was refused.
+/// Adds the names of the tasks on the bars that have room for one. An error means that memory was refused.
 pub fn push_names(
     shapes: &mut Vec<Shape>,
     tasks: &[Descriptor],

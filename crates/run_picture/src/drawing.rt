@@ -30,10 +30,10 @@ use task_lives::tally::add_up;
 /// The most events that are drawn singly; more are summed by stretches.
 pub const MOST_SINGLE: usize = 2_000;
 
-/// Draws the history of a run of a program of this name, which may be empty, on so many units, at least one: one
-/// SVG file, with no script and no font of its own. The history has at most 1,000,000 events, and no event of it is at a position where there
-/// is no unit; so it is with every history of a machine (`task_lives::laws::histories_fit`). The error says
-/// that memory was refused.
+/// Draws the history of a run of a program of this name, which may be empty, on `units` units, at least one: one
+/// SVG file, with no script and no font of its own. The history has at most 1,000,000 events, and no event of it is
+/// at a position where there is no unit; this holds for every history of a machine
+/// (`task_lives::laws::histories_fit`). An error means that memory was refused.
 pub fn draw(
     alloc: Global,
     program: &Program,
@@ -195,14 +195,14 @@ fn write_heading(text: &mut String, name: &str, units: u32, events: usize) -> Re
     text.push_str("</text>\n")
 }
 
-/// How high the picture of so many units is, in pixels.
+/// How high the picture of `units` units is, in pixels.
 pub fn height(units: u32) -> u64
     ensures { result ≡ height_of units }
 {
     (bottom(units) + 9_200) / 100
 }
 
-/// Writes the beginning of the root element. An error says that memory was refused.
+/// Writes the beginning of the root element. An error means that memory was refused.
 pub fn write_root(text: &mut String, height: u64) -> Result<(), AllocError>
     ensures { OnOk result (string_bytes text.new ≡ string_bytes text.old ++ root_text height) }
 {

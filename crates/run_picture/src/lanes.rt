@@ -1,4 +1,4 @@
-//! The shapes round the bars: what the lives came to, lanes, the axis and a note.
+//! The shapes round the bars: the tally of the lives, lanes, the axis and a note.
 
 ghost use Rattle.std.specs.Prelude.{◌≡◌, ◌++◌, ◌<◌, OnOk};
 ghost use Rattle.run_picture.specs.Frame.{axis_of, lane_of, lanes_of, note_of, number_at, numbers_of, sums_of};
@@ -8,7 +8,7 @@ use crate::shape::{Geometry, LabelText, Shape, Style};
 use std::alloc::AllocError;
 use task_lives::tally::Tally;
 
-/// Adds the line below the title: what the lives came to.
+/// Adds the line below the title: the tally of the lives.
 pub(crate) fn push_sums(shapes: &mut Vec<Shape>, tally: Tally) -> Result<(), AllocError>
     ensures { OnOk result (shapes.new.items ≡ shapes.old.items ++ sums_of tally) }
 {
@@ -17,7 +17,7 @@ pub(crate) fn push_sums(shapes: &mut Vec<Shape>, tally: Tally) -> Result<(), All
     Ok(())
 }
 
-/// Adds the lanes of `units` units. An error says that memory was refused.
+/// Adds the lanes of `units` units. An error means that memory was refused.
 pub fn push_lanes(shapes: &mut Vec<Shape>, units: u32) -> Result<(), AllocError>
     ensures { OnOk result (shapes.new.items ≡ shapes.old.items ++ lanes_of units) }
 {
@@ -52,7 +52,7 @@ pub(crate) fn push_axis(shapes: &mut Vec<Shape>, units: u32, events: u32) -> Res
     push_numbers(shapes, units, events, axis_step(events).max(1))
 }
 
-/// Adds the numbers of the axis, `step` events apart. An error says that memory was refused.
+/// Adds the numbers of the axis, `step` events apart. An error means that memory was refused.
 pub fn push_numbers(
     shapes: &mut Vec<Shape>,
     units: u32,
@@ -86,7 +86,7 @@ fn push_number(
     Ok(())
 }
 
-/// Adds a note below the axis. An error says that memory was refused.
+/// Adds a note below the axis. An error means that memory was refused.
 pub fn push_note(shapes: &mut Vec<Shape>, units: u32, words: LabelText) -> Result<(), AllocError>
     ensures { OnOk result (shapes.new.items ≡ shapes.old.items ++ note_of units words) }
 {

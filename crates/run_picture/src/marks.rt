@@ -57,7 +57,7 @@ pub fn retired_with(retired: u32, event: Event) -> u32
 }
 
 /// Adds the marks of the event in column `number` (from 1) of `count`; `retired` tasks have retired before it. A
-/// column is an event or a step. An error says that memory was refused.
+/// column is an event or a step. An error means that memory was refused.
 pub fn push_mark(
     shapes: &mut Vec<Shape>,
     counted: Counted,

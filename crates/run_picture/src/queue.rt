@@ -5,7 +5,7 @@ ghost use Rattle.machine_model.specs.HeadEvent.{active_after, position_of as pos
 
 use machine_model::event::Event;
 
-/// The position that an event is at, where so many units are at work.
+/// The position of an event, where the given number of units are at work.
 pub fn position_of(active: u64, event: Event) -> u64
     ensures { result ≡ position_of_event active event }
 {
@@ -21,7 +21,7 @@ pub fn position_of(active: u64, event: Event) -> u64
     }
 }
 
-/// How many units are at work after an event, where so many were.
+/// How many units are at work after an event, given how many were before it.
 pub fn active_with(active: u64, event: Event) -> u64
     requires { active < 2 ^ 63 }
     ensures value { result ≡ active_after active event }

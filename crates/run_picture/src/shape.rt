@@ -51,7 +51,7 @@ pub enum Style {
 /// What a label says.
 #[derive(Clone, Copy, Debug, PartialEq, Eq)]
 pub enum LabelText {
-    /// What the lives came to.
+    /// The tally of the lives.
     Sums(Tally),
     /// The number of a unit.
     OfUnit(u32),
@@ -84,7 +84,7 @@ pub enum Counted {
     Steps,
 }
 
-/// What comes of a stretch of events or steps, on all units.
+/// What happens in a stretch of events or steps, on all units.
 #[derive(Clone, Copy, Debug, PartialEq, Eq)]
 pub struct StretchTally {
     /// How many instructions are executed.
@@ -97,7 +97,7 @@ pub struct StretchTally {
     pub dropped: u64,
 }
 
-/// What is said of a shape where a pointer rests on it.
+/// The title of a shape, shown where a pointer rests on it.
 #[derive(Clone, Copy, Debug, PartialEq, Eq)]
 pub enum Hover {
     /// Nothing.
@@ -108,7 +108,7 @@ pub enum Hover {
     OfTransfer(Counted, u32, u8, u32, u32),
     /// In this event or step, numbered from 1, what follows a unit is squashed.
     OfSquash(Counted, u32, u32),
-    /// From this event or step to that one, numbered from 1, this comes of the run.
+    /// From this event or step to that one, numbered from 1, this happens in the run.
     OfStretch(Counted, u64, u64, StretchTally),
 }
 
@@ -132,7 +132,7 @@ pub struct Shape {
     pub style: Style,
     /// Where it is.
     pub form: Geometry,
-    /// What it says where a pointer rests on it.
+    /// Its title, shown where a pointer rests on it.
     pub hover: Hover,
 }
 
@@ -140,7 +140,7 @@ impl Shape {
     ghost use Rattle.std.specs.Prelude.{◌≡◌};
     ghost use Rattle.run_picture.specs.Shapes.{plain as plain_of};
 
-    /// A shape that says nothing where a pointer rests on it.
+    /// A shape without a title.
     pub fn plain(style: Style, form: Geometry) -> Shape
         ensures { result ≡ plain_of style form }
     {

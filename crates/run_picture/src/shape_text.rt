@@ -12,7 +12,7 @@ use std::alloc::AllocError;
 use task_descriptor::descriptor::Descriptor;
 use task_lives::life::{Ending, Life};
 
-/// Writes the elements of shapes, one after the other. An error says that memory was refused.
+/// Writes the elements of shapes, one after the other. An error means that memory was refused.
 pub fn write_shapes(
     text: &mut String,
     tasks: &[Descriptor],
@@ -35,7 +35,7 @@ fn write_shape(text: &mut String, tasks: &[Descriptor], shape: &Shape) -> Result
     write_end(text, tasks, shape.form)
 }
 
-/// Writes the beginning of an element: its style and its place. An error says that memory was refused.
+/// Writes the beginning of an element: its style and its place. An error means that memory was refused.
 pub fn write_beginning(text: &mut String, style: Style, form: Geometry) -> Result<(), AllocError>
     ensures { OnOk result (string_bytes text.new ≡ string_bytes text.old ++ beginning_text (style_text style) form) }
 {
@@ -68,7 +68,7 @@ pub fn write_beginning(text: &mut String, style: Style, form: Geometry) -> Resul
     }
 }
 
-/// Writes the end of an element: what a label says, and the closing tag. An error says that memory was refused.
+/// Writes the end of an element: what a label says, and the closing tag. An error means that memory was refused.
 pub fn write_end(text: &mut String, tasks: &[Descriptor], form: Geometry) -> Result<(), AllocError>
     ensures { OnOk result (string_bytes text.new ≡ string_bytes text.old ++ end_text tasks.now form) }
 {
@@ -83,7 +83,7 @@ pub fn write_end(text: &mut String, tasks: &[Descriptor], form: Geometry) -> Res
     }
 }
 
-/// Writes what a shape says where a pointer rests on it.
+/// Writes the title of a shape, shown where a pointer rests on it.
 fn write_hover(text: &mut String, tasks: &[Descriptor], hover: Hover) -> Result<(), AllocError>
     ensures { OnOk result (string_bytes text.new ≡ string_bytes text.old ++ hover_text tasks.now hover) }
 {
@@ -108,7 +108,7 @@ fn write_hover(text: &mut String, tasks: &[Descriptor], hover: Hover) -> Result<
     }
 }
 
-/// Writes from which event or step to which one a stretch goes, as the beginning of what is said of it.
+/// Writes from which event or step to which one a stretch goes, as the beginning of its title.
 fn write_stretch(
     text: &mut String,
     counted: Counted,
@@ -125,7 +125,7 @@ fn write_stretch(
     }
 }
 
-/// Writes what comes of a stretch, as the end of what is said of it.
+/// Writes what happens in a stretch, as the end of its title.
 fn write_tally(text: &mut String, tally: StretchTally) -> Result<(), AllocError>
     ensures { OnOk result (string_bytes text.new ≡ string_bytes text.old ++ tally_text tally) }
 {
@@ -139,7 +139,7 @@ fn write_tally(text: &mut String, tally: StretchTally) -> Result<(), AllocError>
     )
 }
 
-/// Writes in which event or step something comes, as the beginning of what is said of it.
+/// Writes in which event or step something happens, as the beginning of its title.
 fn write_when(text: &mut String, counted: Counted, number: u32) -> Result<(), AllocError>
     ensures { OnOk result (string_bytes text.new ≡ string_bytes text.old ++ when_text counted number) }
 {
@@ -166,7 +166,7 @@ fn write_life(text: &mut String, name: &str, life: Life) -> Result<(), AllocErro
     write_course(text, life.executed, word_of(life.ending))
 }
 
-/// Writes which task it is, and where, as the beginning of the title of a life. An error says that memory was
+/// Writes which task it is, and where, as the beginning of the title of a life. An error means that memory was
 /// refused.
 pub fn write_place(text: &mut String, name: &str, unit: u32) -> Result<(), AllocError>
     ensures { OnOk result (string_bytes text.new ≡ string_bytes text.old ++ place_text name.now unit) }
@@ -185,7 +185,7 @@ fn write_span(text: &mut String, first: u64, last: u64) -> Result<(), AllocError
     }
 }
 
-/// Writes how many instructions were executed, and the ending, as the end of the title of a life. An error says that
+/// Writes how many instructions were executed, and the ending, as the end of the title of a life. An error means that
 /// memory was refused.
 pub fn write_course(text: &mut String, executed: u32, ending: &str) -> Result<(), AllocError>
     ensures { OnOk result (string_bytes text.new ≡ string_bytes text.old ++ course_text executed ending.now) }

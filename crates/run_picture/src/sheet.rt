@@ -3,7 +3,7 @@
 ghost use Rattle.std.specs.Prelude.{◌≡◌};
 ghost use Rattle.run_picture.specs.FixedText.{style_sheet, marks_legend, stretches_legend};
 
-/// The style of all shapes. What a colour says, a pattern or a dashed border says too.
+/// The style of all shapes. What a colour shows, a pattern or a dashed border shows too.
 const SHEET: &str = "<style>
 text{fill:#1f2933;font-size:14px;pointer-events:none}line{pointer-events:none}
 .title{font-size:24px;font-weight:600}.quiet,.caption{fill:#52606d}.unit{text-anchor:end}.caption,.number{text-anchor:middle}

@@ -1,5 +1,5 @@
-//! What comes of the stretches of a long run: how many instructions are executed in each, and how many tasks retire, are
-//! squashed or are dropped.
+//! What happens in the stretches of a long run: how many instructions are executed in each, and how many tasks retire,
+//! are squashed or are dropped.
 
 ghost use Rattle.std.specs.Prelude.{◌≡◌, ℕ, ◌+◌, ◌<◌, ◌≤◌, ◌++◌, IfOk, OnOk, length, map};
 ghost use Rattle.std.specs.List.{range_with_len};
@@ -12,7 +12,7 @@ use machine_model::event::Event;
 use std::alloc::{AllocError, Global};
 use task_lives::life::{Ending, Life};
 
-/// The numbers, from 0, of the events that execute an instruction. An error says that memory was refused.
+/// The numbers, from 0, of the events that execute an instruction. An error means that memory was refused.
 pub fn executed_places(alloc: Global, events: &[Event]) -> Result<Vec<u32>, AllocError>
     requires { length events.now ≤ most_events }
     ensures places { IfOk result (λ places. places.items ≡ executed_from 0 events.now) }
@@ -122,7 +122,7 @@ fn end_part(span: u32, life: Life) -> usize
     stretch * 4 + part_of(life.ending)
 }
 
-/// How often each number below a limit is there.
+/// How often each number below a limit occurs.
 #[tactic(auto, using(crate::proofs::Occurrences::no_counts))]
 fn counts_of(alloc: Global, limit: usize, numbers: &[usize]) -> Result<Vec<u64>, AllocError>
     requires { length numbers.now ≤ most_events }

@@ -39,8 +39,8 @@ fn ending_of(part: usize) -> Ending
     }
 }
 
-/// Adds the columns of so many units, in a history of so many events or steps, numbered from 0, of which those at these
-/// places execute an instruction. An error says that memory was refused.
+/// Adds the columns of `units` units, in a history of `events` events or steps, numbered from 0, of which those at
+/// these places execute an instruction. An error means that memory was refused.
 pub fn push_stretches(
     alloc: Global,
     shapes: &mut Vec<Shape>,
@@ -66,7 +66,7 @@ pub fn push_stretches(
     Ok(())
 }
 
-/// What is said of the stretch of a part, by the sums.
+/// The title of the stretch of a part, from the sums.
 fn hover_by_sums(counted: Counted, events: u32, sums: &StretchSums, part: usize) -> Hover
     requires executed { length sums.now.executed.items ≡ 290 }
     requires ended { length sums.now.ended.items ≡ 1160 }
@@ -83,7 +83,7 @@ fn hover_by_sums(counted: Counted, events: u32, sums: &StretchSums, part: usize)
     Hover::OfStretch(counted, first, end(events, stretch as u64), tally)
 }
 
-/// The shares of so many parts: how many events of its stretch count for each.
+/// The shares of `parts` parts: how many events of its stretch count for each.
 #[tactic(auto, using(crate::proofs::Shares::no_shares))]
 fn shares_of(alloc: Global, parts: usize, span: u32, lives: &[Life]) -> Result<Vec<u64>, AllocError>
     requires some { 0 < span }

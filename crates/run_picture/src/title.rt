@@ -12,8 +12,8 @@ use std::alloc::AllocError;
 /// How many bytes of a name are shown.
 const MOST_SHOWN: usize = 60;
 
-/// Writes what the file of a picture is called, which counts so many events or steps; it begins with the program's name,
-/// unless that is empty. An error says that memory was refused.
+/// Writes the title element of a picture that counts `count` events or steps; it begins with the program's name, unless
+/// that is empty. An error means that memory was refused.
 pub fn write_called(
     text: &mut String,
     name: &str,
@@ -28,8 +28,8 @@ pub fn write_called(
     text.push_str("</title>\n")
 }
 
-/// Writes what a picture is called, which counts so many events or steps; it begins with the program's name, unless that
-/// is empty. Of a name of more than 60 bytes the first 60 are shown. An error says that memory was refused.
+/// Writes the title of a picture that counts `count` events or steps; it begins with the program's name, unless that
+/// is empty. Of a name of more than 60 bytes the first 60 are shown. An error means that memory was refused.
 pub fn write_title(
     text: &mut String,
     name: &str,

@@ -1,4 +1,4 @@
--- Units that are lent, and bursts that are handed in (own).
+-- Units that are lent, and bursts that are handed in.
 use Rattle.std.specs.Prelude.{◌≡◌, ℕ, ◌+◌, ◌%◌, ◌<◌, ◌≤◌, ◌⊎◌, ◌++◌, length, replicate, slice_get, Some}
 use Rattle.machine_model.specs.Machine.{Active}
 use Rattle.machine_model.specs.Answer.{most_events}
@@ -13,7 +13,7 @@ use Rattle.unit_core.specs.Bursts.{BurstView, HasMore}
 use Rattle.processor_steps.specs.Processors.{position_with}
 use Rattle.sequencer.specs.Machines.{MachineView, state, units_of}
 
--- the unit of the ring with this number is at work as this active task, and has not stopped; the head
+-- the unit with this number on the ring is at work as this active task, and has not stopped; the head
 -- has the number of retired tasks, modulo the number of units, and those behind it follow round the ring
 pub record IsAtWork (m : MachineView) (number : ℕ) (u : Active) : Type 0 where
   pub position : ℕ
@@ -41,7 +41,7 @@ IsRefusedBurst m b why =
     ⊎ ((why ≡ refused.OutOfMemory) × ((state m).outcome ≡ Running) × IsFresh m b × (length m.history + b.steps ≤ most_events))
 
 -- a machine after a fresh burst: the unit with the burst's serial number, which is the one that it was
--- made on, executed once for each step, by the machine step, and exactly these events are behind the
+-- made on, executed once for each step, by the machine step, and exactly these events are appended to the
 -- history
 pub record Takes (old : MachineView) (b : BurstView) (new : MachineView) : Type 0 where
   pub fresh : IsFresh old b

@@ -1,4 +1,4 @@
--- What may be assigned next (own): the targets of a tail that runs on, else the one task that may
+-- What may be assigned next: the targets of a tail that is still running, else the one task that may
 -- follow.
 use Rattle.std.specs.Prelude.{◌≡◌, ℕ, ◌<◌, List, [], length, true, if◌then◌else◌, Option, None}
 use Rattle.std.specs.Option.{option_map}

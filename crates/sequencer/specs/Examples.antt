@@ -18,7 +18,7 @@ pub first_task : choice_of count (opening count) 5 ≡ Some (Assign 0)
 unfolding address
 first_task = refl
 
--- behind a loop's task that has not stopped, this task again or the one behind the loop, in turn
+-- after a loop's task that has not stopped, this task again or the one after the loop, in turn
 abbrev pub at_work : State
 at_work = (play count 2 (Assign 0 ∷ [])).state
 
@@ -38,7 +38,7 @@ pub choice_round : choice_of count at_work 2 ≡ Some (Assign 0)
 unfolding address index_of region effective least
 choice_round = refl
 
--- behind its stop the task where it stopped, whatever the answer
+-- after its stop the task where it stopped, whatever the answer
 abbrev pub stopped : State
 stopped = (play count 2 (Assign 0 ∷ Exec 0 ∷ Exec 0 ∷ Exec 0 ∷ Exec 0 ∷ [])).state
 
@@ -50,7 +50,7 @@ pub choice_at_stop : choice_of count stopped 1 ≡ Some (Assign 0)
 unfolding address index_of region effective least
 choice_at_stop = refl
 
--- behind a task without targets nothing
+-- after a task without targets, nothing
 pub choice_of_none : choice_of count (play count 2 (Assign 0 ∷ Assign 1 ∷ [])).state 0 ≡ None
 unfolding address index_of region effective least
 choice_of_none = refl

@@ -1,4 +1,4 @@
--- A run by head events, and how it stops at one that is refused (own).
+-- A run by head events, and how it stops at one that is refused.
 use Rattle.std.specs.Prelude.{◌≡◌, ℕ, ◌<◌, ◌⊎◌, List, [], ◌∷◌, length, true, Some}
 use Rattle.task_descriptor.specs.Listing.{Listing}
 use Rattle.machine_model.specs.Machine.{State}

@@ -1,4 +1,4 @@
--- Runs of a history, and the instructions that it executed (own).
+-- Runs of a history, and the instructions that it executed.
 use Rattle.std.specs.Prelude.{ℕ, ◌<◌, Bool, true, false, List}
 use Rattle.std.specs.List.{All, count_by}
 use Rattle.machine_model.specs.declared.event.Event.{Event}

@@ -35,13 +35,13 @@ units_of m = m.processor.queue.capacity
 abbrev pub answer_to : MachineView → Event → Result (Unit {0}) Refused
 answer_to m e = answer m.accepted.program (units_of m) (state m) (length m.history) e
 
--- the answer of the model, or for an event that takes memory that it is wanted where the model says Ok
+-- the answer of the model, or, for an event that takes memory, `OutOfMemory` where the model answers Ok
 abbrev pub IsAnswered : MachineView → Event → Result (Unit {0}) Refused → Type 0
 IsAnswered m e result =
     (result ≡ answer_to m e)
     ⊎ ((takes_memory e ≡ true) × (result ≡ Err refused.OutOfMemory) × (answer_to m e ≡ Ok tt))
 
--- a machine after an event: the next state by the machine step, and the event behind the history
+-- a machine after an event: the next state by the machine step, and the event appended to the history
 pub record Applies (old : MachineView) (e : Event) (new : MachineView) : Type 0 where
   pub next : Next old.accepted.program (units_of old) (state old) e (state new)
   pub history : new.history ≡ old.history ++ e ∷ []
@@ -51,7 +51,7 @@ pub record SameRing (old new : MachineView) : Type 0 where
   pub accepted : new.accepted ≡ old.accepted
   pub units : units_of new ≡ units_of old
 
--- a call for an event where the run goes on: the answer, and what it leaves (for private functions alone)
+-- a call for an event while the run continues: the answer, and what it leaves (for private functions alone)
 pub record Tries (old : MachineView) (e : Event) (result : Result (Unit {0}) Refused) (new : MachineView) : Type 0 where
   pub answer : IsAnswered old e result
   pub ok : OnOk result (Applies old e new)

@@ -1,6 +1,6 @@
--- The theorems about the machine of units, as statements about an accepted program, over every number of
--- units and every list of events (the machine: Sohi, Breach, Vijaykumar, ISCA 1995; the statements are
--- own).
+-- The theorems about the machine of units, as statements about an accepted program,
+-- over every number of units and every list of events
+-- (the machine: Sohi, Breach, Vijaykumar, ISCA 1995).
 use Rattle.std.specs.Prelude.{◌≡◌, ℕ, ◌<◌, Bool, List, slice_get, length, Some}
 use Rattle.task_descriptor.specs.Listing.{Listing}
 use Rattle.task_descriptor.specs.declared.descriptor.Marked.{Marked}
@@ -42,7 +42,7 @@ abbrev pub PlacesMasked : Checked → Type 0
 PlacesMasked a =
     (u : Active) → PlaceValid a.program u → (i : ℕ) → u.place ≡ Inside i → (i < length a.program.code) × HasMask a u.task i
 
--- so it is after every list of events
+-- after every list of events each unit stands at such an instruction, or has stopped
 abbrev pub ReplayedPlacesMasked : Checked → Type 0
 ReplayedPlacesMasked a =
     (units : ℕ) (events : List Event) (s : State) → Replays a.program units events s → (k : ℕ) (u : Active) → slice_get s.queue k ≡ Some u

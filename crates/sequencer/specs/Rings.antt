@@ -1,4 +1,4 @@
--- Which unit of a machine's ring an event belongs to (own).
+-- Which unit of a machine's ring an event belongs to.
 use Rattle.std.specs.Prelude.{◌≡◌, ℕ, ◌<◌, List, length, slice_get, Some}
 use Rattle.machine_model.specs.Machine.{Active}
 use Rattle.machine_model.specs.HeadEvent.{position_of, unit_of}
@@ -14,7 +14,7 @@ abbrev pub AreDistinct : List Active → Type 0
 AreDistinct us =
     (j k : ℕ) (u v : Active) → slice_get us j ≡ Some u → slice_get us k ≡ Some v → u.serial ≡ v.serial → j ≡ k
 
--- an event names one of so many tasks, or a position on a ring of so many units
+-- an event names one of the given number of tasks, or a position on a ring of the given number of units
 abbrev pub EventFits : (tasks units : ℕ) → Event → Type 0
 EventFits tasks units (Assign t) = t < tasks
 EventFits tasks units e = position_of 0 e < units

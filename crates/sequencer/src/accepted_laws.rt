@@ -42,7 +42,7 @@ pub fn accepted_run_ends(accepted: &Accepted)
     how_a_run_ends();
 }
 
-/// With one unit or more, while the run of an accepted program goes on there is a head event, and the
+/// With one unit or more, while the run of an accepted program continues there is a head event, and the
 /// machine step allows it.
 pub fn accepted_never_stuck(accepted: &Accepted)
     ensures { NeverStuck accepted.now.program }
@@ -61,8 +61,8 @@ pub fn places_masked(accepted: &Accepted)
     accepted_entry();
 }
 
-/// So does each unit in every state that a list of events leaves, whatever its registers hold, on a
-/// wrong path too.
+/// In every state that a list of events leaves, whatever the registers hold, on a wrong path too, each unit that
+/// has not stopped stands at an instruction that has a mask in its task's list.
 pub fn replayed_places_masked(accepted: &Accepted)
     ensures { ReplayedPlacesMasked accepted.now }
 {

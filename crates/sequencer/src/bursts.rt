@@ -1,5 +1,5 @@
-//! Units lent by a machine, and the bursts that are made on them handed in: work outside the lock of a
-//! machine that is shared.
+//! Units lent by a machine, and the bursts made on them that are handed in: work done outside the lock of a
+//! shared machine.
 
 use crate::machine::{Machine, is_same};
 use machine_model::event::{Event, Refused, Spot};
@@ -23,10 +23,10 @@ impl<'a> Machine<'a> {
     ghost use Rattle.sequencer.specs.Rings.{unit_for};
     ghost use Rattle.sequencer.specs.Bursts.{IsAtWork, IsFresh, IsRefusedBurst, Takes};
 
-    /// Lends the unit of the ring with this number, as it is but for its log, with the machine's program
+    /// Lends the unit with this number on the ring, as it is except for its log, with the machine's program
     /// and certificate, to make a burst on. `None` exactly where that unit is free or has stopped, or
-    /// there is no such unit. The machine stays as it is. Takes no memory, and costs the same however long
-    /// the log is.
+    /// there is no such unit. The machine does not change. Takes no memory, and the cost does not depend on
+    /// the length of the log.
     pub fn lease(&self, unit: u32) -> Option<Lease<'a>>
         ensures some { IfSome result (λ lease. (lease.accepted ≡ self.now.accepted)
             × ((u : Active) × IsAtWork self.now unit u × (active_of lease.unit ≡ with_log u []))) }
@@ -39,8 +39,8 @@ impl<'a> Machine<'a> {
         }
     }
 
-    /// Lends as `lease` does, into a burst that lies with the caller, which then has no step and keeps the room
-    /// of its reads. Says whether it did; else the burst stays as it is.
+    /// Lends as `lease` does, into a burst that the caller holds, which then has no step and keeps the room
+    /// of its reads. Answers whether it did; if not, the burst stays as it is.
     pub fn lend(&self, unit: u32, burst: &mut Burst<'a>) -> bool
         ensures lent { IsTrue result → (burst.new.accepted ≡ self.now.accepted) × (burst.new.steps ≡ 0)
             × ((u : Active) × IsAtWork self.now unit u × (active_of burst.new.before ≡ with_log u [])) }
@@ -54,7 +54,7 @@ impl<'a> Machine<'a> {
         true
     }
 
-    /// The unit of the ring with this number, where it is at work and has not stopped.
+    /// The unit with this number on the ring, if it is at work and has not stopped.
     fn unit_at_work(&self, unit: u32) -> Option<&Unit>
         ensures some { IfSome result (λ found. IsAtWork self.now unit (active_of found.now)) }
         ensures none { IfNone result ((u : Active) → IsAtWork self.now unit u → ⊥) }
@@ -72,7 +72,7 @@ impl<'a> Machine<'a> {
         }
     }
 
-    /// The number round the ring of the unit at work with a serial number; `None` where none has it. A
+    /// The number on the ring of the unit at work with this serial number; `None` where none has it. A
     /// burst that the machine takes over is one of the unit with the serial number of its unit before.
     pub fn unit_with(&self, serial: u32) -> Option<u32>
         ensures { result ≡ option_map (λ k. unit_for self.now (Exec k)) (position_with (state self.now).queue serial) }
@@ -83,16 +83,16 @@ impl<'a> Machine<'a> {
         }
     }
 
-    /// Hands in a burst, and answers how many events that were. Where an active unit is the one that
+    /// Hands in a burst, and answers how many events that was. Where an active unit is the one that
     /// the burst was made on, logs aside, with at most more registers arrived, that unit takes it over:
     /// one Exec for each step. Answers 0, and changes nothing, exactly where the burst has no step, was
     /// made with another program or certificate than the machine's, which are compared by value, or no
-    /// active unit is the one that it was made on, as when that was squashed. Beside that comparison it
-    /// costs what the burst is long, whatever the size of the log and the history.
+    /// active unit is the one that it was made on, as when that was squashed. Apart from that comparison,
+    /// the cost depends on the length of the burst alone, not on the size of the log or the history.
     ///
     /// # Errors
     ///
-    /// `Ended` exactly where the run has ended; else, of a burst that is not answered 0, `Full` exactly
+    /// `Ended` exactly where the run has ended; else, for a burst that is not answered 0, `Full` exactly
     /// where the history with its steps is longer than 1,000,000 events, and else `OutOfMemory` where its
     /// reads find no room in the unit's log. The burst is handed back and nothing is changed then.
     pub fn apply_burst<'b>(&mut self, mut burst: Burst<'b>) -> Result<u32, (Burst<'b>, Refused)>
@@ -114,9 +114,9 @@ impl<'a> Machine<'a> {
         }
     }
 
-    /// Hands in a burst that lies with the caller, as `apply_burst` does, and compares no program and no
-    /// certificate: the caller sees to it that the burst was made with this machine's. It costs what the
-    /// burst is long, whatever the size of the program, the certificate, the log and the history. The
+    /// Hands in a burst that the caller holds, as `apply_burst` does, but compares no program and no
+    /// certificate: the caller ensures that the burst was made with this machine's. The cost depends on the
+    /// length of the burst alone, not on the size of the program, the certificate, the log or the history. The
     /// burst stays as it is, but one that is taken over may be left without a step.
     ///
     /// # Errors

@@ -34,7 +34,7 @@ impl History {
     ghost use Rattle.machine_model.specs.Runs.{events_of};
     ghost use Rattle.sequencer.specs.Histories.{AreCounted, executed_in};
 
-    /// No event, with its room reserved.
+    /// An empty history, with its room reserved.
     pub(crate) fn new(alloc: Global) -> Result<History, AllocError>
         ensures { IfOk result (λ history. history ≡ []) }
     {
@@ -46,7 +46,7 @@ impl History {
         })
     }
 
-    /// The events as runs, the first first.
+    /// The events as runs, in order.
     #[inline]
     pub(crate) fn runs(&self) -> &[EventRun]
         ensures value { events_of result.now ≡ self.now }
@@ -80,7 +80,7 @@ impl History {
         self.push_many(event, 1);
     }
 
-    /// Appends an event so many times, once at least.
+    /// Appends an event the given number of times, at least once.
     #[inline]
     pub(crate) fn push_many(&mut self, event: Event, count: u32)
         requires some { 0 < count }
@@ -99,7 +99,7 @@ ghost use Rattle.machine_model.specs.Answer.{most_events};
 ghost use Rattle.machine_model.specs.Runs.{events_of};
 ghost use Rattle.sequencer.specs.Histories.{AreCounted, executed_in};
 
-/// How many instructions an event executes that is there so many times.
+/// How many instructions the given number of copies of an event execute.
 #[inline]
 fn executions(event: &Event, count: u32) -> u32
     ensures { result ≡ executed_in (replicate count event.now) }
@@ -111,8 +111,8 @@ fn executions(event: &Event, count: u32) -> u32
     }
 }
 
-/// Appends an event so many times to runs, in room that is there: the last run grows where it is one of
-/// the same event.
+/// Appends an event the given number of times to runs, in room that is already there: the last run grows
+/// where it is a run of the same event.
 #[inline]
 fn append(runs: &mut Vec<EventRun>, event: Event, count: u32)
     requires counted { AreCounted runs.old.items }
@@ -132,7 +132,7 @@ fn append(runs: &mut Vec<EventRun>, event: Event, count: u32)
     runs.push_reserved(EventRun { event, count });
 }
 
-/// Whether two events are the same. Most are Exec events, which are looked at first.
+/// Whether two events are the same. Most are Exec events, which are compared first.
 #[inline(always)]
 fn is_same(event: &Event, other: &Event) -> bool
     ensures { IsTrue result ↔ (event.now ≡ other.now) }

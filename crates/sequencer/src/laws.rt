@@ -31,7 +31,7 @@ pub(crate) fn accepted_replays(accepted: &Accepted)
     ensures in_range { (units : ℕ) (events : List Event) (s : State) → 0 < units → Replays accepted.now.program units events s → All (EventFits (length accepted.now.program.tasks) units) events }
     ensures assigned { (units : ℕ) (events : List Event) (s : State) → Replays accepted.now.program units events s → s.assigns ≤ length events }
 {
-    // A program says that it is well formed, which the laws ask for, where its start is read.
+    // Reading a program's start gives that it is well formed, which the laws require.
     let _ = accepted.program().start();
     replayed_places_masked(accepted);
     places_are_valid();

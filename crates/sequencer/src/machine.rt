@@ -14,7 +14,7 @@ use std::marker::Model;
 use thiserror::Error;
 use unit_core::read_log::ReadLog;
 
-/// The most units of a machine. `jobs`, which stands on no machine, has it too.
+/// The most units of a machine. `jobs`, which depends on no machine, has it too.
 pub const MOST_UNITS: u32 = 16;
 
 /// The most events that a run may ask for. `jobs` has it too.
@@ -26,7 +26,7 @@ pub enum MachineFault {
     /// 1: not 1 to 16 units.
     #[error("1 Units")]
     Units,
-    /// 2: want of memory.
+    /// 2: out of memory.
     #[error("2 OutOfMemory")]
     OutOfMemory,
 }
@@ -74,8 +74,8 @@ impl<'a> Machine<'a> {
     ghost use Rattle.sequencer.specs.Rings.{unit_for, AreDistinct, EventFits};
     ghost use Rattle.sequencer.specs.Histories.{AreCounted, executed_in};
 
-    /// A machine at the start of the program, with so many units, 1 to 16, none of them at work. It
-    /// reserves the room of its history, once.
+    /// A machine at the start of the program, with the given number of units, 1 to 16, none of them at work. It
+    /// reserves the room for its history, once.
     ///
     /// # Errors
     ///
@@ -110,8 +110,8 @@ impl<'a> Machine<'a> {
         })
     }
 
-    /// Applies an event, exactly where the machine step allows it and the history has fewer than
-    /// 1,000,000 events. Exec and Retire may take memory, no other event does.
+    /// Applies an event exactly where the machine step allows it and the history has fewer than
+    /// 1,000,000 events. Exec and Retire may take memory; no other event does.
     ///
     /// # Errors
     ///
@@ -138,7 +138,7 @@ impl<'a> Machine<'a> {
         }
     }
 
-    /// The same for an Exec of the head where the run goes on. Most events are Exec events, so those have calls
+    /// Like `apply`, for an Exec of the head while the run continues. Most events are Exec events, so they have calls
     /// of their own, in which what they touch stays in registers.
     #[inline(never)]
     fn apply_at_head(&mut self) -> Result<(), Refused>
@@ -152,7 +152,7 @@ impl<'a> Machine<'a> {
         Ok(())
     }
 
-    /// The same for an Exec of a unit behind the head.
+    /// Like `apply`, for an Exec of a unit behind the head.
     #[inline(never)]
     fn apply_ahead(&mut self, position: u32) -> Result<(), Refused>
         requires behind { 0 < position }
@@ -166,8 +166,8 @@ impl<'a> Machine<'a> {
         Ok(())
     }
 
-    /// The same for a Transfer. It, Retire and Assign come once or more for each task, so each has a call in
-    /// which nothing else is looked for.
+    /// Like `apply`, for a Transfer. Transfer, Retire and Assign come once or more for each task, so each has a call
+    /// that looks for nothing else.
     #[inline(never)]
     fn apply_transfer(&mut self, position: u32, register: Reg) -> Result<(), Refused>
         requires { (state self.old).outcome ≡ standing.Running }
@@ -176,7 +176,7 @@ impl<'a> Machine<'a> {
         self.apply_any(Event::Transfer(position, register))
     }
 
-    /// The same for a Retire.
+    /// Like `apply`, for a Retire.
     #[inline(never)]
     fn apply_retire(&mut self) -> Result<(), Refused>
         requires { (state self.old).outcome ≡ standing.Running }
@@ -185,7 +185,7 @@ impl<'a> Machine<'a> {
         self.apply_any(Event::Retire)
     }
 
-    /// The same for an Assign.
+    /// Like `apply`, for an Assign.
     #[inline(never)]
     fn apply_assign(&mut self, task: u32) -> Result<(), Refused>
         requires { (state self.old).outcome ≡ standing.Running }
@@ -194,7 +194,7 @@ impl<'a> Machine<'a> {
         self.apply_any(Event::Assign(task))
     }
 
-    /// The same for any other event.
+    /// Like `apply`, for any other event.
     #[inline(never)]
     fn apply_other(&mut self, event: Event) -> Result<(), Refused>
         requires { (state self.old).outcome ≡ standing.Running }
@@ -203,7 +203,7 @@ impl<'a> Machine<'a> {
         self.apply_any(event)
     }
 
-    /// The same for any event. It is compiled into its callers, which mostly know the kind of the event.
+    /// Like `apply`, for any event. It is compiled into its callers, which mostly know the kind of the event.
     #[inline(always)]
     fn apply_any(&mut self, event: Event) -> Result<(), Refused>
         requires { (state self.old).outcome ≡ standing.Running }
@@ -227,7 +227,7 @@ impl<'a> Machine<'a> {
     }
 
     /// The event that the head is ready for, which the machine step allows: on an empty queue the Assign
-    /// of the task at the next address; of a running head its next instruction; of a stopped head Fault
+    /// of the task at the next address; for a running head its next instruction; for a stopped head Fault
     /// where its exit is not listed, else Squash(0) where the next unit begins elsewhere, else the Drain
     /// of its least register that is not sent, else Retire. `None` exactly where the run has ended.
     /// Takes no memory.
@@ -250,7 +250,7 @@ impl<'a> Machine<'a> {
     /// # Errors
     ///
     /// It stops at a head event that is refused, before h has grown by `k`: by `Full` with a history of
-    /// 1,000,000 events, else by `OutOfMemory`, which only Exec and Retire may want. The events before
+    /// 1,000,000 events, else by `OutOfMemory`, which only Exec and Retire may get. The events before
     /// it stay.
     pub fn finish(&mut self, k: u64) -> Result<(), Refused>
         ensures kept { SameRing self.old self.new }
@@ -269,12 +269,12 @@ impl<'a> Machine<'a> {
         Ok(())
     }
 
-    /// Applies the head event, and says whether there was one.
+    /// Applies the head event, and answers whether there was one.
     ///
     /// # Errors
     ///
     /// What refuses the head event: `Full` with a history of 1,000,000 events, else `OutOfMemory`, which
-    /// only Exec and Retire may want; nothing is changed then.
+    /// only Exec and Retire may get; nothing is changed then.
     fn apply_head_event(&mut self) -> Result<bool, Refused>
         ensures kept { SameRing self.old self.new }
         ensures applied { IfOk result (λ did. did ≡ true → (e : Event) × (head_event_of self.old.accepted.program (state self.old) ≡ Some e) × Applies self.old e self.new × (count_h (state self.new) ≡ count_h (state self.old) + growth (state self.old) e)) }
@@ -292,7 +292,7 @@ impl<'a> Machine<'a> {
         Ok(true)
     }
 
-    /// The events that were applied, the first first, as runs of equal events. The machine is always
+    /// The events that were applied, in order, as runs of equal events. The machine is always
     /// their replay.
     pub fn history(&self) -> &[EventRun]
         ensures value { events_of result.now ≡ self.now.history }
@@ -312,7 +312,7 @@ impl<'a> Machine<'a> {
         self.history.len()
     }
 
-    /// How many instructions the units executed, on paths that were given up too: the Exec events of
+    /// How many instructions the units executed, including on paths that were given up: the Exec events of
     /// the history.
     pub fn executed(&self) -> usize
         ensures { result ≡ executed_in self.now.history }
@@ -320,7 +320,7 @@ impl<'a> Machine<'a> {
         self.history.executed()
     }
 
-    /// Whether the machine was made over an equal program and certificate, with so many units. They are
+    /// Whether the machine was made over an equal program and certificate, with the given number of units. Both are
     /// compared by value.
     pub fn is_over(&self, accepted: &Accepted, units: u32) -> bool
         ensures { IsTrue result ↔ ((self.now.accepted ≡ accepted.now) × (units_of self.now ≡ units)) }
@@ -349,7 +349,7 @@ impl<'a> Machine<'a> {
         let _ = &self.processor;
     }
 
-    /// Where the run goes on there is a head event, and the machine step allows it; the call does
+    /// While the run continues there is a head event, and the machine step allows it; the call does
     /// nothing.
     fn law_head_ready(&self)
         ensures { (state self.now).outcome ≡ standing.Running
@@ -359,7 +359,7 @@ impl<'a> Machine<'a> {
         let _ = &self.processor;
     }
 
-    /// Whether the run goes on.
+    /// Whether the run continues.
     pub(crate) fn is_running(&self) -> bool
         ensures { IsTrue result ↔ ((state self.now).outcome ≡ standing.Running) }
     {
@@ -374,14 +374,14 @@ impl<'a> Machine<'a> {
         self.processor.is_allowed(self.accepted, event)
     }
 
-    /// The event that the head is ready for, where the run goes on.
+    /// The event that the head is ready for, while the run continues.
     fn event_at_head(&self) -> Option<Event>
         ensures { result ≡ event_of_queue self.now.accepted.program (state self.now).next (state self.now).queue }
     {
         self.processor.event_at_head(self.accepted.program())
     }
 
-    /// The headline, of this machine: what retired is the plain machine's run, and how it ended; the call does
+    /// The headline for this machine: what retired is the plain machine's run, and how it ended; the call does
     /// nothing.
     fn law_headline(&self)
         ensures claims { Claims self.now.accepted.program (state self.now) }
@@ -391,7 +391,7 @@ impl<'a> Machine<'a> {
         let _ = &self.processor;
     }
 
-    /// The retired tasks, the first first. Each exit is the address of a target of its task.
+    /// The retired tasks, in order. Each exit is the address of a target of its task.
     pub fn commits(&self) -> &[Commit]
         ensures value { result.now ≡ (state self.now).commits }
         ensures headline { Claims self.now.accepted.program (state self.now) }
@@ -400,7 +400,7 @@ impl<'a> Machine<'a> {
         self.processor.commits()
     }
 
-    /// What the instructions of the retired tasks read, the first first. They are the reads of the
+    /// What the instructions of the retired tasks read, in order. They are the reads of the
     /// plain machine's first c instructions.
     pub fn reads(&self) -> &ReadLog
         ensures value { result.now.reads ≡ (state self.now).reads }
@@ -410,7 +410,7 @@ impl<'a> Machine<'a> {
         self.processor.reads()
     }
 
-    /// The words that were put out, the first first. They are the plain machine's after h instructions.
+    /// The words that were output, in order. They are the plain machine's after h instructions.
     pub fn output(&self) -> &[u32]
         ensures value { result.now ≡ (state self.now).output }
         ensures headline { Claims self.now.accepted.program (state self.now) }
@@ -430,7 +430,7 @@ impl<'a> Machine<'a> {
         self.processor.world().memory()
     }
 
-    /// How many instructions the retired tasks executed, c, and how many these and the head, h.
+    /// How many instructions the retired tasks executed, c, and how many these and the head together, h.
     pub fn counts(&self) -> (u64, u64)
         ensures retired { result.0 ≡ count_c (state self.now) }
         ensures head { result.1 ≡ count_h (state self.now) }
@@ -445,8 +445,8 @@ impl<'a> Machine<'a> {
         }
     }
 
-    /// How the run stands: Halted and Trapped only as the plain machine after h instructions, Unlisted
-    /// at an address only where that is about to fetch there and the head's task does not list it.
+    /// How the run stands: Halted or Trapped only as the plain machine is after h instructions, Unlisted
+    /// at an address only where it is about to fetch there and the head's task does not list it.
     pub fn outcome(&self) -> Standing
         ensures value { result ≡ (state self.now).outcome }
         ensures ends { EndsLike self.now.accepted.program (state self.now) result }
@@ -492,7 +492,7 @@ impl<'a> Machine<'a> {
         }
     }
 
-    /// The number round the ring of the unit at a position.
+    /// The number on the ring of the unit at a position.
     #[inline]
     pub(crate) fn number_at(&self, position: u32) -> u32
         ensures { result ≡ unit_for self.now (Exec position) }
@@ -526,18 +526,18 @@ impl<'a> Machine<'a> {
         }
     }
 
-    /// The Assign that may follow: behind a tail that has not stopped that of the target at this
-    /// position modulo their number; behind a stopped tail, and on an empty queue, the one that the
+    /// The Assign that may follow: after a tail that has not stopped, that of the target at this
+    /// position modulo their number; after a stopped tail, and on an empty queue, the one that the
     /// machine step allows by task and place, whatever the answer. `None` once the run has ended, and
-    /// else only where no task may follow, so never where there are choices. A full ring does not matter
-    /// to it.
+    /// otherwise only where no task may follow, so never where there are choices. A full ring makes no
+    /// difference.
     pub fn choice(&self, answer: u32) -> Option<Event>
         ensures value { result ≡ choice_of self.now.accepted.program (state self.now) answer }
         ensures follows { IfSome result (λ e. (task : ℕ) × (e ≡ Assign task) × MayFollow self.now.accepted.program (state self.now) task) }
         ensures none { IfNone result ((state self.now).outcome ≡ standing.Running → (task : ℕ) → MayFollow self.now.accepted.program (state self.now) task → ⊥) }
         ensures choices { IfNone result (choices_of self.now.accepted.program (state self.now) ≡ []) }
     {
-        // Where the program is read it says that its marks are sound, so a task begins at each target.
+        // Reading the program gives that its marks are sound, so a task begins at each target.
         let _ = self.accepted.program();
         self.chosen(answer)
     }

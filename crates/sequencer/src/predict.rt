@@ -1,5 +1,5 @@
-//! Which target the sequencer follows behind a running tail (Sohi, Breach, Vijaykumar, ISCA 1995,
-//! section 2.1: it predicts the next task; how, is the caller's choice).
+//! Which target the sequencer follows after a running tail (Sohi, Breach, Vijaykumar, ISCA 1995,
+//! section 2.1: it predicts the next task; how is the caller's choice).
 
 use mips_instructions::number::Place;
 use std::marker::Model;

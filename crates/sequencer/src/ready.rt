@@ -1,4 +1,4 @@
-//! What the units of a machine are ready for, beside what the head is.
+//! What the units of a machine are ready for, besides what the head is ready for.
 
 use crate::machine::Machine;
 use machine_model::event::Spot;
@@ -27,7 +27,7 @@ impl<'a> Machine<'a> {
         self.number_at(0)
     }
 
-    /// Where the unit at a position stands; `None` behind the tail.
+    /// Where the unit at a position stands; `None` past the tail.
     #[inline]
     pub fn spot(&self, position: u32) -> Option<Spot>
         ensures { result ≡ option_map (λ u. u.place) (slice_get (state self.now).queue position) }
@@ -36,7 +36,7 @@ impl<'a> Machine<'a> {
     }
 
     /// Whether the unit at a position lacks nothing for its next instruction, and this needs nothing but
-    /// the unit's registers and read-only data: so it may stand in a burst. An Exec of it is then
+    /// the unit's registers and read-only data: so it may be part of a burst. An Exec of it is then
     /// refused by nothing but the run's end or a full history. Takes no memory.
     pub fn can_run_ahead(&self, position: u32) -> bool
         ensures alone { IsTrue result ↔ ((u : Active) × (slice_get (state self.now).queue position ≡ Some u) × (exec_refusal self.now.accepted.program false u ≡ None)) }
@@ -64,7 +64,7 @@ impl<'a> Machine<'a> {
             .register_to_send(self.accepted.program(), position)
     }
 
-    /// An event is answered Ok, want of memory aside, where the run goes on, the history has room and
+    /// An event is answered Ok, want of memory aside, while the run continues, the history has room and
     /// nothing refuses the event, so wherever the machine step allows it; the call does nothing.
     pub fn law_answers(&self)
         ensures unrefused { (e : Event) → (state self.now).outcome ≡ standing.Running → refusal self.now.accepted.program (units_of self.now) (state self.now) e ≡ None → length self.now.history < most_events → answer_to self.now e ≡ Ok tt }

@@ -14,13 +14,13 @@ impl<'a> Machine<'a> {
         ensures active { result ≡ length (state self.now).queue }
         ensures within { result ≤ 16 }
     {
-        // The ring's capacity tells its range.
+        // The ring's capacity gives its range.
         let _ = self.processor.capacity();
         self.processor.active()
     }
 
     /// The unit at a position from the head, 0 being the head: its task, where it stands, what arrived and
-    /// what it sent. `None` behind the tail.
+    /// what it sent. `None` past the tail.
     pub fn unit(&self, position: u32) -> Option<&Unit>
         ensures { option_map active_of (option_copied result) ≡ slice_get (state self.now).queue position }
     {

@@ -102,7 +102,7 @@ outcome_text tally ending =
 abbrev pub predicted_text : Prediction → List ℕ
 predicted_text predict = codes "; predictor: " ++ (predictor_text predict ++ (codes "</text>" ++ 10 ∷ []))
 
--- what came of the tasks and of the run, and the predictor
+-- how the tasks and the run ended, and the predictor
 abbrev pub caption_text : Prediction → Standing → Tally → List ℕ
 caption_text predict standing tally = outcome_text tally (ending_text standing) ++ predicted_text predict
 
@@ -132,8 +132,8 @@ abbrev pub text_by : (name : List ℕ) → Listing → (units : ℕ) → Predict
 text_by name p units predict standing steps history lives =
     file_text name p units (count_of steps) predict standing steps history (all_in_steps steps lives) (tally_of lives)
 
--- the whole text, of a history of a program of this name, which may be empty, on so many units that was predicted so, and
--- then stands so
+-- the whole text, of a history of a program of this name, which may be empty, on the given number of units, with this
+-- predictor and this final state
 unfoldable pub step_picture_text : (name : List ℕ) → Listing → (units : ℕ) → Prediction → Standing → (history : List Event) → List ℕ
 step_picture_text name p units predict standing history =
     text_by name p units predict standing (steps_of history) history (lives_of units history)

@@ -41,7 +41,7 @@ next_strip s w = if lengthens s w then record s { last = w.step } else begun w
 abbrev pub ended_before : Strip → Waiting → List Strip
 ended_before s w = if lengthens s w then [] else s ∷ []
 
--- the strips of the waits of one unit, of which some made a strip already
+-- the strips of the waits of one unit, some of which have already made a strip
 abbrev pub strips_from : Strip → List Waiting → List Strip
 strips_from s [] = s ∷ []
 strips_from s (w ∷ ws) = ended_before s w ++ strips_from (next_strip s w) ws
@@ -53,7 +53,7 @@ strips_of (w ∷ ws) = strips_from (begun w) ws
 abbrev pub waits_on : (unit : ℕ) → List Waiting → List Waiting
 waits_on unit waits = filter (λ w. nat_eq w.unit unit) waits
 
--- how a reason is shaded, if it keeps a unit
+-- how a reason is shaded, if it keeps a unit waiting
 abbrev pub shade_of : Reason → Option Style
 shade_of (NeedsRegister r owed) = Some WaitForRegister
 shade_of NeedsHead = Some WaitForTurn

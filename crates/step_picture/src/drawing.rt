@@ -37,9 +37,10 @@ use task_lives::tally::{Tally, add_up};
 use unit_waits::waiting::Waiting;
 use unit_waits::waits::waits;
 
-/// Draws the history of a run in steps of an accepted program of this name, which may be empty, on so many units, 1 to
-/// 16, which was predicted so, and then stands so: one SVG file, with no script and no font of its own. Each event of the history is allowed where it
-/// comes, and there are at most 1,000,000. An event at position 0 ends a step. The error says that memory was refused.
+/// Draws the history of a run in steps of an accepted program of this name, which may be empty, on `units` units,
+/// 1 to 16, with this predictor and this final state: one SVG file, with no script and no font of its own. Each event
+/// of the history is allowed where it comes, and there are at most 1,000,000. An event at position 0 ends a step. An
+/// error means that memory was refused.
 #[tactic(auto, unfolding(crate::specs::StepPicture::step_picture_text))]
 pub fn draw(
     alloc: Global,

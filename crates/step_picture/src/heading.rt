@@ -15,8 +15,8 @@ use run_picture::title::{write_called, write_title};
 use std::alloc::AllocError;
 use task_lives::tally::Tally;
 
-/// Writes the opening of the picture of a run of a program of this name, of so many steps, which was predicted so, and
-/// then stands so.
+/// Writes the opening of the picture of a run of a program of this name, of the given number of steps, with this
+/// predictor and this final state.
 pub(crate) fn write_opening(
     text: &mut String,
     name: &str,
@@ -87,7 +87,7 @@ fn write_lines(
     write_caption(text, predict, standing, tally)
 }
 
-/// Writes what came of the tasks and of the run, and the predictor.
+/// Writes how the tasks and the run ended, and the predictor.
 fn write_caption(
     text: &mut String,
     predict: &Prediction,

@@ -72,7 +72,7 @@ fn write_steps(text: &mut String, first: u32, last: u32) -> Result<(), AllocErro
     write!(text, "<title>steps {first} to {last} ({steps} steps): ")
 }
 
-/// Writes what keeps a unit, and the end of the title.
+/// Writes what keeps a unit waiting, and the end of the title.
 fn write_why(text: &mut String, tasks: &[Descriptor], reason: &Reason) -> Result<(), AllocError>
     ensures { OnOk result (string_bytes text.new ≡ string_bytes text.old ++ why_text tasks.now reason.now) }
 {
@@ -80,7 +80,7 @@ fn write_why(text: &mut String, tasks: &[Descriptor], reason: &Reason) -> Result
     text.push_str("</title>")
 }
 
-/// Writes what keeps a unit.
+/// Writes what keeps a unit waiting.
 fn write_reason(text: &mut String, tasks: &[Descriptor], reason: &Reason) -> Result<(), AllocError>
     ensures { OnOk result (string_bytes text.new ≡ string_bytes text.old ++ reason_text tasks.now reason.now) }
 {

@@ -3,7 +3,7 @@
 ghost use Rattle.std.specs.Prelude.{◌≡◌};
 ghost use Rattle.step_picture.specs.FixedText.{marks_legend, single_legend, style_sheet, summed_legend};
 
-/// The style of all shapes, light or dark. What a colour says, a pattern or a border says too.
+/// The style of all shapes, light or dark. What a colour shows, a pattern or a border shows too.
 const SHEET: &str = "<style>
 text{fill:#1f2933;font-size:14px;pointer-events:none}line{pointer-events:none}
 .title{font-size:24px;font-weight:600}.quiet,.caption,.number{fill:#52606d}.number{font-size:12px}.unit{text-anchor:end}.caption,.number{text-anchor:middle}

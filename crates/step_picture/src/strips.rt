@@ -68,7 +68,7 @@ fn next_strip(strip: &Strip, waiting: &Waiting) -> Strip
     }
 }
 
-/// The strips of the waits of one unit, of which some made a strip already.
+/// The strips of the waits of one unit, some of which have already made a strip.
 fn strips_from(alloc: Global, strip: &Strip, waits: &[Waiting]) -> Result<Vec<Strip>, AllocError>
     ensures { IfOk result (λ strips. strips.items ≡ strips_from_strip strip.now waits.now) }
 {
@@ -112,7 +112,7 @@ fn waits_on(alloc: Global, unit: u32, waits: &[Waiting]) -> Result<Vec<Waiting>,
     Ok(found)
 }
 
-/// How a reason is shaded, if it keeps a unit.
+/// How a reason is shaded, if it keeps a unit waiting.
 fn shade_of(reason: &Reason) -> Option<Style>
     ensures { result ≡ shade_of_reason reason.now }
 {
@@ -136,7 +136,7 @@ fn shape_of(count: u32, strip: &Strip, style: Style) -> Shape
     Shape::plain(style, form)
 }
 
-/// Writes a strip, if its reason keeps the unit.
+/// Writes a strip, if its reason keeps the unit waiting.
 fn write_strip(
     text: &mut String,
     tasks: &[Descriptor],

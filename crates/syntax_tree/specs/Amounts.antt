@@ -9,13 +9,13 @@ use Rattle.syntax_tree.specs.declared.item.Said.TheVariants as said
 use Rattle.syntax_tree.specs.declared.item.Item.{Item}
 use Rattle.syntax_tree.specs.declared.amounts.Amounts.{Amounts}
 
--- so much, and more of a section
+-- an amount, and more of a section
 abbrev pub with_more : Amounts → Section → ℕ → Amounts
 with_more before section.Text more = record before { code = counted before.code more }
 with_more before section.Data more = record before { bytes = counted before.bytes more }
 with_more before section.Rodata more = record before { fixed = counted before.fixed more }
 
--- so much, and what an item of a section says to be there besides
+-- an amount, and what an item of a section adds to it
 abbrev pub with_said : Amounts → Section → Said → Amounts
 with_said before here (said.Statement (statement.Code i marks)) = with_more before here (instruction_count i)
 with_said before here (said.Statement (statement.Bytes bytes)) = with_more before here (length bytes)
@@ -23,7 +23,7 @@ with_said before here (said.Statement (statement.Space size)) = with_more before
 with_said before here (said.Statement (statement.Task task)) = record before { tasks = counted before.tasks 1 }
 with_said before here _ = before
 
--- what stands before each of these items, where so much stands before the first
+-- what stands before each of these items, where this much stands before the first
 abbrev pub amounts_from : Amounts → List Item → List Amounts
 amounts_from before [] = []
 amounts_from before (item ∷ items) = before ∷ amounts_from (with_said before item.section item.said) items

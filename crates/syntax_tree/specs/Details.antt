@@ -32,7 +32,7 @@ detail_of line item =
       places = drop item.token (line_spans line);
     }
 
--- what stands from the first byte of one token to the last of another
+-- what stands from the first byte of one token to the last byte of another
 abbrev pub between : Parts → (first last : ℕ) → SyntaxSpan
 between d first last = record {
   line = d.line;
@@ -44,8 +44,8 @@ abbrev pub is_comma : Token → Bool
 is_comma token.Comma = true
 is_comma _ = false
 
--- a part from the token of number `first` on and before number k; where there is no token between two commas, or after
--- the last, the place after the comma
+-- a part from token number `first` up to, but not including, token number k; where there is no token between two
+-- commas, or after the last, the place after the comma
 abbrev pub part : Parts → (first k : ℕ) → SyntaxSpan
 part d first k =
     if nat_lt first k then between d first (k - 1)
@@ -59,7 +59,7 @@ comma_parts d first k (t ∷ rest) =
     if is_comma t then part d first k ∷ comma_parts d (k + 1) (k + 1) rest
     else comma_parts d first (k + 1) rest
 
--- the same of the tokens from one number on and before another
+-- what stands between the commas of the tokens from one number up to, but not including, another
 abbrev pub listed : Parts → (first until : ℕ) → List SyntaxSpan
 listed d first until = if nat_le until first then [] else comma_parts d first first (take (until - first) (drop first d.tokens))
 
@@ -75,7 +75,7 @@ token_spans d number (suc n) = between d number number ∷ token_spans d (number
 abbrev pub mark_spans : Parts → List SyntaxSpan
 mark_spans d = token_spans d (length d.tokens - mark_count d.tokens) (mark_count d.tokens)
 
--- The number, in the tokens of a `.task NAME create=REGS targets=TS`, of the word `targets`: it is the first name
+-- The number of the word `targets` among the tokens of a `.task NAME create=REGS targets=TS`: it is the first name
 -- after `create=`.
 abbrev pub is_no_name : Token → Bool
 is_no_name (token.Name name) = false

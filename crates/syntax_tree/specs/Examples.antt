@@ -38,7 +38,7 @@ item line token column width s = record { line = line; token = token; column = c
 abbrev pub halt_said : Said
 halt_said = said.Statement (statement.Code (instruction.One op.Halt) no_marks)
 
--- a fault does not end the reading: a label in front of it stands, and so do the lines after it
+-- a fault does not end the reading: a label before it stands, and so do the lines after it
 abbrev pub faulty_text : List ℕ
 faulty_text = text (codes "foo $8 # no such word" ∷ codes "A: B: addiu $8,$8" ∷ codes " 1a ?" ∷ codes "\thalt" ∷ [])
 
@@ -67,7 +67,7 @@ carriage_return = refl
 abbrev pub from : (column width : ℕ) → SyntaxSpan
 from column width = record { line = 7; column = column; width = width }
 
--- blanks within a list belong to it; a task, too, may be called create
+-- blanks within a list belong to it; a task may also be called create
 abbrev pub a_task : List ℕ
 a_task = codes "T: .task create create= $8 , $9  targets=B, @7 # so"
 
@@ -130,7 +130,7 @@ pub repeats_are : repeats_from (tree_of repeating_text) 0 (tree_of repeating_tex
 unfolding items_from line_items tokens_items spans_after operands_of halt task_of registers_at registers_of places_of targets_of line_tokens tokens_after token_of kind_of number_of magnitude_of number_in register_of register_named
 repeats_are = refl
 
--- each use of a name is told; data are no place to go, and have an address
+-- each use of a name is reported; data are no place to go, and have an address
 abbrev pub unknown_text : List ℕ
 unknown_text = text (codes ".task T create=- targets=T,U,@3" ∷ codes "T: j W" ∷ codes "la $8,D" ∷ codes "j D" ∷ codes "j W" ∷ codes ".data" ∷ codes "D:" ∷ [])
 

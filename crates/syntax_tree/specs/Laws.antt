@@ -1,4 +1,4 @@
--- What the items of a text have to do with the assembler's reading, with the program, and with the text's bytes.
+-- How the items of a text relate to the assembler's reading, to the program, and to the text's bytes.
 use Rattle.std.specs.Prelude.{◌≡◌, ℕ, ◌-◌, List, [], ◌∷◌, take, drop, slice_index_or, Result, Ok, Err}
 use Rattle.program_tokens.specs.Lines.{lines}
 use Rattle.program_tokens.specs.Grammar.{line_tokens}
@@ -46,8 +46,8 @@ bytes_at text span = take span.width (drop (span.column - 1) (line_at text span.
 abbrev pub Spell : Section → List ℕ → Result Statement StatementFault → Type 0
 Spell here bytes s = (tokens : List Token) × (line_tokens bytes ≡ Ok tokens) × (statement_of here tokens ≡ s)
 
--- These bytes, read alone, are what an item says: a label's are its name, those of a statement are that statement,
--- and those of what is no statement have the fault that the line has. Of a line that has no tokens nothing is said.
+-- These bytes, read alone, are what an item spells: a label's are its name, those of a statement are that statement,
+-- and those of what is no statement have the fault that the line has. Nothing is stated of a line without tokens.
 abbrev pub Says : Section → List ℕ → Said → Type 0
 Says here bytes (said.Label name) = line_tokens bytes ≡ Ok (token.Name name ∷ [])
 Says here bytes (said.Statement s) = Spell here bytes (Ok s)

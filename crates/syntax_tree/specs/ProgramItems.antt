@@ -1,4 +1,4 @@
--- The items of which the instructions and the tasks of a program are.
+-- The items that the instructions and the tasks of a program come from.
 use Rattle.std.specs.Prelude.{◌≡◌, ℕ, List, [], ◌∷◌, ◌++◌, Bool, true, false, length, map, replicate, find, Option}
 use Rattle.std.specs.List.{filter}
 use Rattle.task_descriptor.specs.Listing.{Listing}
@@ -8,12 +8,12 @@ use Rattle.syntax_tree.specs.declared.item.Said.{Said}
 use Rattle.syntax_tree.specs.declared.item.Said.TheVariants as said
 use Rattle.syntax_tree.specs.declared.item.Item.{Item}
 
--- how many instructions of the machine it is
+-- how many machine instructions it expands to
 abbrev pub instructions_of : Said → ℕ
 instructions_of (said.Statement (statement.Code i marks)) = instruction_count i
 instructions_of _ = 0
 
--- for each instruction of the machine, index 0 first, the item that it is of: the two of a pseudo-instruction are of one
+-- for each machine instruction, index 0 first, the item that it comes from: the two of a pseudo-instruction share one
 abbrev pub code_items : List Item → List Item
 code_items [] = []
 code_items (item ∷ items) = replicate (instructions_of item.said) item ++ code_items items

@@ -29,7 +29,7 @@ defined_in items = record {
   start = position (λ item. is_start item.said) items;
 }
 
--- the number of the item that defines first what is defined here, if something is
+-- the number of the item that first defines what is defined here, if anything is
 abbrev pub first_like : Defined → Said → Option ℕ
 first_like d (said.Label name) = lookup d.labels name
 first_like d (said.Statement (statement.Task task)) = lookup d.tasks task.name
@@ -40,6 +40,6 @@ abbrev pub other_than : (k : ℕ) → Option ℕ → Option ℕ
 other_than k None = None
 other_than k (Some first) = if nat_eq first k then None else Some first
 
--- the number of the item that defines first what item k defines again, if it does
+-- the number of the item that first defines what item k defines again, if it does
 abbrev pub repeated : Defined → (k : ℕ) → Said → Option ℕ
 repeated d k s = other_than k (first_like d s)

@@ -1,6 +1,6 @@
 -- The labels and the statements of a text, each with its place, and the lines that cannot be read.
 -- Lines, tokens and statements are the assembler's; a line with a fault leaves the section as it was, and the
--- reading goes on after it.
+-- reading continues after it.
 use Rattle.std.specs.Prelude.{ℕ, ◌+◌, ◌-◌, ◌*◌, List, [], ◌∷◌, ◌++◌, length, slice_get, Option, Some, None, Result, Ok, Err}
 use Rattle.std.specs.Str.Lines.{strip_carriage_return}
 use Rattle.program_tokens.specs.Lines.{lines}
@@ -47,7 +47,7 @@ column_at places number = column_of (slice_get places number)
 abbrev pub end_at : List Place → (number : ℕ) → ℕ
 end_at places number = end_of (slice_get places number)
 
--- what stands from the first byte of one token to the last of another
+-- what stands from the first byte of one token to the last byte of another
 abbrev pub item_between : (n : ℕ) → Section → List Place → (first last : ℕ) → Said → Item
 item_between n here places first last s = record {
   line = n;
@@ -116,7 +116,7 @@ tree_of text = items_from 1 Text (lines text)
 
 -- The faults of lines.
 
--- a fault of line n, as the assembler tells it
+-- a fault of line n, as the assembler reports it
 abbrev pub fault_at : (n : ℕ) → LineFaultKind → AsmFault
 fault_at n kind.NotAscii = fault.NotAscii n
 fault_at n kind.Token = fault.Token n

@@ -18,11 +18,11 @@ use Rattle.syntax_tree.specs.Firsts.{Numbered, lookup}
 use Rattle.syntax_tree.specs.UnknownNames.{labels_in, is_code_label}
 use Rattle.syntax_tree.specs.Amounts.{with_said, amounts}
 
--- a limit is passed once: by what is the first to be beyond it
+-- a limit is passed once: by the first item beyond it
 abbrev pub is_passed : (most before after : ℕ) → Bool
 is_passed most before after = nat_le before most && nat_lt most after
 
--- the limit of a section that is passed from so much to so much, if one is
+-- the limit of a section that is passed between the two amounts, if one is
 abbrev pub section_limit : Section → (before after : Amounts) → Option Limit
 section_limit section.Text before after = if is_passed 4096 before.code after.code then Some limit.Code else None
 section_limit section.Data before after = if is_passed 65536 before.bytes after.bytes then Some limit.Bytes else None
@@ -34,8 +34,8 @@ task_limit before task =
     else if is_passed 1024 before.tasks (counted before.tasks 1) then Some limit.Tasks
     else None
 
--- the limit that is passed with an item of a section before which so much stands, if one is; with a task that has too
--- many targets only this is told
+-- the limit that an item of a section passes, given the amount before it, if it passes one; for a task with too
+-- many targets, only this is reported
 abbrev pub limit_passed : Amounts → Section → Said → Option Limit
 limit_passed before here (said.Statement (statement.Code i marks)) = section_limit here before (with_said before here (said.Statement (statement.Code i marks)))
 limit_passed before here (said.Statement (statement.Bytes bytes)) = section_limit here before (with_said before here (said.Statement (statement.Bytes bytes)))

@@ -21,7 +21,7 @@ pub struct Amounts {
     pub tasks: u64,
 }
 
-/// So much, and more of a section.
+/// An amount, and more of a section.
 fn with_more(before: Amounts, section: Section, more: u64) -> Amounts
     ensures { result ≡ with_more before section more }
 {
@@ -53,7 +53,7 @@ fn with_more(before: Amounts, section: Section, more: u64) -> Amounts
     }
 }
 
-/// So much, and what an item of a section says to be there besides.
+/// An amount, and what an item of a section adds to it.
 pub fn with_said(before: Amounts, section: Section, said: &Said) -> Amounts
     ensures { result ≡ with_said before section said.now }
 {

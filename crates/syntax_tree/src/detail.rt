@@ -56,7 +56,7 @@ fn places_of(alloc: Global, line: &[u8]) -> Result<Vec<Place>, AllocError>
     Ok(places)
 }
 
-/// What stands after so many.
+/// What stands after the given number of elements.
 fn behind<T>(all: &[T], number: usize) -> &[T]
     ensures { result.now ≡ drop number all.now }
 {
@@ -67,7 +67,7 @@ fn behind<T>(all: &[T], number: usize) -> &[T]
     }
 }
 
-/// What stands before so many.
+/// What stands before the given number of elements.
 fn before<T>(all: &[T], number: usize) -> &[T]
     ensures { result.now ≡ take number all.now }
 {
@@ -136,7 +136,7 @@ fn is_comma(token: &Token) -> bool
     matches!(token, Token::Comma)
 }
 
-/// How many of some tokens stand before a name.
+/// How many of the tokens stand before the first name.
 fn before_name(tokens: &[Token]) -> usize
     ensures value { result ≡ length (take_while is_no_name tokens.now) }
     ensures within { result < 2 ^ 63 }
@@ -145,7 +145,7 @@ fn before_name(tokens: &[Token]) -> usize
 }
 
 impl Detail {
-    /// What stands from the first byte of one token to the last of another.
+    /// What stands from the first byte of one token to the last byte of another.
     fn between(&self, first: usize, last: usize) -> SyntaxSpan
         ensures { result ≡ between self.now first last }
     {
@@ -163,7 +163,7 @@ impl Detail {
         self.between(number, number)
     }
 
-    /// A part from the token of a number on and before another; where there is none, the place after the comma.
+    /// A part from one token up to, but not including, another; where there is none, the place after the comma.
     fn part(&self, first: usize, number: usize) -> SyntaxSpan
         ensures { result ≡ part self.now first number }
     {
@@ -203,7 +203,7 @@ impl Detail {
         Ok(spans)
     }
 
-    /// The same of the tokens from one number on and before another.
+    /// What stands between the commas of the tokens from one number up to, but not including, another.
     fn listed(
         &self,
         alloc: Global,
@@ -222,7 +222,7 @@ impl Detail {
         )
     }
 
-    /// So many tokens, the first of which has this number.
+    /// The given number of tokens, the first of which has this number.
     fn token_spans(
         &self,
         alloc: Global,

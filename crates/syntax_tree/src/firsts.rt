@@ -25,7 +25,7 @@ fn take_name(names: &mut DefaultHasher, item: &Item) {
 }
 
 impl NameKey {
-    /// The key of the names that items define, on which only time rests.
+    /// The key of the names that items define, which affects only running time.
     pub(crate) fn of(items: &[Item]) -> NameKey {
         let mut names = DefaultHasher::new();
         for item in items {
@@ -65,7 +65,7 @@ impl Firsts {
     ghost use Rattle.std.specs.Prelude.{◌≡◌, ◌++◌, [], ◌∷◌, None, OnOk};
     ghost use Rattle.syntax_tree.specs.Firsts.{lookup};
 
-    /// No names. Those to come are hashed by the key.
+    /// No names. Names added later are hashed with the key.
     pub(crate) fn new(alloc: Global, key: NameKey) -> Firsts
         ensures { result ≡ [] }
     {
@@ -74,14 +74,14 @@ impl Firsts {
         }
     }
 
-    /// The number of the item that defines a name first, from 0 on, if one does.
+    /// The number of the item that first defines a name, from 0 on, if one does.
     pub fn get(&self, name: &Name) -> Option<usize>
         ensures { result ≡ lookup self.now name.now }
     {
         self.rows.get(name.as_str()).copied()
     }
 
-    /// Adds a name that is not there.
+    /// Adds a name that is not in the table.
     pub(crate) fn add(
         &mut self,
         alloc: Global,

@@ -1,4 +1,4 @@
-//! What a program text says, with where it stands.
+//! The items of a program text, with where they stand.
 
 ghost use Rattle.std.specs.Prelude.{◌≡◌};
 ghost use Rattle.syntax_tree.specs.Trees.{span_of, fault_at, fault_of};
@@ -10,7 +10,7 @@ use task_descriptor::name::Name;
 /// A part of one line of a text.
 #[derive(Clone, Copy, Debug, PartialEq, Eq)]
 pub struct SyntaxSpan {
-    /// The line, from 1 on.
+    /// The line, counted from 1.
     pub line: u32,
     /// The column of its first byte; columns are counted in bytes, from 1.
     pub column: usize,
@@ -26,9 +26,9 @@ pub enum LineFaultKind {
     NotAscii,
     /// 3: some bytes are no token.
     Token,
-    /// 4: the statement is none that the section has.
+    /// 4: the statement is not one that the section allows.
     Mnemonic,
-    /// 5: the operands are not of the statement's number and kinds.
+    /// 5: the operands do not fit the statement in number or kind.
     Operand,
     /// 6: a number is out of its range.
     Number,
@@ -41,7 +41,7 @@ pub enum LineFaultKind {
 pub enum Said {
     /// A label of this name.
     Label(Name),
-    /// The statement of a line. A line that says nothing has none.
+    /// The statement of a line, unless it is empty.
     Statement(Statement),
     /// What cannot be read, and why.
     Fault(LineFaultKind),
@@ -50,9 +50,9 @@ pub enum Said {
 /// A label, the statement of a line or its fault, with where it stands.
 #[derive(Debug, Drop)]
 pub struct Item {
-    /// The line, from 1 on.
+    /// The line, counted from 1.
     pub line: u32,
-    /// The number of its first token in the line, from 0 on.
+    /// The number of its first token in the line, counted from 0.
     pub token: u32,
     /// The column of its first byte, counted in bytes, from 1 on.
     pub column: u32,
@@ -62,7 +62,7 @@ pub struct Item {
     pub width: u32,
     /// The section of the line.
     pub section: Section,
-    /// What it says.
+    /// Its label, statement or fault.
     pub said: Said,
 }
 
@@ -78,7 +78,7 @@ impl Item {
         }
     }
 
-    /// The fault of its line, as the assembler tells it, if it is one.
+    /// The fault of its line, as the assembler reports it, if it is one.
     pub fn fault(&self) -> Option<AsmFault>
         ensures { result ≡ fault_of self.now }
     {
@@ -90,7 +90,7 @@ impl Item {
 }
 
 impl LineFaultKind {
-    /// The fault of the line of this number, as the assembler tells it.
+    /// The fault of the line of this number, as the assembler reports it.
     pub fn on_line(self, line: u32) -> AsmFault
         ensures { result ≡ fault_at line self }
     {

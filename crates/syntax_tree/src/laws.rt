@@ -30,8 +30,8 @@ pub fn items_are_the_programs()
 {}
 
 /// The bytes at the place of a label are its name; those at the place of a statement, read alone on a line of its
-/// section, are that statement; and those of what is no statement have the fault that its line has. Nothing is said of
-/// the bytes of a line that has no tokens.
+/// section, are that statement; and those of what is no statement have the fault that its line has. Nothing is stated
+/// about the bytes of a line that has no tokens.
 pub fn bytes_say_the_item()
     ensures { (text : List ℕ) → All (λ item. Says item.section (bytes_at text (span_of item)) item.said) (tree_of text) }
 {}

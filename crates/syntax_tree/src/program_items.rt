@@ -1,4 +1,4 @@
-//! The items that the instructions, the tasks and the other parts of a program are of.
+//! The items that the instructions, the tasks and the other parts of a program come from.
 
 ghost use Rattle.std.specs.Prelude.{◌≡◌, ◌++◌, map, replicate, IfOk, OnOk};
 ghost use Rattle.std.specs.List.{filter};
@@ -10,7 +10,7 @@ use annotated_asm::line::instruction_count;
 use program_statements::statement::Statement;
 use std::alloc::{AllocError, Global};
 
-/// How many instructions of the machine it is.
+/// How many machine instructions it expands to.
 fn instructions_of(said: &Said) -> u64
     ensures { result ≡ instructions_of said.now }
 {
@@ -20,7 +20,7 @@ fn instructions_of(said: &Said) -> u64
     }
 }
 
-/// Adds an item so many times.
+/// Adds an item the given number of times.
 fn add_times<'a>(found: &mut Vec<&'a Item>, item: &'a Item, count: u64) -> Result<(), AllocError>
     ensures { OnOk result (map (λ item. item.now) found.new.items ≡ map (λ item. item.now) found.old.items ++ replicate count item.now) }
 {
@@ -30,8 +30,8 @@ fn add_times<'a>(found: &mut Vec<&'a Item>, item: &'a Item, count: u64) -> Resul
     Ok(())
 }
 
-/// For each instruction of the machine, index 0 first, the item that it is of. The two of a pseudo-instruction are
-/// of one item.
+/// For each machine instruction, index 0 first, the item that it comes from. The two of a pseudo-instruction
+/// share one item.
 ///
 /// # Errors
 ///
@@ -121,7 +121,7 @@ pub fn data_items<'a>(alloc: Global, items: &'a [Item]) -> Result<Vec<&'a Item>,
     Ok(found)
 }
 
-/// Whether it says where the program starts.
+/// Whether it gives the program's start.
 pub(crate) fn is_start(item: &Item) -> bool
     ensures { result ≡ is_start item.now.said }
 {

@@ -19,7 +19,7 @@ use program_tokens::token::{Token, TokenFault};
 use std::alloc::{AllocError, Global};
 use task_descriptor::name::Name;
 
-/// What stands from the first byte of one token to the last of another.
+/// What stands from the first byte of one token to the last byte of another.
 fn item_between(
     line: u32,
     section: Section,
@@ -53,7 +53,7 @@ fn first_label<'a>(tokens: &'a [Token]) -> Option<(Name, &'a [Token])>
     }
 }
 
-/// Adds the labels at the front of a line. Answers the tokens after them, and how many tokens they are.
+/// Adds the labels at the front of a line. Returns the tokens after them, and how many tokens the labels take.
 fn add_labels<'a>(
     items: &mut Vec<Item>,
     line: u32,
@@ -79,7 +79,7 @@ fn add_labels<'a>(
     Ok((rest, number))
 }
 
-/// What is wrong with a statement, as what is wrong with its line.
+/// A statement's fault, as a fault of its line.
 fn kind_of_fault(fault: StatementFault) -> LineFaultKind
     ensures { result ≡ kind_of_fault fault }
 {
@@ -115,7 +115,7 @@ fn add_statement(
     }
 }
 
-/// Adds the items of a line of these tokens, and answers the section after it.
+/// Adds the items of a line of these tokens, and returns the section after it.
 #[tactic(auto, unfolding(crate::specs::Trees::tokens_items))]
 fn add_tokens(
     alloc: Global,
@@ -166,14 +166,14 @@ fn whole_line(line: u32, section: Section, text: &[u8], kind: LineFaultKind) -> 
     }
 }
 
-/// What is read of a line; its room is used again for the next one.
+/// What is read of a line; its memory is reused for the next one.
 #[derive(Drop)]
 struct Read {
     tokens: Vec<Token>,
     spans: Vec<TokenSpan>,
 }
 
-/// Adds the items of a line, and answers the section after it.
+/// Adds the items of a line, and returns the section after it.
 #[tactic(auto, unfolding(crate::specs::Trees::line_items))]
 fn add_line(
     alloc: Global,
@@ -204,7 +204,7 @@ fn add_line(
     }
 }
 
-/// The syntax tree of a text, which has every line, also those with a fault and those after them.
+/// The syntax tree of a text, which has every line, including those with a fault and those after them.
 ///
 /// # Errors
 ///

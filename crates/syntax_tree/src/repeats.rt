@@ -48,7 +48,7 @@ fn tasks_in(alloc: Global, items: &[Item]) -> Result<Firsts, AllocError>
     Ok(tasks)
 }
 
-/// The number of the first item that says where the program starts.
+/// The number of the first item that gives the program's start.
 fn start_in(items: &[Item]) -> Option<usize>
     ensures { result ≡ position (λ item. is_start item.said) items.now }
 {
@@ -70,7 +70,7 @@ pub fn defined_in(alloc: Global, items: &[Item]) -> Result<Defined, AllocError>
     })
 }
 
-/// The number of the item that defines first what is defined here, if something is.
+/// The number of the item that first defines what is defined here, if anything is.
 fn first_like(defined: &Defined, said: &Said) -> Option<usize>
     ensures { result ≡ first_like defined.now said.now }
 {
@@ -82,7 +82,7 @@ fn first_like(defined: &Defined, said: &Said) -> Option<usize>
     }
 }
 
-/// A number, if it is another than this one.
+/// A number, if it differs from this one.
 fn other_than(number: usize, first: Option<usize>) -> Option<usize>
     ensures { result ≡ other_than number first }
 {
@@ -92,7 +92,7 @@ fn other_than(number: usize, first: Option<usize>) -> Option<usize>
     }
 }
 
-/// The number of the item that defines first what the item of this number defines again, if it does.
+/// The number of the item that first defines what the item of this number defines again, if it does.
 pub fn repeated(defined: &Defined, number: usize, said: &Said) -> Option<usize>
     ensures { result ≡ repeated defined.now number said.now }
 {

@@ -12,7 +12,7 @@ use program_tokens::span::{TokenSpan, read_spans};
 use program_tokens::token::{Token, TokenFault};
 use std::alloc::AllocError;
 
-/// Puts the tokens of a line in place of those that are there. There are no more than the line has bytes.
+/// Replaces the tokens that are there with those of a line. There are no more than the line has bytes.
 ///
 /// # Errors
 ///
@@ -25,7 +25,7 @@ pub(crate) fn read_line(tokens: &mut Vec<Token>, line: &[u8]) -> Result<(), Toke
     read_tokens(tokens, line)
 }
 
-/// Puts the places of a line's tokens in place of those that are there. No place ends after the line.
+/// Replaces the places that are there with those of a line's tokens. No place ends after the line.
 ///
 /// # Errors
 ///
@@ -64,7 +64,7 @@ pub(crate) fn end_at(spans: &[TokenSpan], number: usize) -> u32
     }
 }
 
-/// How many bytes there are from the first of one token to the last of another.
+/// The number of bytes from the first byte of one token to the last byte of another.
 pub(crate) fn width_between(spans: &[TokenSpan], first: usize, last: usize) -> u32
     requires { All (λ span. span.column + span.len < 2 ^ 32) spans.now }
     ensures { result ≡ end_at spans.now last - column_at spans.now first }

@@ -14,7 +14,7 @@ use std::marker::Model;
 pub enum TreeFault {
     /// It has more than 4,194,304 bytes.
     TooLong,
-    /// There was no memory.
+    /// Out of memory.
     OutOfMemory,
 }
 
@@ -26,7 +26,7 @@ impl From<AllocError> for TreeFault {
     }
 }
 
-/// What a text says, line by line: its labels, its statements and the lines with a fault, in their order.
+/// What a text holds, line by line: its labels, its statements and the lines with a fault, in their order.
 #[derive(Debug, Drop)]
 pub struct SyntaxTree {
     items: Vec<Item>,
@@ -56,7 +56,7 @@ impl SyntaxTree {
         &self.items
     }
 
-    /// The first fault of a line, as the assembler tells it; `None` where each line can be read.
+    /// The first fault of a line, as the assembler reports it; `None` where each line can be read.
     pub fn first_fault(&self) -> Option<AsmFault>
         ensures { result ≡ first_fault self.now }
     {

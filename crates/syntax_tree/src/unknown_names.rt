@@ -10,7 +10,7 @@ use program_statements::statement::{Instruction, Section, Statement, Target};
 use std::alloc::{AllocError, Global};
 use task_descriptor::name::Name;
 
-/// As what a name is used.
+/// How a name is used.
 #[derive(Clone, Copy, Debug, PartialEq, Eq)]
 pub enum UsedAs {
     /// After `.start`: a label of code.
@@ -30,7 +30,7 @@ pub struct UnknownName {
     pub item: usize,
     /// The name.
     pub name: Name,
-    /// As what it is used.
+    /// How it is used.
     pub used_as: UsedAs,
 }
 

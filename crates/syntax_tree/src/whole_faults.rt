@@ -38,14 +38,14 @@ pub struct TaskEntry {
     pub entry: u64,
 }
 
-/// Whether a limit is passed from so much to so much.
+/// Whether a limit is passed between the two amounts.
 fn is_passed(most: u64, before: u64, after: u64) -> bool
     ensures { result ≡ is_passed most before after }
 {
     before <= most && most < after
 }
 
-/// The limit of a section that is passed from so much to so much, if one is.
+/// The limit of a section that is passed between the two amounts, if one is.
 fn section_limit(section: Section, before: Amounts, after: Amounts) -> Option<Limit>
     ensures { result ≡ section_limit section before after }
 {
@@ -57,7 +57,7 @@ fn section_limit(section: Section, before: Amounts, after: Amounts) -> Option<Li
     }
 }
 
-/// The limit that is passed with a task before which so much stands, if one is.
+/// The limit that a task passes, given the amount before it, if it passes one.
 fn task_limit(before: Amounts, task: &Task) -> Option<Limit>
     ensures { result ≡ task_limit before task.now }
 {
@@ -70,7 +70,7 @@ fn task_limit(before: Amounts, task: &Task) -> Option<Limit>
     None
 }
 
-/// The limit that is passed with an item of a section before which so much stands, if one is: each limit is passed
+/// The limit that an item of a section passes, given the amount before it, if it passes one: each limit is passed
 /// once, by the first item beyond it, but each task with too many targets passes theirs.
 pub fn limit_passed(before: Amounts, section: Section, said: &Said) -> Option<Limit>
     ensures { result ≡ limit_passed before section said.now }

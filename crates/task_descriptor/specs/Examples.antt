@@ -36,7 +36,7 @@ well_formed = refl
 pub without_tasks : build_fault (record program { tasks = [] }) ≡ Some NoTask
 without_tasks = refl
 
--- an entry behind the code comes before a bad start
+-- an entry past the code comes before a bad start
 pub entry_behind : build_fault (record program { tasks = record last { entry = 3 } ∷ [] }) ≡ Some BadEntry
 entry_behind = refl
 

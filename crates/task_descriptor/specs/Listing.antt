@@ -36,11 +36,11 @@ listing_of parts = record {
   start = parts.start;
 }
 
--- what the plain machine takes of it: no mark, and no task
+-- what the plain machine takes from it: no mark, and no task
 abbrev pub input : Listing → Input
 input p = record { code = map (λ m. m.op) p.code; bytes = p.bytes; fixed = p.fixed; start = p.start }
 
--- an index that is that of an instruction
+-- an index at which there is an instruction
 abbrev pub if_instruction : List Marked → Option ℕ → Option ℕ
 if_instruction code None = None
 if_instruction code (Some index) = if nat_lt index (length code) then Some index else None
@@ -49,7 +49,7 @@ if_instruction code (Some index) = if nat_lt index (length code) then Some index
 abbrev pub instruction_at : Listing → ℕ → Option ℕ
 instruction_at p at = if_instruction p.code (index_of at)
 
--- the numbers below n, rising
+-- the numbers below n, in ascending order
 abbrev pub numbers_below : ℕ → List ℕ
 numbers_below zero = []
 numbers_below (suc n) = numbers_below n ++ n ∷ []
@@ -91,7 +91,7 @@ is_conditional (BranchTwo kind rs rt place) = true
 is_conditional (BranchOne kind rs place) = true
 is_conditional _ = false
 
--- a stop if taken or if not taken stands on a conditional branch alone, and none on a `halt`
+-- a stop if taken or if not taken stands only on a conditional branch, and a `halt` has no stop
 abbrev pub stop_fits : Stop → Op → Bool
 stop_fits Never op = true
 stop_fits Always Halt = false
@@ -126,17 +126,17 @@ build_fault p =
     else if has_bad_mask p.tasks then Some BadMask
     else mark_fault (position is_bad_mark p.code) (starts_at_no_entry p)
 
--- a set of registers alone, 0 to 33
+-- a set of only registers, 0 to 33
 abbrev pub OfRegisters : (ℕ → Bool) → Type 0
 OfRegisters set = (r : ℕ) → set r ≡ true → r < 34
 
--- an instruction names registers alone: those that it waits for, and those that it writes
+-- an instruction names only registers: those that it waits for, and those that it writes
 pub record NamesRegisters (m : Marked) : Type 0 where
   pub waits : OfRegisters (waits m.op)
   pub dests : OfRegisters (dests m.op)
 
 -- so do all instructions and create masks, and the name of each task is a name; the types of the parts
--- see to it, so no refusal tests it
+-- ensure this, so no refusal tests it
 pub record IsInRange (p : Listing) : Type 0 where
   pub code : All NamesRegisters p.code
   pub tasks : All (λ t. OfRegisters (has t.create)) p.tasks

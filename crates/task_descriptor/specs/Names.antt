@@ -18,7 +18,7 @@ begins (Some first) = begins_name first
 abbrev pub is_name : List ℕ → Bool
 is_name bytes = nat_le (length bytes) 32 && begins (slice_get bytes 0) && list_all continues_name bytes
 
--- how a name is kept: its bytes, and 0 behind them up to 32
+-- how a name is kept: its bytes, then zeros up to 32
 pub record NameFields (padded : List ℕ) (len : ℕ) : Type 0 where
   pub name : is_name (take len padded) ≡ true
   pub within : len ≤ length padded

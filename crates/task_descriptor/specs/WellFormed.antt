@@ -1,4 +1,4 @@
--- What a well-formed program's facts are, each by itself: the tests of the refusals, taken apart.
+-- The facts of a well-formed program, one by one: the tests of the refusals, taken apart.
 use Rattle.std.specs.Prelude.{◌≡◌, ◌≤◌, ◌<◌, ℕ, zero, suc, Bool, true, false, not, ◌&&◌, ◌||◌, nat_eq, nat_lt, nat_le, cond, Option, Some, None, List, [], ◌∷◌, length, slice_get, position}
 use Rattle.std.specs.List.{list_any, All}
 use Rattle.std.proofs.Common.{refl, arith, ap, sym, ◌∙◌, subst}
@@ -109,14 +109,14 @@ all_at : {X : Type 0} (P : X → Type 0) (xs : List X) (i : ℕ) (x : X) → All
 all_at P xs i x all at =
     subst P (get_or_from_slice_get xs i x x at) (All-get_or P xs i x (slice_get_within xs i x at) all)
 
--- an instruction waits for registers alone, and writes registers alone
+-- an instruction waits only for registers, and writes only registers
 pub waits_below : (p : Listing) → IsWellFormed p → (index : ℕ) (m : Marked) → slice_get p.code index ≡ Some m → (r : ℕ) → waits m.op r ≡ true → r < 34
 waits_below p h index m at = (all_at NamesRegisters p.code index m h.in_range.code at).waits
 
 pub dests_below : (p : Listing) → IsWellFormed p → (index : ℕ) (m : Marked) → slice_get p.code index ≡ Some m → (r : ℕ) → dests m.op r ≡ true → r < 34
 dests_below p h index m at = (all_at NamesRegisters p.code index m h.in_range.code at).dests
 
--- a create mask has registers alone
+-- a create mask has only registers
 pub creates_below : (p : Listing) → IsWellFormed p → (t : ℕ) (d : Descriptor) → slice_get p.tasks t ≡ Some d → (r : ℕ) → has d.create r ≡ true → r < 34
 creates_below p h t d at = all_at (λ (u : Descriptor). OfRegisters (has u.create)) p.tasks t d h.in_range.tasks at
 

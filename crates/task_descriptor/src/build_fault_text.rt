@@ -1,4 +1,4 @@
-//! What is said of a program's parts that are refused.
+//! What is reported about a program's parts that are refused.
 
 use crate::program::BuildFault;
 use std::error::Error;

@@ -49,7 +49,7 @@ fn has_duplicate(alloc: Global, tasks: &[Descriptor]) -> bool
     }
 }
 
-/// The same, by the entries and the names of the tasks behind each task.
+/// Like `has_duplicate`, but by the entries and the names of the tasks after each task.
 fn repeats(alloc: Global, tasks: &[Descriptor]) -> Result<bool, AllocError>
     ensures { IfOk result (λ found. found ≡ has_duplicate_of tasks.now) }
 {

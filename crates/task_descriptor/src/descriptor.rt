@@ -9,9 +9,9 @@ use mips_instructions::number::{Place, RegSet};
 /// Where a task ends: the stop bits of an instruction.
 #[derive(Clone, Copy, Debug, PartialEq, Eq)]
 pub enum Stop {
-    /// It goes on behind this instruction.
+    /// It continues after this instruction.
     None,
-    /// It ends behind this instruction.
+    /// It ends after this instruction.
     Always,
     /// It ends if the branch is taken.
     Taken,

@@ -2,11 +2,11 @@
 
 use std::marker::Model;
 
-/// The most bytes that a name has.
+/// The most bytes that a name can have.
 pub const MOST_NAME: usize = 32;
 
 /// A name: a letter or `_`, then letters, digits and `_`; 1 to 32 bytes.
-// The bytes behind the name are 0, so that equal names have equal fields.
+// The bytes after the name are 0, so that equal names have equal fields.
 #[derive(Clone, Copy, Debug, PartialEq, Eq, Hash)]
 pub struct Name {
     padded: [u8; 32],
@@ -37,7 +37,7 @@ impl Name {
     ghost use Rattle.std.specs.Prelude.{◌≡◌, ◌↔◌, IsSome, IfSome, IsTrue};
     ghost use Rattle.task_descriptor.specs.Names.{is_name};
 
-    /// The name of these bytes; `None` where they are no name.
+    /// The name of these bytes; `None` if they are not a name.
     pub fn new(bytes: &[u8]) -> Option<Name>
         ensures some { IsSome result ↔ IsTrue (is_name bytes.now) }
         ensures value { IfSome result (λ name. name ≡ bytes.now) }
@@ -108,7 +108,7 @@ pub fn begins_name(byte: u8) -> bool
     byte.is_ascii_alphabetic() || byte == b'_'
 }
 
-/// Whether a name may go on with this byte.
+/// Whether a name may continue with this byte.
 pub fn continues_name(byte: u8) -> bool
     ensures { result ≡ continues_name_of byte }
 {

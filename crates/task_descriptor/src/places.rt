@@ -3,7 +3,7 @@
 use mips_instructions::number::Place;
 use std::marker::Model;
 
-/// A list of places, as a descriptor's targets.
+/// A list of places, such as a descriptor's targets.
 #[derive(Debug, Drop)]
 pub struct Places {
     items: Vec<Place>,

@@ -12,16 +12,16 @@ use mips_plain::plain::{Plain, PlainFault};
 use std::alloc::{AllocError, Global};
 use std::marker::Model;
 
-/// The most tasks that a program has.
+/// The most tasks that a program can have.
 pub const MOST_TASKS: usize = 1024;
 
-/// The most targets that a task has.
+/// The most targets that a task can have.
 pub const MOST_TARGETS: usize = 16;
 
-/// The most bytes of data, and of read-only data, that a program gives.
+/// The most bytes of data, and of read-only data, that a program can give.
 pub const MOST_BYTES: usize = 65_536;
 
-/// What a program is made of, not yet looked at.
+/// What a program is made of, not yet checked.
 #[derive(Debug, Drop)]
 pub struct Parts {
     /// The instructions, index 0 first.
@@ -36,10 +36,10 @@ pub struct Parts {
     pub start: Place,
 }
 
-/// Why parts make no program (own numbering; the first that holds is answered).
+/// Why parts make no program (the first that holds is returned).
 #[derive(Clone, Copy, Debug, PartialEq, Eq)]
 pub enum BuildFault {
-    /// 1: more instructions, tasks, targets of a task, or bytes of either region than the limits.
+    /// 1: more instructions, tasks, targets of a task, or bytes of either region than the limits allow.
     TooMany,
     /// 2: no task.
     NoTask,
@@ -177,7 +177,7 @@ impl Program {
     }
 
     /// The plain machine at the program's start: it takes the instructions without their marks, and no
-    /// task. Want of memory leaves nothing behind.
+    /// task. If memory runs out, nothing is left behind.
     pub fn plain(&self, alloc: Global) -> Result<Plain, OutOfMemory>
         ensures { IfOk result (λ machine. IsAfter (input self.now) 0 machine) }
     {

@@ -1,5 +1,5 @@
-//! That parts name registers alone, and that their tasks' names are names, as their types say. These
-//! calls do nothing: their contracts hand out what the types keep.
+//! That parts name only registers, and that their tasks' names are names, as their types state. These
+//! calls do nothing: their contracts expose what the types guarantee.
 
 ghost use Rattle.std.specs.Prelude.{◌≡◌, true};
 ghost use Rattle.std.specs.List.{All};

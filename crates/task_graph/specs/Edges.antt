@@ -52,13 +52,13 @@ end_of leaving m i taken = if beq (leaves m.stop taken) leaving then edge m.op i
 abbrev pub ends_of : (leaving : Bool) → Marked → ℕ → List ℕ
 ends_of leaving m i = option_to_list (end_of leaving m i false) ++ option_to_list (end_of leaving m i true)
 
--- A path from `i` along inner edges. It goes on from instructions alone, so an index that is no
+-- A path from `i` along inner edges. It continues only from instructions, so an index that is no
 -- instruction can only be its last.
 pub data Path (p : Listing) (i : ℕ) : ℕ → Type 0 where
   stay : Path p i i
   onward : {j k : ℕ} → Path p i j → Edge p false j k → Path p i k
 
--- A path from `i` may write the register `r`: it comes to an instruction of which r is a destination.
+-- A path from `i` may write the register `r`: it reaches an instruction of which r is a destination.
 pub record MayWrite (p : Listing) (i r : ℕ) : Type 0 where
   pub place : ℕ
   pub comes : Path p i place

@@ -40,7 +40,7 @@ count = record {
   start = 0;
 }
 
--- the branch that stops always has two exits, behind it and at its target, and no inner edge
+-- the branch that stops always has two exits, after it and at its target, and no inner edge
 pub branch_exits : ends_of true (stops (BranchTwo Bne 10 0 0)) 3 ≡ 4 ∷ 0 ∷ []
 branch_exits = refl
 

@@ -1,4 +1,4 @@
--- What the calls of this crate answer, in terms of edges.
+-- What the functions of this crate return, in terms of edges.
 use Rattle.std.specs.Prelude.{◌≡◌, ℕ, ◌<◌, ◌≤◌, Bool, true, false, ◌||◌, nat_eq, length, slice_get, Option, Some, None}
 use Rattle.task_descriptor.specs.Listing.{Listing}
 use Rattle.task_descriptor.specs.declared.descriptor.Marked.{Marked}
@@ -15,7 +15,7 @@ is_it (Some k) j = nat_eq k j
 abbrev pub is_among : Next → ℕ → Bool
 is_among next j = is_it next.first j || is_it next.second j
 
--- The lesser index is the first, and none stands twice.
+-- The lesser index is the first, and none occurs twice.
 abbrev pub InOrder : (first second : Option ℕ) → Type 0
 InOrder first None = Unit {0}
 InOrder None (Some j) = ⊥

@@ -14,8 +14,8 @@ abbrev pub work_of : Option ℕ → List Bool → List ℕ → List ℕ
 work_of None marks work = work
 work_of (Some j) marks work = if is_marked marks j then work else work ++ j ∷ []
 
--- A search among the indices below a bound: what is marked is come to; and each index that what is marked
--- leads to is marked too, but for what still waits in the work, and for the one index that is being looked at.
+-- A search among the indices below a bound: what is marked is reached; and each index that a marked one leads to
+-- is marked too, except where the marked one still waits in the work or is the one being looked at.
 pub record Search (bound : ℕ) (Comes : ℕ → Type 0) (Leads : (from to : ℕ) → Type 0) (marks : List Bool) (work : List ℕ) (busy : Option ℕ) : Type 0 where
   pub sized : length marks ≡ bound
   pub sound : (i : ℕ) → is_marked marks i ≡ true → Comes i

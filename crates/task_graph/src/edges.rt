@@ -7,7 +7,7 @@ use mips_instructions::instruction::Op;
 use task_descriptor::descriptor::{Marked, Stop};
 use task_descriptor::program::Program;
 
-/// At most two indices, the lesser one first; one that would stand twice stands once.
+/// At most two indices, the lesser one first; one that would occur twice occurs once.
 #[derive(Clone, Copy, Debug, PartialEq, Eq)]
 pub struct Next {
     /// The least index, if there is any.
@@ -16,7 +16,7 @@ pub struct Next {
     pub second: Option<u32>,
 }
 
-/// Where a task may go on to from one of its instructions.
+/// Where a task may continue from one of its instructions.
 #[derive(Clone, Copy, Debug, PartialEq, Eq)]
 pub struct Exits {
     /// The indices that exit edges lead to. One may be no instruction's.
@@ -68,8 +68,8 @@ pub fn exits_of(program: &Program, i: u32) -> Exits
 }
 
 /// The index that `op` at `i` leads to, for a conditional branch where it is `taken` or isn't; `None`
-/// for a jump to an address in a register and for `halt`, and where only a conditional branch is
-/// taken. The caller sees to it that `i` is below 4,096. Takes no memory.
+/// for a jump to an address in a register and for `halt`, and if `taken` for all but a conditional
+/// branch. The caller sees to it that `i` is below 4,096. Takes no memory.
 #[inline]
 pub fn leads_to(op: &Op, i: u32, taken: bool) -> Option<u32>
     requires { i < 4096 }

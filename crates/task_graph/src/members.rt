@@ -12,8 +12,8 @@ use crate::search::mark;
 use std::alloc::{AllocError, Global};
 use task_descriptor::program::Program;
 
-/// The indices of the instructions that the task comes to from its entry along inner edges, rising;
-/// none for a task number that is not there. Each instruction is visited once.
+/// The indices of the instructions that the task reaches from its entry along inner edges, rising;
+/// none for a task number that does not exist. Each instruction is visited once.
 ///
 /// # Errors
 ///
@@ -33,7 +33,7 @@ pub fn members(alloc: Global, program: &Program, task: u32) -> Result<Vec<u32>, 
     }
 }
 
-/// A mark for each instruction that a path from the entry comes to.
+/// A mark for each instruction that a path from the entry reaches.
 fn reached(alloc: Global, program: &Program, entry: u32) -> Result<Vec<bool>, AllocError>
     requires { entry < length program.now.code }
     ensures sized { IfOk result (λ v. length v.items ≡ length program.now.code) }

@@ -1,4 +1,4 @@
-//! A step of a search along edges: one index more is marked.
+//! A step of a search along edges: one more index is marked.
 
 ghost use Rattle.std.specs.Prelude.{◌≡◌, ℕ, ◌<◌, length, OnOk, Some};
 ghost use Rattle.task_graph.specs.SearchSteps.{mark_of, work_of};

@@ -1,4 +1,4 @@
--- Tallies with one life more, and their rows. For private functions.
+-- Tallies with one more life, and their rows. For private functions.
 use Rattle.std.specs.Prelude.{ℕ, ◌+◌, ◌^◌, ◌<◌, List, [], ◌∷◌, ◌++◌, slice_index_or, nat_eq, if◌then◌else◌}
 use Rattle.task_lives.specs.declared.life.Ending.{Ending}
 use Rattle.task_lives.specs.declared.life.Ending.TheVariants.{Retired, Squashed, Dropped, Unfinished}
@@ -8,7 +8,7 @@ use Rattle.task_lives.specs.declared.tally.Tally.{Tally}
 use Rattle.task_lives.specs.Tallies.{tally_of}
 use Rattle.task_lives.specs.SummaryText.{row_text}
 
--- one more that ended so, and executed so many instructions
+-- one more that ended this way and executed the given number of instructions
 abbrev pub with_one : Ending → (executed : ℕ) → Tally → Tally
 with_one Retired n t = record t { assigned = t.assigned + 1; retired = t.retired + 1; useful = t.useful + n }
 with_one Squashed n t = record t { assigned = t.assigned + 1; squashed = t.squashed + 1; wasted = t.wasted + n }
@@ -29,7 +29,7 @@ abbrev pub rows_from : List Tally → (task : ℕ) → List Descriptor → List 
 rows_from ts task [] = []
 rows_from ts task (d ∷ ds) = row_text (slice_index_or ts task (tally_of [])) d.name ++ rows_from ts (task + 1) ds
 
--- the life can be counted, as far as the numbers' type goes
+-- the life can be counted, as far as the numbers' type allows
 pub record HasRoom (life : Life) (t : Tally) : Type 0 where
   pub assigned : t.assigned + 1 < 2 ^ 32
   pub retired : t.retired + 1 < 2 ^ 32

@@ -19,7 +19,7 @@ life task unit first last executed ending = record {
   ending = ending;
 }
 
--- `count` on two units: behind the first round its second task is predicted, and squashed when the round
+-- `count` on two units: after the first round its second task is predicted, and squashed when the round
 -- goes back to its beginning; the next round takes its unit
 abbrev count_again : List Event
 count_again = Assign 0 ∷ Assign 1 ∷ Exec 0 ∷ Exec 0 ∷ Transfer 1 8 ∷ Transfer 1 9 ∷ Exec 0 ∷ Exec 0 ∷ Drain 0 10 ∷ Squash 0 ∷ Assign 0 ∷ Transfer 1 8 ∷ Transfer 1 9 ∷ Exec 1 ∷ Exec 1 ∷ Retire ∷ []
@@ -36,8 +36,8 @@ count_of_count = refl
 pub unfinished_of_count : instructions is_unfinished (lives_of 2 count_again) ≡ 2
 unfinished_of_count = refl
 
--- `diamond` on three units: task 1 is predicted behind task 0, and task 3 behind it; both are squashed, and
--- task 3 begins anew behind task 2. As the head moves on, a unit's position changes, and not its number
+-- `diamond` on three units: task 1 is predicted after task 0, and task 3 after it; both are squashed, and
+-- task 3 begins anew after task 2. As the head moves on, a unit's position changes, but not its number
 abbrev diamond : List Event
 diamond = Assign 0 ∷ Assign 1 ∷ Assign 3 ∷ Exec 0 ∷ Exec 0 ∷ Squash 0 ∷ Assign 2 ∷ Assign 3 ∷ Exec 2 ∷ Exec 1 ∷ Retire ∷ Retire ∷ Exec 0 ∷ Exec 0 ∷ []
 

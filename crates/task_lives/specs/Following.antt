@@ -16,12 +16,12 @@ pub record FollowingView : Type 0 where
   pub retired : ℕ
   pub events : ℕ
 
--- each has a life behind that of some index
+-- each has a life after that of some index
 abbrev pub AreBehind : (index : ℕ) → List AtWork → Type 0
 AreBehind index [] = Unit {0}
 AreBehind index (w ∷ ws) = (index < w.index) × AreBehind index ws
 
--- each has one of so many lives, before those of the tasks behind it, and executed at most as many
+-- each has one of the given number of lives, before those of the tasks behind it, and executed at most as many
 -- instructions as there were events
 abbrev pub AreInOrder : (lives events : ℕ) → List AtWork → Type 0
 AreInOrder lives events [] = Unit {0}
@@ -33,7 +33,7 @@ pub record IsFollowing (f : FollowingView) : Type 0 where
   pub in_order : AreInOrder (length f.lives) f.events f.queue
   pub few : f.retired + length f.queue ≤ f.events
 
--- a life so far, which then goes on by a course
+-- a life so far, which then continues by a course
 abbrev pub completed : (events : ℕ) → Life → Course → Life
 completed events life c = record life {
   last = events + c.events - 1;
@@ -52,7 +52,7 @@ abbrev pub all_lives : FollowingView → List Event → List Life
 all_lives f es =
     carried_on f.events 0 f.queue es f.lives ++ lives_from f.units f.retired (length f.queue) f.events es
 
--- one state is another one after some events: whatever comes behind them, the lives are the same
+-- one state is another one after some events: whatever comes after them, the lives are the same
 pub record Follows (old : FollowingView) (events : List Event) (new : FollowingView) : Type 0 where
   pub same : (es : List Event) → all_lives old (events ++ es) ≡ all_lives new es
   pub counted : new.events ≡ old.events + length events

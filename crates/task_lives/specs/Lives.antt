@@ -1,4 +1,4 @@
--- The life of a task (own): it begins where an Assign gives the task to a unit, goes on while the unit
+-- The life of a task: it begins where an Assign gives the task to a unit, continues while the unit
 -- moves towards the head of the queue, and ends where the task retires, is squashed or is dropped. Each
 -- Assign of a history begins one.
 use Rattle.std.specs.Prelude.{ℕ, zero, suc, ◌+◌, ◌<◌, ◌≤◌, List, [], ◌∷◌, ◌++◌, nat_eq, nat_lt, if◌then◌else◌, Option, Some, None}
@@ -40,7 +40,7 @@ pub record Course : Type 0 where
   pub executed : ℕ
   pub ending : Ending
 
--- a course with one more event before it, in which so many instructions are executed
+-- a course with one more event before it, in which `executed` instructions are executed
 abbrev pub after_one : (executed : ℕ) → Course → Course
 after_one executed c = record { events = suc c.events; executed = executed + c.executed; ending = c.ending }
 
@@ -52,8 +52,8 @@ course k (e ∷ es) =
     (position_after k e)
     (record { events = 1; executed = 0; ending = ending_by e })
 
--- the life that an Assign begins: it is event number `first`; so many tasks have retired and so many units
--- are at work before it, behind which the task's unit comes, in the queue and round the ring
+-- the life that an Assign begins: it is event number `first`, before which `retired` tasks have retired; the
+-- task's unit comes behind the `active` units at work, in the queue and round the ring
 abbrev pub life_of : (units retired active first task : ℕ) → Course → Life
 life_of units retired active first task c = record {
   task = task;
@@ -64,7 +64,7 @@ life_of units retired active first task c = record {
   ending = c.ending;
 }
 
--- the lives that an event begins, with the events behind it
+-- the lives that an event begins, with the events after it
 abbrev pub begun : (units retired active first : ℕ) → Event → List Event → List Life
 begun units retired active first (Assign task) behind = life_of units retired active first task (course active behind) ∷ []
 begun units retired active first _ behind = []
@@ -87,7 +87,7 @@ Fits active (Squash k) = k < active
 Fits active (Drop k) = k ≤ active
 Fits active _ = Unit {0}
 
--- behind so many units at work, as every history of a machine does behind none
+-- each fits where it comes, with `active` units at work at first; every history of a machine does so with none
 abbrev pub AllFit : (active : ℕ) → List Event → Type 0
 AllFit active [] = Unit {0}
 AllFit active (e ∷ es) = Fits active e × AllFit (active_after active e) es

@@ -1,4 +1,4 @@
--- Sums over lives: how many ended in a way, and how many instructions these executed (own).
+-- Sums over lives: how many ended in a way, and how many instructions these executed.
 use Rattle.std.specs.Prelude.{◌≡◌, ℕ, ◌+◌, ◌≤◌, List, length, map, filter, Bool, true, false}
 use Rattle.std.specs.List.{sum_by, count_by}
 use Rattle.machine_model.specs.declared.event.Commit.{Commit}
@@ -71,7 +71,7 @@ work_of_commit commit = record { task = commit.task; executed = commit.count }
 abbrev pub work_of_unit : Active → Work
 work_of_unit unit = record { task = unit.task; executed = length unit.log }
 
--- what lives say of a history that leaves a state
+-- what lives state about a history that leaves a state
 pub record AddUp (history : List Event) (s : State) (lives : List Life) : Type 0 where
   -- each Assign begins a life
   pub assigns : length lives ≡ count_by is_assign history

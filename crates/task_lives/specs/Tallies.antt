@@ -7,7 +7,7 @@ use Rattle.task_lives.specs.declared.life.Life.{Life}
 use Rattle.task_lives.specs.Sums.{is_retired, is_squashed, is_dropped, is_unfinished, number_ended, instructions}
 use Rattle.task_lives.specs.declared.tally.Tally.{Tally}
 
--- the life was squashed or dropped, so that its work was for nothing
+-- the life was squashed or dropped, so that its work was wasted
 abbrev pub is_given_up : Ending → Bool
 is_given_up Squashed = true
 is_given_up Dropped = true
@@ -31,6 +31,6 @@ tally_of lives = record {
 abbrev pub of_task : (task : ℕ) → List Life → List Life
 of_task task lives = filter (λ life. nat_eq life.task task) lives
 
--- the tallies of so many tasks, from task 0 on
+-- the tallies of the given number of tasks, from task 0 on
 abbrev pub tallies_of : (tasks : ℕ) → List Life → List Tally
 tallies_of tasks lives = map (λ task. tally_of (of_task task lives)) (range_with_len 0 tasks)

@@ -116,7 +116,7 @@ impl Following {
         Ok(())
     }
 
-    /// After so many instructions of the unit at a position.
+    /// After `count` instructions of the unit at a position.
     pub(crate) fn execute(&mut self, position: u32, count: u32)
         requires { self.old.events + count ≤ most_events }
         ensures { Follows self.old (replicate count (Exec position)) self.new }
@@ -125,7 +125,7 @@ impl Following {
         self.events += count;
     }
 
-    /// After an event that says nothing of a life.
+    /// After an event that tells nothing about a life.
     fn pass(&mut self)
         requires { self.old.events < most_events }
         ensures { self.new ≡ record self.old { events = self.old.events + 1 } }
@@ -219,7 +219,7 @@ fn close_head(queue: &mut Vec<AtWork>, lives: &mut Vec<Life>, last: u32)
     close(lives, head, last, Ending::Retired);
 }
 
-/// Takes the task at the tail away, where there are more than so many.
+/// Removes the task at the tail, if there are more than `kept`.
 fn pop_behind(queue: &mut Vec<AtWork>, kept: usize) -> Option<AtWork>
     ensures some { IfSome result (λ tail. (queue.old.items ≡ queue.new.items ++ tail ∷ []) × (kept ≤ length queue.new.items)) }
     ensures none { IfNone result ((queue.new.items ≡ queue.old.items) × (length queue.old.items ≤ kept)) }
@@ -231,7 +231,7 @@ fn pop_behind(queue: &mut Vec<AtWork>, kept: usize) -> Option<AtWork>
     }
 }
 
-/// Ends the lives of the tasks behind so many, from the tail on.
+/// Ends the lives of all tasks but the first `kept`, from the tail on.
 fn close_behind(
     queue: &mut Vec<AtWork>,
     lives: &mut Vec<Life>,
@@ -248,7 +248,7 @@ fn close_behind(
     }
 }
 
-/// A task that executed so many instructions more.
+/// A task that executed `count` more instructions.
 fn with(at_work: AtWork, count: u32) -> AtWork
     requires { at_work.life.executed + count < 2 ^ 32 }
     ensures { result ≡ with_more count at_work }

@@ -1,5 +1,5 @@
 //! The lives of tasks: from the event that assigns a task to a unit to the one that retires, squashes or
-//! drops it, read off the history of a machine; and what a run comes to, counted over its lives.
+//! drops it, read off the history of a machine; and the summary of a run, counted over its lives.
 #![tactic(auto)]
 
 mod following;

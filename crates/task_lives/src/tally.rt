@@ -51,9 +51,9 @@ pub fn add_up(lives: &[Life]) -> Tally
     tally
 }
 
-/// The tallies of so many tasks, from task 0 on, each of the lives of that task. A life of any other task
-/// counts in none. There are at most 1,000,000 lives, which executed at most 1,000,000 instructions. The
-/// error says that memory was refused.
+/// The tallies of the given number of tasks, from task 0 on, each of the lives of that task. A life of any
+/// other task counts in none. There are at most 1,000,000 lives, which executed at most 1,000,000
+/// instructions. An error means that memory was refused.
 pub fn by_task(alloc: Global, lives: &[Life], tasks: usize) -> Result<Vec<Tally>, AllocError>
     requires { AreFew lives.now }
     ensures { IfOk result (λ tallies. tallies.items ≡ tallies_of tasks lives.now) }
@@ -77,7 +77,7 @@ fn count(tallies: &mut Vec<Tally>, life: &Life)
     }
 }
 
-/// The tally with one life more.
+/// The tally with one more life.
 fn with(tally: Tally, life: &Life) -> Tally
     requires { HasRoom life.now tally }
     ensures { result ≡ with_life life.now tally }

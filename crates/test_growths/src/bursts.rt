@@ -48,7 +48,7 @@ fn makes_burst(given: &Given<'_>, machine: &mut Machine<'_>) -> Option<()> {
     None
 }
 
-// The burst comes back with a refusal.
+// A refusal returns the burst.
 fn hands_in_burst(given: &Given<'_>, machine: &mut Machine<'_>) -> Option<()> {
     let Some(lease) = machine.lease(0) else {
         return Some(());

@@ -13,7 +13,7 @@ use std::sync::Wait;
 use std::thread::Threads;
 use task_descriptor::program::Program;
 
-/// How often a call is made at most.
+/// The most times a call is made.
 pub(crate) const TRIES: u32 = 1000;
 
 /// The most instructions of a burst, and more events than a run has.
@@ -21,7 +21,7 @@ pub(crate) const BURST: u32 = 65_536;
 
 pub(crate) const MANY: u64 = 2_000_000;
 
-/// What the calls may do beside taking memory: make threads, and wait.
+/// What the calls may do besides taking memory: make threads, and wait.
 pub(crate) trait Runtime: Threads + Wait + Sync {}
 
 impl<R: Threads + Wait + Sync> Runtime for R {}
@@ -55,7 +55,7 @@ impl Given<'_> {
         self.says(b"end\n");
     }
 
-    /// Says that the call was refused, and what it left.
+    /// Reports that the call was refused, and what it left.
     pub(crate) fn refused(&self, is_memory: bool, is_same: bool) {
         self.says(if !is_memory {
             b"another fault\n"

@@ -36,7 +36,7 @@ pub(crate) fn makes_plain(given: &Given<'_>) -> Option<()> {
     None
 }
 
-// The code comes back with a refusal.
+// A refusal returns the code.
 pub(crate) fn makes_plain_of_code(given: &Given<'_>) -> Option<()> {
     let program = given.assembled()?;
     let mut code = Vec::new(given.alloc());

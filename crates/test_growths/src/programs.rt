@@ -66,7 +66,7 @@ pub(crate) fn certifies(given: &Given<'_>) -> Option<()> {
     None
 }
 
-// The program comes back with a refusal.
+// A refusal returns the program.
 pub(crate) fn proposes(given: &Given<'_>) -> Option<()> {
     let mut program = given.assembled()?;
     let before = print(given.alloc(), &program).ok()?;

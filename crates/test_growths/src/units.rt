@@ -138,7 +138,7 @@ fn takes_after(
     Some(())
 }
 
-// The burst comes back with a refusal.
+// A refusal returns the burst.
 fn takes_burst(
     given: &Given<'_>,
     trial: Trial<'_>,

@@ -41,12 +41,12 @@ fn drawing_of(
     text.expect(rt, "room for a picture")
 }
 
-// Asserts that a piece stands in a picture.
+// Asserts that a piece occurs in a picture.
 fn expect_piece(rt: &impl Abort, picture: &str, piece: &str) {
     assert!(rt; picture.contains(piece), "{piece}");
 }
 
-// Asserts how often a piece stands in a picture.
+// Asserts how often a piece occurs in a picture.
 fn expect_times(rt: &impl Abort, picture: &str, piece: &str, times: usize) {
     assert!(rt; picture.matches(piece).count() == times, "{piece}");
 }

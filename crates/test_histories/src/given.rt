@@ -39,7 +39,7 @@ pub(crate) fn machine<'a>(
     machine.expect(rt, "a machine")
 }
 
-/// As `machine`, after some events, none of which was refused.
+/// Like `machine`, but after some events, none of which was refused.
 pub(crate) fn played<'a>(
     rt: &impl Abort,
     alloc: Global,

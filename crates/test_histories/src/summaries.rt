@@ -59,7 +59,7 @@ fn no_events(rt: HostRuntime) {
     expect_summary(&rt, rt.alloc(), COUNT, COUNT_CERTIFICATE, 2, &[], expected);
 }
 
-// The instructions of the unfinished round are of no column.
+// The instructions of the unfinished round count in no column.
 #[test]
 fn rounds_and_a_squash(rt: HostRuntime) {
     let events = two_rounds(&rt);

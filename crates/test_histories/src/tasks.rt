@@ -168,7 +168,7 @@ at the end: the run goes on
     expect_trace(&rt, rt.alloc(), COUNT, 2, &events, expected);
 }
 
-// The two tasks of a pair need nothing of each other; the last is given up. The trace has nothing of events that
+// The two tasks of a pair need nothing from each other; the last is given up. The trace has nothing of events that
 // could not be.
 #[test]
 fn a_pair_and_a_task_given_up(rt: HostRuntime) {

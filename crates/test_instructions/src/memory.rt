@@ -145,7 +145,7 @@ fn expect_as_made(rt: &impl Abort, memory: &Memory) {
     }
 }
 
-// A store, and the word that is at an address behind it and behind those before it.
+// A store, and the word that is at an address after it and after those before it.
 const STORES: [(StoreKind, u32, u32, u32, u32); 3] = [
     (
         StoreKind::Sh,

@@ -343,7 +343,7 @@ const IMM: [Words<'static>; 5] = [
     },
 ];
 
-// Operations with a constant that has none.
+// Operations with a constant that has no sign.
 const LOGIC: [Words<'static>; 6] = [
     Words {
         forms: &[
@@ -538,7 +538,7 @@ fn computes_words(rt: HostRuntime) {
 struct Branches<'a> {
     form: Form,
     opposite: Form,
-    /// Two operands, 0 where there is none, and whether it is.
+    /// Two operands, 0 where there is none, and whether the branch is taken.
     rows: &'a [(u32, u32, bool)],
 }
 

@@ -1,4 +1,4 @@
-//! What no clause says: each public call of the plain machine and of sets of registers once.
+//! What no clause states: each public call of the plain machine and of sets of registers once.
 
 use crate::memory::zeros;
 use crate::numbers::{gpr, place, reg};
@@ -24,7 +24,7 @@ fn moves(rt: HostRuntime) {
     assert!(rt; to.alu(7, 0, 0x0040_0000, Reg::HI) == None);
 }
 
-// The link is the address behind the jump, also where the register of the jump is that of the link.
+// The link is the address after the jump, also where the register of the jump is that of the link.
 #[test]
 fn links(rt: HostRuntime) {
     let through = Op::JumpLinkReg(gpr(&rt, 9), gpr(&rt, 9));
@@ -132,7 +132,7 @@ fn a_fetch_of_nothing_traps(rt: HostRuntime) {
     expect_at(&rt, &machine, 1, 0x0040_4000);
 }
 
-// So many instructions, each a halt.
+// The given number of instructions, each a halt.
 fn halts(rt: &impl Abort, alloc: Global, count: usize) -> Vec<Op> {
     let mut code = Vec::new(alloc);
     let grown = code.resize(count, Op::Halt);
@@ -150,7 +150,7 @@ fn refusals(rt: HostRuntime) {
     }
 }
 
-// Asserts that so many instructions and so many bytes are too many, and that the code comes back.
+// Asserts that these numbers of instructions and of bytes are too large, and that the code is returned.
 fn expect_refused(rt: &impl Abort, alloc: Global, count: usize, size: usize, fault: PlainFault) {
     let code = halts(rt, alloc, count);
     let data = zeros(rt, alloc, size);

@@ -1,4 +1,4 @@
-//! `annotate`: what is proposed, and what `check` says of it.
+//! `annotate`: what is proposed, and what `check` reports for it.
 
 use crate::answers::{AnswerRow, Bench, EMPTY, answer, expect, expect_of, run_all, texts_of};
 use std::alloc::Global;
@@ -57,7 +57,7 @@ fn annotated(rt: &impl Bench, alloc: Global, words: &str, program: &[u8]) -> Vec
     written
 }
 
-// Asserts what `check` writes of a program and its certificate.
+// Asserts what `check` writes for a program and its certificate.
 fn expect_checked(
     rt: &impl Bench,
     alloc: Global,
@@ -70,7 +70,7 @@ fn expect_checked(
     expect(rt, alloc, "check a.s a.cert", &texts, expected, status);
 }
 
-// Asserts what `check` writes of the program that is proposed and its certificate.
+// Asserts what `check` writes for the program that is proposed and its certificate.
 fn expect_proposed(rt: &impl Bench, alloc: Global, program: &str, expected: &str, status: u8) {
     let program = program.as_bytes();
     let proposed = annotated(rt, alloc, "annotate a.s", program);
@@ -92,7 +92,7 @@ fn bare(rt: &impl Abort, alloc: Global, program: &str) -> String {
     text
 }
 
-// Programs, and what `check` writes of the proposals for them without their marks.
+// Programs, and what `check` writes for the proposals for them without their marks.
 const ACCEPTED: [(&str, &str); 8] = [
     (COUNT, "accepted 2 tasks 6 instructions\n"),
     (WRONG_PATH_LOAD, "accepted 3 tasks 5 instructions\n"),

@@ -47,7 +47,7 @@ impl AnswerRow<'_> {
         self.runs_as(rt, alloc, self.words);
     }
 
-    /// As `runs`, where the words are these.
+    /// Like `runs`, but with these words.
     pub fn runs_as(&self, rt: &impl Bench, alloc: Global, words: &str) {
         self.runs_with(rt, alloc, words, self.certificate);
         if self.certificate.starts_with("cert 1") {

@@ -1,4 +1,4 @@
-//! What `check` says of every beginning of a certificate.
+//! What `check` reports for every prefix of a certificate.
 
 use crate::answers::{Bench, expect, texts_of};
 use std::alloc::Global;
@@ -6,7 +6,7 @@ use std::process::Abort;
 use test_programs::certificates::{COUNT_CERTIFICATE, COUNT_CERTIFICATE_WIDE};
 use test_programs::programs::COUNT;
 
-// What `check` says of a beginning of the certificate of `COUNT`, which has 9 lines.
+// What `check` reports for a prefix of the certificate of `COUNT`, which has 9 lines.
 fn said_of(rt: &impl Abort, alloc: Global, beginning: &[u8]) -> String {
     let lines = beginning.iter().filter(|byte| **byte == b'\n').count();
     let line = lines.saturating_add(1);
@@ -20,7 +20,7 @@ fn said_of(rt: &impl Abort, alloc: Global, beginning: &[u8]) -> String {
     said.ok().expect(rt, "room for a line")
 }
 
-// The report of `check` where the beginning is this many whole lines.
+// The report of `check` where the prefix is this many whole lines.
 fn said_of_lines(lines: usize) -> &'static str {
     match lines {
         7 => "B 4 rule 1 -\nrefused 1\n",
@@ -29,7 +29,7 @@ fn said_of_lines(lines: usize) -> &'static str {
     }
 }
 
-// Asserts what `check` says of a beginning of the certificate of `COUNT`.
+// Asserts what `check` reports for a prefix of the certificate of `COUNT`.
 fn expect_refused(rt: &impl Bench, alloc: Global, beginning: &[u8]) {
     let texts = texts_of(rt, alloc, COUNT.as_bytes(), beginning, b"");
     let said = said_of(rt, alloc, beginning);

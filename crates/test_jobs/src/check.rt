@@ -1,4 +1,4 @@
-//! `check`: what it writes of programs and certificates.
+//! `check`: what it writes for programs and certificates.
 
 use crate::answers::{AnswerRow, EMPTY, run_all};
 use test_programs::certificates::{
@@ -15,7 +15,7 @@ const ACCEPTED: AnswerRow<'static> = AnswerRow {
     ..EMPTY
 };
 
-// `COUNT` with its certificate, but for what a row says.
+// `COUNT` with its certificate, except for what a row gives.
 const REFUSED: AnswerRow<'static> = AnswerRow {
     program: COUNT,
     certificate: COUNT_CERTIFICATE,

@@ -102,7 +102,7 @@ fn expect_fetched(rt: &impl Abort, alloc: Global, most: u64, expected: &[u8]) {
     assert!(rt; fetched.as_slice() == expected, "at most {most}");
 }
 
-// A file that is held in memory. It may say another size than it has, and its positioned reads fail
+// A file that is held in memory. It may report a size other than its own, and its positioned reads fail
 // from an offset on.
 #[derive(Drop)]
 pub struct HeldFile {
@@ -154,7 +154,7 @@ impl PositionedFile for HeldFile {
     }
 }
 
-// Copies what stands from an offset on, as far as there is room; how many bytes that was.
+// Copies what stands from an offset on, as far as there is room; returns how many bytes that was.
 fn copy_from(bytes: &[u8], offset: usize, buffer: &mut [u8]) -> usize
     ensures { (result ≤ length buffer.new) × (result ≡ length (take result buffer.new)) }
 {

@@ -83,7 +83,7 @@ fn write_section(rt: &impl Abort, alloc: Global, text: &mut String, name: &str, 
     assert!(rt; write!(text, "{name}\n.space {space}\n{others}").is_ok());
 }
 
-// What `print` writes of a program, with status 0.
+// What `print` writes for a program, with status 0.
 fn printed(rt: &impl Bench, alloc: Global, program: &[u8]) -> Vec<u8> {
     let texts = texts_of(rt, alloc, program, b"", b"");
     let (printed, status) = answer(rt, alloc, "print a.s", &texts);
@@ -99,7 +99,7 @@ fn prints_the_largest_program(rt: HostRuntime) {
     assert!(rt; again.as_slice() == once.as_slice());
 }
 
-// Asserts what `print` says of a text.
+// Asserts what `print` reports for a text.
 fn expect_refused(rt: &impl Bench, alloc: Global, program: &[u8], expected: &str) {
     let texts = texts_of(rt, alloc, program, b"", b"");
     expect(rt, alloc, "print a.s", &texts, expected, 1);

@@ -1,4 +1,4 @@
-//! `replay`: what it writes of scripts.
+//! `replay`: what it writes for scripts.
 
 use crate::answers::{AnswerRow, Bench, EMPTY};
 use crate::scripts::{

@@ -199,7 +199,7 @@ fn keeps_results(rt: HostRuntime) {
     expect(&rt, rt.alloc(), words, COUNT, Fails::Never, &wanted);
 }
 
-// What `check` says of a refused text is its result.
+// What `check` reports for a refused text is its result.
 #[test]
 fn keeps_verdicts(rt: HostRuntime) {
     let wanted = Wanted {

@@ -133,7 +133,7 @@ fn runs_out_of_budget(rt: HostRuntime) {
     OUT_OF_BUDGET.runs(&rt, rt.alloc());
 }
 
-// Asserts that `replay` of the script that `run` writes allows each event, and ends as `run` says.
+// Asserts that `replay` of the script that `run` writes allows each event, and ends as `run` reports.
 fn replays_run(rt: &impl Bench, alloc: Global, row: &AnswerRow<'_>, units: u32) {
     let words = format!(in alloc; "run --emit script --units {units} --predict last a.s a.cert");
     let words = words.ok().expect(rt, "room for words");

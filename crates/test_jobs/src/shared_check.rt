@@ -4,7 +4,7 @@ use crate::answers::{Bench, expect, texts_of};
 use std::alloc::Global;
 use std::process::Abort;
 
-// So many tasks of one instruction each; the list of each task has all instructions.
+// This many tasks of one instruction each; the list of each task has all instructions.
 const TASKS: u32 = 64;
 
 // One of the last tasks, whose list has another mask at the task's own instruction.

@@ -104,7 +104,7 @@ fn tells_of_jobs_that_are_not_done(rt: HostRuntime) {
 // The version, and the toolchain that proves the program.
 const VERSION: &str = "multiscalar 0.1.0 (proved with rattle-kit-13f logic dac8208d650f15bf)\n";
 
-// Help is no fault: it stands on standard output.
+// Help is no fault: it goes to standard output.
 #[test]
 fn helps_on_standard_output(rt: HostRuntime) {
     let help = fault_of(&rt, rt.alloc(), "--version");

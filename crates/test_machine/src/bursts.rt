@@ -6,7 +6,7 @@ use crate::trial::{Act, Row, run_all};
 use test_programs::certificates::{COUNT_CERTIFICATE, DIAMOND_CERTIFICATE};
 use test_programs::programs::{COUNT, COUNT_FORWARDED, DIAMOND};
 
-// The unit that the first burst was made on is squashed, and another one is at work on the same task.
+// The unit that the first burst was made on is squashed, and another unit is at work on the same task.
 const STALE: [Act<'static>; 17] = [
     Act::Apply(Told::Assign(0)),
     Act::Apply(Told::Assign(1)),
@@ -59,7 +59,7 @@ const EIGHT_IS_1: Act<'static> = Act::See(Fact::Value {
     value: Some(1),
 });
 
-// The serial number and the registers are the same, and the program or the certificate is another one.
+// The serial number and the registers are the same, but the program or the certificate differs.
 const OF_ANOTHER: [Act<'static>; 8] = [
     Act::ApplyToOther(Told::Assign(0)),
     ONE_STEP_OF_OTHER,
@@ -81,7 +81,7 @@ const OF_THE_SAME: [Act<'static>; 6] = [
     EIGHT_IS_1,
 ];
 
-// The second unit waits for a register of the first, and there is no third one.
+// The second unit waits for a register of the first, and there is no third.
 const OF_NO_STEP: [Act<'static>; 7] = [
     Act::Apply(Told::Assign(0)),
     Act::Apply(Told::Assign(0)),
@@ -96,7 +96,7 @@ const OF_NO_STEP: [Act<'static>; 7] = [
     Act::See(Fact::NoLease(2)),
 ];
 
-/// The certificate of `COUNT` with $10 in the mask of the last instruction of A, too.
+/// The certificate of `COUNT` with $10 also in the mask of the last instruction of A.
 const COUNT_CERTIFICATE_LARGER: &str = "cert 1
 task A
 0 00000700
@@ -108,7 +108,7 @@ task B
 5 00000000
 ";
 
-/// On one unit, over `COUNT` both machines.
+/// On one unit, with both machines over `COUNT`.
 const ON_COUNT: Row<'static> = Row {
     program: COUNT,
     other: COUNT,

@@ -36,7 +36,7 @@ fn expect_fault(
     assert!(rt; Machine::new(alloc, accepted, units).err() == fault);
 }
 
-// A program and a number of units, and whether a machine over `COUNT` on two units is over them.
+// A program and a number of units, and whether a machine over `COUNT` on two units is over these.
 const OVER: [(&str, u32, bool); 3] = [
     (COUNT, 2, true),
     (COUNT, 1, false),
@@ -68,7 +68,7 @@ fn place(rt: &impl Abort, index: u32) -> Place {
     Place::new(index).expect(rt, "a place")
 }
 
-// Asserts what a predictor answers, one call after another, where there are three targets.
+// Asserts what a predictor returns, call by call, where there are three targets.
 fn expect_chosen<P: Predict>(rt: &impl Abort, predictor: P, expected: &[u32]) {
     let mut predictor = predictor;
     let targets = [place(rt, 0), place(rt, 4), place(rt, 5)];

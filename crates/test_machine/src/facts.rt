@@ -12,15 +12,15 @@ use std::process::Abort;
 pub(crate) enum Fact<'a> {
     /// How many events the history has.
     Length(usize),
-    /// The equal events in a row of the history, and how many they are.
+    /// The runs of equal events in the history, and how many events each has.
     Runs(&'a [(Told, u32)]),
     /// The last event of the history.
     Last(Told),
     /// c and h.
     Counts(u64, u64),
-    /// The head event, in a run that goes on.
+    /// The head event, in a run that has not ended.
     Head(Told),
-    /// The run has halted, and put out these words.
+    /// The run has halted, with these words as output.
     Halted(&'a [u32]),
     /// The commits.
     Commits(&'a [Commit]),
@@ -40,9 +40,9 @@ pub(crate) enum Fact<'a> {
         position: Option<u32>,
         next: Option<u32>,
     },
-    /// The units that have the serial numbers from 0 on.
+    /// The units that have the serial numbers 0, 1 and so on.
     Units(&'a [Option<u32>]),
-    /// There is no unit of this number at work.
+    /// No unit of this number is at work.
     NoLease(u32),
     /// The targets of the tail, and the task that an answer stands for.
     Choice {
@@ -53,7 +53,7 @@ pub(crate) enum Fact<'a> {
 }
 
 impl Fact<'_> {
-    /// Asserts it of a machine.
+    /// Asserts that the fact holds of a machine.
     pub(crate) fn holds(&self, rt: &impl Abort, machine: &Machine<'_>) {
         match self {
             Fact::Length(length) => expect_length(rt, machine, *length),
@@ -97,7 +97,7 @@ fn expect_runs(rt: &impl Abort, machine: &Machine<'_>, runs: &[(Told, u32)]) {
     }
 }
 
-/// Asserts an event of a history, and how many of it stand there in a row.
+/// Asserts an event of a history, and how many times in a row it occurs there.
 pub(crate) fn expect_run(rt: &impl Abort, run: &EventRun, event: Event, count: u32) {
     assert!(rt; run.event == event);
     assert!(rt; run.count == count);

@@ -22,7 +22,7 @@ pub(crate) fn accepted(
     acceptance::accepted(alloc, program, certificate).expect(rt, "accepted")
 }
 
-/// A machine of so many units at the start of its program.
+/// A machine with the given number of units, at the start of its program.
 pub(crate) fn machine<'a>(
     rt: &impl Abort,
     alloc: Global,

@@ -1,5 +1,5 @@
-//! Tests of the calls of a port, of a unit and of the machine, and of runs in steps. The expected values are
-//! those of the machine's own rules, worked out by hand.
+//! Tests of the calls of a port, of a unit and of the machine, and of runs in steps. The expected values
+//! follow from the machine's own rules, worked out by hand.
 #![tactic(auto)]
 
 #[cfg(test)]

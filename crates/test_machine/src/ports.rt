@@ -1,4 +1,4 @@
-//! The worked example of the port: the same calls on a plain form of it, two arrays of options.
+//! The worked example of the port: each call is also made on a plain form of it, two arrays of options.
 
 use crate::given::register;
 use mips_instructions::number::{Reg, RegSet};
@@ -69,12 +69,12 @@ impl PlainPort {
     }
 }
 
-/// The next of a fixed row of numbers.
+/// The next of a fixed sequence of numbers.
 fn next_draw(draw: u32) -> u32 {
     draw.wrapping_mul(1_664_525).wrapping_add(1_013_904_223)
 }
 
-/// A word for each register, no two of them the same.
+/// A word for each register, no two of them equal.
 fn words_from(draw: u32) -> [u32; 34] {
     let mut draw = draw;
     let mut words = [0; 34];
@@ -90,7 +90,7 @@ fn mask(rt: &impl Abort, draw: u32) -> RegSet {
     RegSet::from_bits(bits).expect(rt, "a mask")
 }
 
-/// The registers of the calls that were made.
+/// The registers that the calls were made for.
 #[derive(Drop)]
 struct Drawn {
     arrived: RegSet,
@@ -98,7 +98,7 @@ struct Drawn {
     passed: RegSet,
 }
 
-/// One call on both, by a drawn number, with the same answer.
+/// One call on both, chosen by a drawn number, with the same answer.
 fn call(
     rt: &impl Abort,
     port: &mut Port,
@@ -130,7 +130,7 @@ fn call(
     }
 }
 
-/// Both hold the same of each register.
+/// Asserts that both hold the same for each register.
 fn compare(rt: &impl Abort, port: &Port, plain: &PlainPort) {
     for index in 0..34usize {
         let register = register(rt, index as u8);
@@ -139,8 +139,8 @@ fn compare(rt: &impl Abort, port: &Port, plain: &PlainPort) {
     }
 }
 
-/// Forty calls on a port and on its plain form, and the same in both behind them; answers the last
-/// number that was drawn.
+/// Makes forty calls on a port and on its plain form, after which both hold the same; returns the last
+/// number drawn.
 fn run_both(rt: &impl Abort, draw: u32, drawn: &mut Drawn) -> u32 {
     let mut draw = draw;
     let accum = mask(rt, draw);
@@ -172,7 +172,7 @@ fn port_two_representations(rt: HostRuntime) {
     }
 }
 
-/// Asserts that the calls were made of a register, too.
+/// Asserts that a register was among those that the calls were made for.
 fn expect_drawn(rt: &impl Abort, drawn: &Drawn, number: u8) {
     let register = register(rt, number);
     assert!(rt; drawn.arrived.has(register), "register {number}");
@@ -180,7 +180,7 @@ fn expect_drawn(rt: &impl Abort, drawn: &Drawn, number: u8) {
     assert!(rt; drawn.passed.has(register), "register {number}");
 }
 
-/// The words 38, 37 and so on; that of LO, the last one, is 5.
+/// The words 38, 37 and so on; the last, for LO, is 5.
 fn down_to_five() -> [u32; 34] {
     let mut words = [0; 34];
     for index in 0..34u32 {

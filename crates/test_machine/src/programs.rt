@@ -12,7 +12,7 @@ pub(crate) fn count(rt: &impl Abort, alloc: Global) -> Accepted {
     accepted(rt, alloc, COUNT, COUNT_CERTIFICATE)
 }
 
-/// A branch over a write of register 8 to a release of it; register 7 is in the create mask, and
+/// A branch over a write of register 8 to a release of it; register 7 is in the create mask but
 /// never written.
 pub(crate) fn release(rt: &impl Abort, alloc: Global) -> Accepted {
     accepted(rt, alloc, RELEASE_CREATES_MORE, RELEASE_CERTIFICATE)

@@ -14,7 +14,7 @@ fn expect_read(rt: &impl Abort, chunk: &[Read], index: usize, pc: u32) {
     assert!(rt; chunk.get(index).copied() == Some(read_at(pc)));
 }
 
-/// A log of so many reads, the addresses counting up from 0.
+/// A log of the given number of reads, with addresses counting up from 0.
 fn log_of(rt: &impl Abort, alloc: Global, count: u32) -> ReadLog {
     let mut log = ReadLog::new(alloc);
     for pc in 0..count {

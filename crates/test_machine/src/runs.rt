@@ -1,4 +1,4 @@
-//! Runs by single events, head events and bursts: what the machine says of them.
+//! Runs by single events, head events and bursts: what the machine reports of them.
 
 use crate::facts::Fact;
 use crate::given::Told;
@@ -8,7 +8,7 @@ use mips_plain::outcome::Read;
 use test_programs::certificates::{COUNT_CERTIFICATE, DIAMOND_CERTIFICATE};
 use test_programs::programs::{COUNT, DIAMOND};
 
-/// A round of `COUNT` behind which another one comes.
+/// A round of `COUNT` that another one follows.
 const ROUND: Commit = Commit {
     task: 0,
     exit: 0x0040_0000,
@@ -44,8 +44,8 @@ const FINISHES: [Act<'static>; 10] = [
     Act::See(Fact::Reads(16, FIRST_READ)),
 ];
 
-// The first unit executes its task, and the second one two instructions. The Retire by which h grows brings
-// what the second one had executed ahead.
+// The first unit executes its task, and the second two instructions. The Retire that raises h adds what
+// the second had executed ahead.
 const RUNS_AHEAD: [Act<'static>; 17] = [
     Act::Apply(Told::Assign(0)),
     Act::Apply(Told::Assign(0)),
@@ -73,7 +73,7 @@ const FINISHES_NOTHING: [Act<'static>; 4] = [
     Act::See(Fact::Head(Told::Assign(0))),
 ];
 
-// The head's number follows the retired tasks, round the ring: one task retires, and the next one is
+// The head's number follows the retired tasks around the ring: one task retires, and the next is
 // assigned.
 const GOES_ROUND: [Act<'static>; 8] = [
     Act::See(Fact::Ring {
@@ -102,7 +102,7 @@ const GOES_ROUND: [Act<'static>; 8] = [
     Act::See(Fact::NoData),
 ];
 
-// Equal events in a row are one run, single events and those of a burst alike.
+// Equal events in a row form one run, single events and those of a burst alike.
 const KEEPS_RUNS: [Act<'static>; 8] = [
     Act::Apply(Told::Assign(0)),
     Act::Apply(Told::Exec(0)),
@@ -122,7 +122,7 @@ const KEEPS_RUNS: [Act<'static>; 8] = [
     ])),
 ];
 
-// Each Assign gives the next serial number, and a unit keeps its number round the ring.
+// Each Assign gives the next serial number, and a unit keeps its number around the ring.
 const HAS_SERIAL_NUMBERS: [Act<'static>; 8] = [
     Act::Apply(Told::Assign(0)),
     Act::Apply(Told::Assign(0)),

@@ -1,4 +1,4 @@
-//! StepsEnd many steps the test programs take on 1, 2 and 4 units.
+//! How many steps the test programs take on 1, 2 and 4 units.
 
 use crate::facts::expect_run;
 use crate::given::accepted;
@@ -36,7 +36,7 @@ impl Follows<'_> {
     }
 }
 
-/// A run of a program, and what it ends with.
+/// A run of a program, and how it ends.
 #[derive(Clone, Copy)]
 struct Row<'a> {
     program: &'a str,
@@ -96,8 +96,8 @@ const DIAMONDS: Row<'static> = Row {
     ..COUNTS
 };
 
-// With two units a round's first half overlaps the one before it, and with four each register goes on as
-// soon as it is sent. The fifth round is squashed.
+// With two units a round's first half overlaps the round before it, and with four each register moves on
+// as soon as it is sent. The fifth round is squashed.
 const COUNT_ROWS: [Row<'static>; 3] = [
     COUNTS,
     Row {

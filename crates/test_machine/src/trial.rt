@@ -1,4 +1,4 @@
-//! A machine to which one thing after another is done.
+//! A machine on which a series of acts is carried out.
 
 use crate::facts::Fact;
 use crate::given::{Told, accepted, machine, register};
@@ -18,19 +18,19 @@ pub(crate) enum Act<'a> {
     Refuse(Told),
     /// The unit at this position waits for this register.
     Wait(u32, u8),
-    /// Head events are applied until h has grown by so much.
+    /// Head events are applied until h has grown by this much.
     Finish(u64),
-    /// A unit is lent, and a burst of at most `most` steps made on it, which has `steps`.
+    /// A unit is lent, and a burst of at most `most` steps is made on it, which has `steps` steps.
     Lend { unit: u32, most: u32, steps: u32 },
-    /// The same on the other machine.
+    /// Like `Lend`, but on the other machine.
     LendOfOther { unit: u32, most: u32, steps: u32 },
-    /// The burst is handed in, which is so many events.
+    /// The burst is handed in and makes this many events.
     HandIn(u32),
     /// Something is asserted of the machine.
     See(Fact<'a>),
 }
 
-/// What is done to a machine, over which program and certificate, and over which the other machine is.
+/// What is done to a machine, and the program and certificate of this machine and of the other one.
 #[derive(Clone, Copy)]
 pub(crate) struct Row<'a> {
     pub(crate) program: &'a str,
@@ -41,7 +41,7 @@ pub(crate) struct Row<'a> {
     pub(crate) acts: &'a [Act<'a>],
 }
 
-/// Does what each row says.
+/// Does what each row states.
 pub(crate) fn run_all(rt: &impl Abort, alloc: Global, rows: &[Row<'_>]) {
     for row in rows {
         row.runs(rt, alloc);
@@ -49,7 +49,7 @@ pub(crate) fn run_all(rt: &impl Abort, alloc: Global, rows: &[Row<'_>]) {
 }
 
 impl Row<'_> {
-    /// Does it all.
+    /// Does all the acts of the row.
     fn runs(&self, rt: &impl Abort, alloc: Global) {
         let own = accepted(rt, alloc, self.program, self.certificate);
         let other = accepted(rt, alloc, self.other, self.other_certificate);
@@ -64,7 +64,7 @@ impl Row<'_> {
     }
 }
 
-/// Two machines, and a burst that was made and not handed in.
+/// Two machines, and a burst that was made but not handed in.
 #[derive(Drop)]
 struct Trial<'a> {
     machine: Machine<'a>,
@@ -97,7 +97,7 @@ impl Trial<'_> {
     }
 }
 
-// Asserts that the event is answered Ok, and that `enabled` says so before.
+// Asserts that applying the event returns Ok, and that `enabled` is true before.
 fn apply(rt: &impl Abort, machine: &mut Machine<'_>, event: &Event) {
     assert!(rt; machine.enabled(*event));
     assert!(rt; machine.apply(*event).is_ok());

@@ -15,13 +15,13 @@ use unit_core::unit::Unit;
 use unit_core::wait::{DrainFault, Wait};
 use unit_core::world::World;
 
-/// Registers of 0, but for a reserved set.
+/// Registers of 0, except for a reserved set.
 fn zeros(rt: &impl Abort, reserved: u64) -> Port {
     let reserved = RegSet::from_bits(reserved).expect(rt, "a mask");
     Port::fresh(&[0; 34], reserved)
 }
 
-/// Registers of 0, but for register 8, which came with 2 and does not come again.
+/// Registers of 0, except for register 8, which arrived with 2 and does not arrive again.
 fn two_in_register_8(rt: &impl Abort) -> Port {
     let mut port = zeros(rt, 0x100);
     let r8 = register(rt, 8);
@@ -62,7 +62,7 @@ impl<'a> Trial<'a> {
         }
     }
 
-    /// The answer to one instruction of the head, in a run that goes on.
+    /// The answer to one instruction of the head, in a run that has not ended.
     fn step(&mut self, rt: &impl Abort) -> Option<Wait> {
         assert!(rt; self.world.is_running());
         self.unit.exec(self.accepted, &mut self.world).err()
@@ -77,7 +77,7 @@ impl<'a> Trial<'a> {
         self.unit.drain(self.accepted, register).err()
     }
 
-    /// A burst of at most so many steps.
+    /// A burst of at most the given number of steps.
     fn burst(&self, rt: &impl Abort, most: u32) -> Burst<'a> {
         assert!(rt; most <= MOST_STEPS);
         Burst::run(self.unit.lease(self.accepted), most)
@@ -170,7 +170,7 @@ fn arrived_register_is_used(rt: HostRuntime) {
     expect_value(&rt, &ahead.unit, 8, 3);
 }
 
-// A burst ends behind the instruction that sends a register for the first time.
+// A burst ends after the instruction that sends a register for the first time.
 #[test]
 fn burst_ends_behind_a_first_send(rt: HostRuntime) {
     let accepted = count(&rt, rt.alloc());

@@ -1,4 +1,4 @@
-//! What the units of a machine hold after some events, of which some are refused.
+//! What the units of a machine hold after some events, some of them refused.
 
 use crate::facts::Fact;
 use crate::given::Told;
@@ -6,7 +6,7 @@ use crate::trial::{Act, Row, run_all};
 use test_programs::certificates::{COUNT_CERTIFICATE, READ_ONLY_CERTIFICATE};
 use test_programs::programs::{COUNT, READ_ONLY};
 
-// The head has not written $9, so it has its value from the start, and the other waits for it.
+// The head has not written $9, so $9 has its initial value there, and the other unit waits for it.
 const WAITS: [Act<'static>; 9] = [
     Act::Apply(Told::Assign(0)),
     Act::Apply(Told::Assign(0)),
@@ -31,7 +31,7 @@ const WAITS: [Act<'static>; 9] = [
     }),
 ];
 
-// Registers are taken again after a squash; the second round counts on from the first one's.
+// Registers are taken again after a squash; the second round counts on from the first.
 const TAKES_AGAIN: [Act<'static>; 22] = [
     Act::Apply(Told::Assign(0)),
     Act::Apply(Told::Assign(1)),

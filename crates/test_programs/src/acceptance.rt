@@ -19,7 +19,7 @@ pub fn parts(alloc: Global, program: &str, certificate: &str) -> Option<(Program
     Some((program, cert))
 }
 
-/// The same, accepted; `None` also where the rules find something.
+/// Like `parts`, but accepted; `None` also where the rules find something.
 pub fn accepted(alloc: Global, program: &str, certificate: &str) -> Option<Accepted>
     ensures { IfSome result (λ accepted. Spells program.now accepted.program) }
 {

@@ -12,7 +12,7 @@ task B
 5 00000000
 ";
 
-/// The same with masks of 16 digits.
+/// The certificate of `COUNT` with masks of 16 digits.
 pub const COUNT_CERTIFICATE_WIDE: &str = "cert 2
 task A
 0 0000000000000700
@@ -24,7 +24,7 @@ task B
 5 0000000000000000
 ";
 
-/// That of `COUNT` without $9 in the mask of the instruction that writes it.
+/// The certificate of `COUNT` without $9 in the mask of the instruction that writes it.
 pub const COUNT_CERTIFICATE_LACKING: &str = "cert 1
 task A
 0 00000700

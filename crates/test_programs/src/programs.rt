@@ -112,7 +112,7 @@ B: out $t1\r
 halt\r
 ";
 
-/// Jumps to the index behind the last that an instruction may have.
+/// Jumps to the index after the last that an instruction may have.
 pub const END_OF_CODE: &str = ".task A create=- targets=-
 A: j @4096
 ";
@@ -205,7 +205,7 @@ B: j B
 C: halt
 ";
 
-/// Two tasks that need nothing of each other.
+/// Two tasks that need nothing from each other.
 pub const PAIR: &str = ".task A create=$8 targets=B
 .task B create=$9 targets=C
 .task C create=- targets=-

@@ -87,7 +87,7 @@ const ROWS: [Row<'static>; 2] = [
 ];
 
 impl Row<'_> {
-    /// Asserts what so many workers answer.
+    /// Asserts what the given number of workers answer.
     fn expect_by(&self, rt: &impl Bench, alloc: Global, workers: u32) {
         let (program, cert) = parts(alloc, self.program, self.certificate).expect(rt, "parts");
         self.expect_findings(rt, alloc, &program, &cert, workers);

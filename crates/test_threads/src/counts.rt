@@ -1,4 +1,4 @@
-//! That the workers share the work: who came to the gates, how often.
+//! That the workers share the work: which of them came to the gates, and how often.
 
 use crate::given::{Bench, Meeting};
 use parallel_check::checking::verdict_shared;
@@ -21,7 +21,7 @@ struct Counts {
     after: Vec<AtomicU32>,
 }
 
-// So many counts of 0.
+// The given number of counts of 0.
 fn zeros(alloc: Global, count: usize) -> Result<Vec<AtomicU32>, AllocError> {
     let mut zeros = Vec::new(alloc);
     for _ in 0..count {
@@ -36,7 +36,7 @@ fn count(counts: &[AtomicU32], at: usize) {
     }
 }
 
-// How often it was counted in all.
+// How often it was counted in total.
 fn total(counts: &[AtomicU32]) -> u32 {
     let mut total = 0_u32;
     for count in counts {
@@ -99,7 +99,7 @@ const ENTRIES: usize = 100;
 /// How many bytes a task has below: its line `task A`, and its entries of 22 bytes.
 const TASK: usize = 7 + ENTRIES * 22;
 
-/// The first line, and twice the same tasks: the blocks begin behind the lines of the tasks.
+/// The first line, and twice the same tasks: the blocks begin after the lines of the tasks.
 fn long_text(alloc: Global) -> Result<Text, fmt::Error> {
     let tasks = tasks_text(alloc)?.into_bytes();
     let mut text = Text::new(alloc, b"cert 2\n".to_vec(alloc)?);

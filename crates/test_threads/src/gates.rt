@@ -24,7 +24,7 @@ fn two_workers_check_at_the_same_time(rt: HostRuntime) {
     assert!(rt; gate.both_saw());
 }
 
-// What a run on two units leaves that comes to its end, and has these counts.
+// What a run on two units leaves that reaches its end and has these counts.
 fn run_at<'a, P: Predict>(
     rt: &impl Bench,
     alloc: Global,

@@ -60,7 +60,7 @@ impl Meeting {
         }
     }
 
-    // Says that one is here, and looks for the other, for ten seconds at most.
+    // Signals that one is here, and looks for the other, for ten seconds at most.
     fn meet(&self, here: &AtomicBool, other: &AtomicBool, saw: &AtomicBool) {
         if here.swap(true, Ordering::SeqCst) {
             return;

@@ -62,7 +62,7 @@ fn entries(alloc: Global, tasks: &[&str]) -> Result<String, fmt::Error> {
     Ok(text)
 }
 
-// A text that came in so many parts, each of about as many bytes.
+// A text that came in the given number of parts, each of about as many bytes.
 fn in_pieces(rt: &impl Abort, alloc: Global, text: &str, parts: usize) -> Text {
     let pieces = try_in_pieces(alloc, text, parts).ok();
     pieces.expect(rt, "room for pieces")
@@ -107,7 +107,7 @@ fn expect_same(rt: &impl Abort, cert: &Cert, whole: &Cert) {
 }
 
 // Each fault but that of the end comes before the wrong line at the end, `x`: the first line is wrong, the
-// first task is another, a line in the midst is wrong, and the second task's line is another or missing.
+// first task is another, a line in the middle is wrong, and the second task's line is another or missing.
 const LONG: [Long<'static>; 11] = [
     RIGHT,
     Long {

@@ -95,7 +95,7 @@ impl Row<'_> {
         expect_counts(rt, &report, units);
     }
 
-    // Asserts how a run on four units ends that has so many workers.
+    // Asserts how a run on four units with the given number of workers ends.
     fn runs_by(&self, rt: &impl Bench, alloc: Global, accepted: &Accepted, workers: u32) {
         let report = run_workers(rt, alloc, accepted, 4, workers, 1_000_000, Last, &Open);
         let report = report.ok().expect(rt, "a report");
@@ -119,7 +119,7 @@ pub(crate) fn expect_c_and_h(rt: &impl Abort, report: &Report<'_>, expected: (u6
     assert!(rt; h == expected.1);
 }
 
-/// Asserts that each event of the history is counted for one of so many workers.
+/// Asserts that each event of the history is counted for one of the given number of workers.
 pub(crate) fn expect_counts(rt: &impl Abort, report: &Report<'_>, workers: u32) {
     assert!(rt; report.counts.len() == workers as usize);
     let mut all: u64 = 0;
@@ -139,7 +139,7 @@ fn runs_programs(rt: HostRuntime) {
     }
 }
 
-// The only task of `SPIN` stays at the head, so nobody applies an event during its bursts: with these it comes to
+// The only task of `SPIN` stays at the head, so nobody applies an event during its bursts: with these it reaches
 // its budget exactly.
 #[test]
 fn runs_out_of_budget(rt: HostRuntime) {

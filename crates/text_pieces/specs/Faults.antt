@@ -1,4 +1,4 @@
--- Which fault a fetch has behind its reads.
+-- Which fault a fetch has after its reads.
 use Rattle.std.specs.Prelude.{◌≡◌, Option, Some, None}
 use Rattle.std.specs.declared.io.ErrorKind.{ErrorKind}
 use Rattle.text_pieces.specs.declared.serial.FetchFault.{FetchFault}

@@ -1,4 +1,4 @@
--- What is known of files by their names, and what stays of them.
+-- What is known of files by their names, and what of them stays.
 use Rattle.std.specs.Prelude.{◌≡◌, ◌≢◌, ◌++◌, ℕ, List, Option, codes}
 use Rattle.std.specs.Fmt.{decimal}
 

@@ -1,4 +1,4 @@
--- Why a file is not written, and how that is said.
+-- Why a file is not written, and how that is reported.
 use Rattle.std.specs.Prelude.{ℕ, List, codes}
 use Rattle.std.specs.declared.io.ErrorKind.{ErrorKind}
 use Rattle.std.specs.declared.io.ErrorKind.TheVariants as kind
@@ -14,7 +14,7 @@ unwritten_words Full = codes "no space left"
 unwritten_words OutOfMemory = codes "out of memory"
 unwritten_words Other = codes "cannot be written"
 
--- for the kind of error that the system told
+-- for the kind of error that the system reported
 abbrev pub unwritten_of : ErrorKind → Unwritten
 unwritten_of kind.NotFound = NoSuchFolder
 unwritten_of kind.NotADirectory = NoSuchFolder

@@ -3,14 +3,14 @@
 ghost use Rattle.std.specs.Prelude.{◌≡◌, ◌-◌, ◌<◌, ◌==◌, [], ◌∷◌, length, drop, position, MatchOption, IfSome};
 ghost use Rattle.std.specs.List.{slice_split};
 
-/// Where a byte is first.
+/// Where a byte first occurs.
 fn place_of(wanted: u8, bytes: &[u8]) -> Option<usize>
     ensures { result ≡ position (λ byte. byte == wanted) bytes.now }
 {
     bytes.iter().position(|byte| *byte == wanted)
 }
 
-/// What stands in front of the first such byte and behind it; `None` where there is none.
+/// The bytes before the first such byte and those after it; `None` where there is none.
 pub fn cut(byte: u8, bytes: &[u8]) -> Option<(&[u8], &[u8])>
     ensures parts { MatchOption result
         (slice_split (λ other. other == byte) bytes.now ≡ bytes.now ∷ [])

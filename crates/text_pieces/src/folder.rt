@@ -5,8 +5,8 @@ ghost use Rattle.text_pieces.specs.Files.{ChangesOnly, Same};
 use crate::unwritten::Unwritten;
 use std::io::Write;
 
-/// Files that can be made, renamed and removed by their names. What is known of them takes two names to be
-/// two files.
+/// Files that can be made, renamed and removed by their names. What is known of them assumes that two names
+/// are two files.
 pub trait Folder {
     /// A file that is being written.
     type File: Write + Drop;
@@ -17,15 +17,15 @@ pub trait Folder {
     // What the file of a name holds, where that is known.
     ghost known: { Self → List ℕ → Option (List ℕ) };
 
-    /// A number that no other process has at the time: the files that this one makes are named by it.
+    /// A number that no other process has at the time; it goes into the names of the files that this one makes.
     fn number(&self) -> u32;
 
     /// Makes an empty file, with the rights of the file whose place it is to take, where there is one.
     ///
     /// # Errors
     ///
-    /// What the system tells; `InTheWay` where there is a file of this name, `NoPlainFile` where the other name
-    /// is that of something else than a file. Then all is as it was.
+    /// What the system reports; `InTheWay` where there is a file of this name, `NoPlainFile` where the other name
+    /// is that of something other than a file. Then everything is as it was.
     fn create(&mut self, name: &str, place: &str) -> Result<Self::File, Unwritten>
         ensures empty { IfOk result (λ file. is_watched ≡ true → Self.File.contents file ≡ Some []) }
         ensures others { ChangesOnly (known self.old) (known self.new) name.now }
@@ -35,23 +35,23 @@ pub trait Folder {
     ///
     /// # Errors
     ///
-    /// What the system tells.
+    /// What the system reports.
     fn finish(&mut self, name: &str, file: Self::File) -> Result<(), Unwritten>
         ensures kept { OnOk result (known self.new name.now ≡ Self.File.contents file) }
         ensures others { ChangesOnly (known self.old) (known self.new) name.now };
 
-    /// Gives a file the name of another, which is no more.
+    /// Gives a file the name of another, which then no longer exists.
     ///
     /// # Errors
     ///
-    /// What the system tells; then all is as it was.
+    /// What the system reports; then everything is as it was.
     fn rename(&mut self, from: &str, to: &str) -> Result<(), Unwritten>
         ensures ok { OnOk result (known self.new to.now ≡ known self.old from.now) }
         ensures others { OnOk result ((name : List ℕ) → name ≢ from.now → name ≢ to.now
             → known self.new name ≡ known self.old name) }
         ensures err { OnErr result (Same (known self.old) (known self.new)) };
 
-    /// Removes a file, as far as the system lets it.
+    /// Removes a file, as far as the system allows it.
     fn remove(&mut self, name: &str)
         ensures others { ChangesOnly (known self.old) (known self.new) name.now };
 }

@@ -39,8 +39,8 @@ pub fn fetch_from<F: PositionedFile>(
     Some(all)
 }
 
-/// The part of this number, of parts of so many bytes each. `None` where the file ends within it, and as
-/// `fetch_from`.
+/// The part of this number, where each part has `size` bytes. `None` where the file ends within it, and where
+/// `fetch_from` gives `None`.
 pub fn fetch_part<F: PositionedFile>(
     alloc: Global,
     file: &F,
@@ -56,7 +56,7 @@ pub fn fetch_part<F: PositionedFile>(
     if part.len() == size { Some(part) } else { None }
 }
 
-/// The text of parts of so many bytes each; `None` where one is missing, and where memory was refused.
+/// The text of parts of `size` bytes each; `None` where one is missing, and where memory was refused.
 pub fn put_together(alloc: Global, parts: Vec<Option<Vec<u8>>>, size: usize) -> Option<Text>
     requires { AreFull size parts.items }
     ensures bytes { IfSome result (λ text. (bytes : List ℕ) → AreParts size bytes parts.items

@@ -40,7 +40,7 @@ impl Piece {
         &self.memory[self.from..]
     }
 
-    /// Completes its last line from `more`, which follows it in the text, and answers how many bytes it
+    /// Completes its last line from `more`, which follows it in the text, and returns how many bytes it
     /// took: none if it ends with LF, all of them if `more` has no LF.
     ///
     /// # Errors
@@ -66,14 +66,14 @@ impl Piece {
 ghost use Rattle.std.specs.Prelude.{◌≡◌, ℕ, ◌+◌, ◌≤◌, ◌<◌, ◌-◌, ◌↔◌, true, length, slice_index};
 ghost use Rattle.text_pieces.specs.Pieces.{IsLines};
 
-/// Whether nothing stands behind the last LF.
+/// Whether nothing follows the last LF.
 fn is_lines(bytes: &[u8]) -> bool
     ensures { (result ≡ true) ↔ IsLines bytes.now }
 {
     bytes.is_empty() || bytes[bytes.len() - 1] == b'\n'
 }
 
-/// How long the first line is with its LF; as long as all where there is no LF.
+/// How long the first line is with its LF; the whole length where there is no LF.
 fn first_line_length(bytes: &[u8]) -> usize
     ensures within { result ≤ length bytes.now }
     ensures line { result < length bytes.now → (0 < result) × (slice_index bytes.now (result - 1) ≡ 10) }

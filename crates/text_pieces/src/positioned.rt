@@ -12,15 +12,15 @@ pub trait PositionedFile: Read + Sync {
     // The bytes of the file, where they are known.
     ghost bytes: { Self → Option (List ℕ) };
 
-    /// How many bytes there are, as far as the system tells: a hint, which no answer rests on. `None`
+    /// How many bytes there are, as far as the system tells: a hint, on which no result depends. `None`
     /// where the file has no positioned reads, such as a pipe or a device.
     fn size_hint(&self) -> Option<u64>;
 
-    /// Reads from an offset on, and leaves that of `Read` as it is; how many bytes that was, 0 at the end.
+    /// Reads from an offset on, without moving that of `Read`, and returns how many bytes that was: 0 at the end.
     ///
     /// # Errors
     ///
-    /// As `Read::read`; also where the file has no positioned reads.
+    /// Those of `Read::read`; also where the file has no positioned reads.
     fn read_at(&self, buffer: &mut [u8], offset: u64) -> io::Result<usize>
         ensures bound { ReadsAtMost result buffer.new }
         ensures read { IfOk result (λ count. (all : List ℕ) → bytes self.now ≡ Some all

@@ -13,8 +13,8 @@ use std::io::Write;
 ///
 /// # Errors
 ///
-/// As the folder's, and `OutOfMemory`. Then the file is as it was, and the new one is removed, as far as the
-/// folder lets it.
+/// Those of the folder, and `OutOfMemory`. Then the file is as it was, and the new one is removed, as far as the
+/// folder allows it.
 pub fn replace<F: Folder>(
     alloc: Global,
     folder: &mut F,

@@ -10,7 +10,7 @@ use std::io;
 use std::io::{ErrorKind, Read};
 use thiserror::Error;
 
-/// Why a file's bytes are not there.
+/// Why a file's bytes could not be fetched.
 #[derive(Clone, Copy, Debug, PartialEq, Eq, Error)]
 pub enum FetchFault {
     /// 1: the reader failed with an error of this kind; `Interrupted` where it was interrupted more than
@@ -44,8 +44,8 @@ const FIRST_ROOM: usize = 2_097_152;
 const MOST_INTERRUPTIONS: u32 = 1000;
 
 /// The reader's bytes up to its end, or its first `most + 1` bytes where it has more than `most`
-/// (so that the caller sees that it has). After an error it is not known how much of the reader was
-/// read.
+/// (so that the caller sees that it has). After an error, how much of the reader was read is
+/// unknown.
 pub fn fetch<R: Read>(alloc: Global, reader: &mut R, most: u64) -> Result<Vec<u8>, FetchFault>
     requires { most ≤ 134217728 }
     ensures bytes { IfOk result (λ v. (bytes : List ℕ) → R.remaining reader.old ≡ Some bytes →
@@ -56,7 +56,7 @@ pub fn fetch<R: Read>(alloc: Global, reader: &mut R, most: u64) -> Result<Vec<u8
     fetch_noting(alloc, reader, most, &mut failure)
 }
 
-// What `fetch` answers; `failure` is then the kind of the last read's error, if that read failed.
+// What `fetch` returns; `failure` is then the kind of the last read's error, if that read failed.
 fn fetch_noting<R: Read>(
     alloc: Global,
     reader: &mut R,
@@ -105,8 +105,8 @@ fn read_noting<R: Read>(
     result
 }
 
-// How many reads were interrupted, now that one failed with this kind of error; the fault where the reader
-// is not asked again.
+// How many reads were interrupted, now that one failed with this kind of error; the fault if the reader
+// is not tried again.
 fn after_failure(kind: ErrorKind, interruptions: u32) -> Result<u32, FetchFault>
     requires { interruptions ≤ 1000 }
     ensures again { kind ≡ ErrorKind.Interrupted → interruptions < 1000 → IsOk result }

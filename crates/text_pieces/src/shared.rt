@@ -10,19 +10,19 @@ use std::marker::Sync;
 use std::thread;
 use std::thread::Threads;
 
-/// From how many bytes on a file is fetched by several threads. A shorter one is fetched in less time than
-/// threads are made.
+/// The size in bytes from which a file is fetched by several threads. Fetching a shorter one takes less time than
+/// making the threads.
 const LEAST_SHARED: u64 = 262_144;
 
 /// The most threads that fetch.
 const MOST_WORKERS: u32 = 16;
 
-/// What `fetch` answers, as a text in pieces, which so many workers fetch. Any number of them will do: 0
+/// What `fetch` returns, as a text in pieces, fetched by the given number of workers. Any number will do: 0
 /// counts as 1, and more than 16 count as 16. A short file is fetched by one.
 ///
 /// Each worker reads a part into memory of its own. Whatever goes wrong with a part, one thread then
 /// fetches the file from its beginning: nothing was taken from the reader until then, so the faults are
-/// those of `fetch`. If the file is longer than the system said, the rest is read too, up to the limit.
+/// those of `fetch`. If the file is longer than the system reported, the rest is read too, up to the limit.
 ///
 /// # Errors
 ///
@@ -45,7 +45,7 @@ pub fn fetch_shared<F: PositionedFile, R: Threads + Sync>(
     Ok(Text::new(alloc, fetch(alloc, file, most)?))
 }
 
-// The text from its parts; `None` where the file is not shared out, or a part is not there.
+// The text from its parts; `None` where the file is not shared out, or a part is missing.
 fn fetch_parts<F: PositionedFile, R: Threads + Sync>(
     rt: &R,
     alloc: Global,
@@ -71,7 +71,7 @@ fn fetch_parts<F: PositionedFile, R: Threads + Sync>(
     Some(text)
 }
 
-// The text of parts of so many bytes each, which as many workers fetch.
+// The text of `workers` parts of `size` bytes each, which that many workers fetch.
 fn fetch_full_parts<F: PositionedFile, R: Threads + Sync>(
     rt: &R,
     alloc: Global,

@@ -5,7 +5,7 @@ use std::alloc::{AllocError, Global};
 use std::marker::Model;
 use std::mem;
 
-/// A text, cut behind LFs into pieces. A contract sees its bytes, one after another.
+/// A text, cut after LFs into pieces. A contract sees its bytes, one after another.
 #[derive(Debug, Drop)]
 pub struct Text {
     lines: Vec<Piece>,
@@ -56,7 +56,7 @@ impl Text {
         Ok(())
     }
 
-    /// Whether it has at most so many bytes.
+    /// Whether it has at most `most` bytes.
     pub fn is_within(&self, most: usize) -> bool
         ensures { (result ≡ true) ↔ (length self.now ≤ most) }
     {
@@ -71,7 +71,7 @@ impl Text {
         self.last.as_slice().len() <= left
     }
 
-    /// The pieces in order, cut behind LFs.
+    /// The pieces in order, cut after LFs.
     ///
     /// # Errors
     ///

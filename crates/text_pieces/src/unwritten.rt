@@ -5,16 +5,16 @@ ghost use Rattle.text_pieces.specs.Refusals.{unwritten_of};
 use std::alloc::AllocError;
 use std::io::ErrorKind;
 
-/// Why a file is not written, as far as the system tells.
+/// Why a file is not written, as far as the system reports it.
 #[derive(Clone, Copy, Debug, PartialEq, Eq)]
 pub enum Unwritten {
-    /// The folder that it is to stand in is not there.
+    /// The folder that it is to go into does not exist.
     NoSuchFolder,
-    /// Its name is that of something else than a file: a folder, a link, a device or a pipe.
+    /// Its name is that of something other than a file: a folder, a link, a device or a pipe.
     NoPlainFile,
     /// The system does not permit writing it, or making a file beside it.
     NotPermitted,
-    /// There is a file already of the name that the new one is to have until it is whole.
+    /// A file already has the name that the new one is to have until it is whole.
     InTheWay,
     /// The disk is full.
     Full,
@@ -55,7 +55,7 @@ impl From<AllocError> for Unwritten {
     }
 }
 
-/// Why a file is not written, for the kind of error that the system told.
+/// Why a file is not written, for the kind of error that the system reported.
 pub fn unwritten_of(kind: ErrorKind) -> Unwritten
     ensures { result ≡ unwritten_of kind }
 {

@@ -1,4 +1,4 @@
--- Who is to be rung for when the lock is let go (own).
+-- Who is to be rung for when the lock is let go.
 use Rattle.std.specs.Prelude.{◌≡◌, ℕ, ◌<◌, List, Bool, true, slice_get, Some}
 use Rattle.threaded_runner.specs.declared.share.Share.{Share}
 use Rattle.threaded_runner.specs.Desks.{DeskView, IsDone}
@@ -8,13 +8,13 @@ use Rattle.threaded_runner.specs.Shares.{AllWait}
 abbrev pub IsAsleep : List Bool → (worker : ℕ) → Type 0
 IsAsleep asleep worker = slice_get asleep worker ≡ Some true
 
--- of all workers but this one nobody is asleep who has something to do: a turn, or the end of the run
+-- of all workers but this one, none is asleep that has something to do: a turn, or the end of the run
 abbrev pub AreCalled : (budget : ℕ) → Share → DeskView → Type 0
 AreCalled budget own d =
     (worker : ℕ) → worker < own.workers → (worker ≡ own.worker → ⊥) → IsAsleep d.asleep worker
     → (IsDone budget d → ⊥) × AllWait d.machine (record own { worker = worker })
 
--- each worker that was asleep and is not any more is among those whose bell is to be rung
+-- each worker that was asleep and is not any longer is among those whose bell is to be rung
 abbrev pub AreRung : (before after called : List Bool) → Type 0
 AreRung before after called =
     (worker : ℕ) → IsAsleep before worker → (IsAsleep after worker → ⊥) → slice_get called worker ≡ Some true

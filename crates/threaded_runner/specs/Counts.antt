@@ -1,4 +1,4 @@
--- How many events of a history belong to each worker (own). The units are numbered round a ring; a worker
+-- How many events of a history belong to each worker. The units are numbered round a ring; a worker
 -- serves the units whose number, modulo the number of workers, is its own.
 use Rattle.std.specs.Prelude.{◌≡◌, ℕ, ◌+◌, ◌%◌, ◌<◌, List, [], ◌∷◌, length, sum, fold, slice_index, nat_eq, if◌then◌else◌}
 use Rattle.machine_model.specs.HeadEvent.{unit_of, retired_after, active_after}
@@ -11,7 +11,7 @@ retired_by history = fold retired_after 0 history
 abbrev pub active_by : List Event → ℕ
 active_by history = fold active_after 0 history
 
--- how many of these events belong to a worker, where so many tasks have retired and so many units are at
+-- how many of these events belong to a worker, where the given numbers of tasks have retired and of units are at
 -- work before the first of them
 abbrev pub events_from : (units workers worker retired active : ℕ) → List Event → ℕ
 events_from units workers worker retired active [] = 0

@@ -1,4 +1,4 @@
--- What the lock holds, as contracts see it (own); the predictor is left out.
+-- What the lock holds, as contracts see it; the predictor is left out.
 use Rattle.std.specs.Prelude.{◌≡◌, ℕ, ◌<◌, ◌≤◌, ◌⊎◌, List, Bool, true, false, length, replicate, slice_index, slice_set}
 use Rattle.machine_model.specs.declared.event.Standing.TheVariants as standing
 use Rattle.mark_checker.specs.Places.{Checked}
@@ -13,18 +13,18 @@ pub record DeskView : Type 0 where
   pub is_stopped : Bool
   pub asleep : List Bool
 
--- what holds whenever a worker holds the lock, beside what each machine keeps
+-- what holds whenever a worker holds the lock, besides what each machine keeps
 pub record IsDesk (d : DeskView) : Type 0 where
   pub some_worker : 0 < length d.counts
   pub counted : IsCounted (units_of d.machine) d.machine.history d.counts
 
--- the machine is that of a run over this program and certificate, with so many units and workers
+-- the machine is that of a run over this program and certificate, with the given numbers of units and workers
 pub record IsOfRun (checked : Checked) (unit_count worker_count : ℕ) (d : DeskView) : Type 0 where
   pub accepted : d.machine.accepted ≡ checked
   pub units : units_of d.machine ≡ unit_count
   pub workers : length d.counts ≡ worker_count
 
--- no worker goes on: the note stands, the run has ended, or the history has reached the budget
+-- no worker continues: the note is set, the run has ended, or the history has reached the budget
 abbrev pub IsDone : (budget : ℕ) → DeskView → Type 0
 IsDone budget d =
     (d.is_stopped ≡ true) ⊎ ((state d.machine).outcome ≡ standing.Running → ⊥) ⊎ (budget ≤ length d.machine.history)

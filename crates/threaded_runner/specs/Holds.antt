@@ -1,4 +1,4 @@
--- What a worker does is what `turn` says (own): each event of a hold of the lock is one that the turn of one of
+-- What a worker does is what `turn` names: each event of a hold of the lock is one that the turn of one of
 -- its units names, in the machine in which it is applied.
 use Rattle.std.specs.Prelude.{◌≡◌, ℕ, ◌<◌, ◌≤◌, ◌⊎◌, List, [], ◌∷◌, zero, suc, length, true, Some, Err}
 use Rattle.machine_model.specs.declared.event.Event.{Event}
@@ -30,7 +30,7 @@ IsNamed m unit Choose e = (answer : ℕ) × (choice_of m.accepted.program (state
 IsNamed m unit Burst e = IsExecOf m unit e ⊎ IsDropOf m unit e
 IsNamed m unit Wait e = ⊥
 
--- one event of a unit of the share, as its turn says
+-- one event of a unit of the share, as its turn names it
 pub record Acts (s : Share) (old : MachineView) (e : Event) (new : MachineView) : Type 0 where
   pub unit : ℕ
   pub is_served : IsServed s unit
@@ -43,7 +43,7 @@ abbrev pub GoesBy : Share → (old : MachineView) → List Event → (new : Mach
 GoesBy s old [] new = new ≡ old
 GoesBy s old (e ∷ es) new = (mid : MachineView) × Acts s old e mid × GoesBy s mid es new
 
--- so many turns were taken, each by an event at least; or the run must stop for want of memory
+-- the given number of turns was taken, each by at least one event; or the run must stop for want of memory
 abbrev pub TakesTurns : Share → (turns : ℕ) → (old new : DeskView) → Type 0
 TakesTurns s turns old new =
     (es : List Event) × GoesBy s old.machine es new.machine × ((turns ≤ length es) ⊎ (new.is_stopped ≡ true))
@@ -52,7 +52,7 @@ TakesTurns s turns old new =
 abbrev pub IsStoppedAt : MachineView → Event → Type 0
 IsStoppedAt m e = (why : Refused) × IsAnswered m e (Err why)
 
--- so many instructions of the head, one after another (for private functions alone)
+-- the given number of instructions of the head, one after another (for private functions alone)
 abbrev pub RunsHead : (old : MachineView) → (n : ℕ) → (new : MachineView) → Type 0
 RunsHead old zero new = new ≡ old
 RunsHead old (suc n) new = (mid : MachineView) × RunsHead old n mid × Applies mid (Exec 0) new × SameRing mid new

@@ -1,4 +1,4 @@
--- How a worker goes on with one of its units (own): by longer and longer bursts, or by single instructions.
+-- How a worker continues with one of its units: by longer and longer bursts, or by single instructions.
 use Rattle.std.specs.Prelude.{◌≡◌, ℕ, ◌*◌, ◌-◌, max, List, Bool, true, false, ◌&&◌, not, min, nat_eq, nat_lt, nat_le, if◌then◌else◌, length, slice_get, unwrap_or, Option, Some, None, Result, Ok, Err}
 use Rattle.machine_model.specs.declared.event.Event.TheVariants.{Exec}
 use Rattle.machine_model.specs.declared.event.Refused.{Refused}
@@ -25,18 +25,18 @@ one_by_one p = record p { single = 64 }
 abbrev pub next_task : Pace → Pace
 next_task p = record p { most = 64; dropped_at = None }
 
--- after so many instructions one by one, or one that was refused
+-- after the given number of instructions one by one, or one that was refused
 abbrev pub after_single : (steps : ℕ) → Pace → Pace
 after_single steps p = record p { single = p.single - max steps 1 }
 
--- after a burst in place of so many instructions: one that was as long as it might be was all of one task
+-- after a burst in place of the given number of instructions: one that was as long as it might be was all of one task
 abbrev pub after_in_place : (most steps : ℕ) → Pace → Pace
 after_in_place most steps p =
     if nat_eq steps 0 then one_by_one p else (if nat_eq steps most then doubled p else p)
 
--- after the answer to a burst of so many instructions: one that was taken whole is followed by a longer one; one
--- that ended early costs more than as many single instructions, where another worker may want the lock; a stale one
--- that had instructions is made anew
+-- after the answer to a burst of the given number of instructions: one that was taken whole is followed by a longer
+-- one; one that ended early costs more than as many single instructions, where another worker may want the lock;
+-- a stale one that had instructions is made anew
 abbrev pub after_taken : (is_all : Bool) → (most events : ℕ) → Pace → Pace
 after_taken is_all most events p =
     if nat_eq events most then doubled p
@@ -51,8 +51,8 @@ after_check_in is_all most steps (Err why) p = one_by_one p
 abbrev pub pace_of : List Pace → (unit : ℕ) → Pace
 pace_of paces unit = unwrap_or (slice_get paces unit) fresh_pace
 
--- A unit that was dropped for want of memory, when so many tasks had retired, takes no task until another one has
--- retired or the queue is empty; then the unit is the one that the head event belongs to.
+-- A unit that was dropped for want of memory, when the given number of tasks had retired, takes no task until another
+-- one has retired or the queue is empty; then the unit is the one that the head event belongs to.
 abbrev pub is_held_since : Option ℕ → MachineView → (unit : ℕ) → Bool
 is_held_since None m unit = false
 is_held_since (Some retired) m unit =

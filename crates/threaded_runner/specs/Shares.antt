@@ -1,11 +1,11 @@
--- Which units a worker serves, and which of them goes on first (own).
+-- Which units a worker serves, and which of them continues first.
 use Rattle.std.specs.Prelude.{◌≡◌, ℕ, ◌%◌, ◌<◌, ◌≤◌, length}
 use Rattle.sequencer.specs.Machines.{MachineView, state, units_of}
 use Rattle.unit_turns.specs.Turns.{turn_of, position_of_unit}
 use Rattle.unit_turns.specs.declared.turn.Turn.TheVariants.{Wait}
 use Rattle.threaded_runner.specs.declared.share.Share.{Share}
 
--- a share of a ring of so many units among so many workers, of whom there are at most 16
+-- a share of a ring of the given number of units among the given number of workers, of whom there are at most 16
 pub record IsShareOf (units workers : ℕ) (s : Share) : Type 0 where
   pub of_units : s.units ≡ units
   pub of_workers : s.workers ≡ workers
@@ -25,7 +25,7 @@ AllWait m s = (unit : ℕ) → IsServed s unit → turn_of m unit ≡ Wait
 abbrev pub distance : MachineView → (unit : ℕ) → ℕ
 distance m unit = position_of_unit (units_of m) (length (state m).commits) unit
 
--- the first of its units, from the head on round the ring, that does not wait
+-- the first of its units, in ring order from the head, that does not wait
 pub record IsFirst (m : MachineView) (s : Share) (unit : ℕ) : Type 0 where
   pub is_served : IsServed s unit
   pub is_ready : turn_of m unit ≡ Wait → ⊥

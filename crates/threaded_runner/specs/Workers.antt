@@ -1,4 +1,4 @@
--- A worker as contracts see it, and what it does once it lets go of the lock (own).
+-- A worker as contracts see it, and what it does once it lets go of the lock.
 use Rattle.std.specs.Prelude.{◌≡◌, ℕ, ◌+◌, ◌<◌, ◌≤◌, ◌⊎◌, List, Bool, min, nat_eq, if◌then◌else◌, length, slice_set, true, false, Option, Some, None, Result, Ok, Err}
 use Rattle.machine_model.specs.declared.event.Event.{Event}
 use Rattle.machine_model.specs.declared.event.Event.TheVariants.{Assign, Exec, Drop}
@@ -59,8 +59,8 @@ pub record DoesEvent (w : WorkerView) (unit : ℕ) (e : Event) (old : DeskView) 
   pub same_notes : SameNotes old new
   pub paced : w' ≡ (if is_assign e then with_pace w unit (next_task (pace_of w.paces unit)) else w)
 
--- the burst of a unit at a pace, where the budget leaves so much room: a worker that serves all units makes those that
--- are as short as a task's first in place, by up to 1,024 events
+-- the burst of a unit at a pace, where the budget leaves that much room: a worker that serves all units makes those
+-- that are as short as a task's first in place, by up to 1,024 events
 abbrev pub IsThenOf : Share → (unit : ℕ) → Pace → (room : ℕ) → Then → Type 0
 IsThenOf s unit pace room (BurstInPlace next) = (s.workers ≡ 1) × (pace.most ≡ 64) × (next.unit ≡ unit) × (next.most ≡ min 1024 room)
 IsThenOf s unit pace room (Burst next) = ((s.workers ≡ 1) × (pace.most ≡ 64) → ⊥) × (next.unit ≡ unit) × (next.most ≡ min pace.most room)
@@ -110,7 +110,7 @@ pub record IsHandedIn (old : DeskView) (b : BurstView) (answer : Result ℕ Refu
   pub same_ring : SameRing old.machine new.machine
   pub same_notes : SameNotes old new
 
--- then a unit ahead of the head for which memory is wanting gives up its task; any other goes on at the pace after
+-- then a unit ahead of the head for which memory runs out gives up its task; any other continues at the pace after
 -- this answer
 abbrev pub FollowsUp : WorkerView → NextBurst → (steps : ℕ) → Result ℕ Refused → (old : DeskView) → WorkerView → (new : DeskView) → Type 0
 FollowsUp w next steps answer old w' new =

@@ -11,7 +11,7 @@ pub(crate) fn zeros(alloc: Global, workers: u32) -> Result<Vec<u64>, AllocError>
     vec![in alloc; 0; workers as usize]
 }
 
-/// Adds so many events to the count of the worker that serves a unit.
+/// Adds the given number of events to the count of the worker that serves a unit.
 pub(crate) fn add(counts: &mut Vec<u64>, unit: u32, events: u32)
     requires some { 0 < vec_len counts.old }
     requires fits { slice_index counts.old.items (unit % vec_len counts.old) + events < 2 ^ 64 }
@@ -21,7 +21,7 @@ pub(crate) fn add(counts: &mut Vec<u64>, unit: u32, events: u32)
     counts[worker] += u64::from(events);
 }
 
-/// The worker that serves a unit, of so many workers. With one worker nothing is divided: it counts each
+/// The worker that serves a unit, of the given number of workers. With one worker nothing is divided: it counts each
 /// event of a run.
 fn worker_of(unit: u32, workers: usize) -> usize
     requires { 0 < workers }

@@ -89,7 +89,7 @@ impl<'a, P: Predict, J: Naming> Desk<'a, P, J> {
         &self.machine
     }
 
-    /// Whether no worker goes on: the note stands, the run has ended, or the history has reached the
+    /// Whether no worker continues: the note is set, the run has ended, or the history has reached the
     /// budget.
     #[inline]
     pub(crate) fn is_done(&self, budget: u32) -> bool
@@ -111,7 +111,7 @@ impl<'a, P: Predict, J: Naming> Desk<'a, P, J> {
     ///
     /// # Errors
     ///
-    /// What the machine refuses the event by; nothing is changed then.
+    /// Why the machine refuses the event; nothing is changed then.
     #[inline]
     pub(crate) fn apply(&mut self, unit: u32, event: Event) -> Result<(), Refused>
         requires { unit_for self.old.machine event ≡ unit }
@@ -129,8 +129,8 @@ impl<'a, P: Predict, J: Naming> Desk<'a, P, J> {
         Ok(())
     }
 
-    /// The head executes instructions, at most so many, each counted for the worker of its unit; answers how
-    /// many. It ends before that where one is refused.
+    /// The head executes at most the given number of instructions, each counted for the worker of its unit; answers
+    /// how many. It ends earlier where one is refused.
     pub(crate) fn run_head(&mut self, most: u32) -> u32
         ensures few { result ≤ most }
         ensures ran { RunsHead self.old.machine result self.new.machine }
@@ -149,7 +149,7 @@ impl<'a, P: Predict, J: Naming> Desk<'a, P, J> {
         steps
     }
 
-    /// Asks the predictor which target comes next, and applies the Assign of it, which is the unit's. Such an
+    /// Asks the predictor which target comes next, and applies that target's Assign, which is the unit's. Such an
     /// event takes no memory and is not refused.
     pub(crate) fn choose(&mut self, unit: u32)
         requires { MayChoose self.old.machine unit }
@@ -181,7 +181,7 @@ impl<'a, P: Predict, J: Naming> Desk<'a, P, J> {
     ///
     /// # Errors
     ///
-    /// What the machine refuses the burst by; nothing is changed then.
+    /// Why the machine refuses the burst; nothing is changed then.
     pub(crate) fn check_in(&mut self, burst: &mut Burst<'_>) -> Result<u32, Refused>
         requires own { burst.old.accepted ≡ J.accepted }
         ensures running { IfOk result (λ events. (state self.old.machine).outcome ≡ standing.Running) }
@@ -203,8 +203,8 @@ impl<'a, P: Predict, J: Naming> Desk<'a, P, J> {
         Ok(events)
     }
 
-    /// Applies the head event, and counts it for the worker of its unit; answers whether it was not refused
-    /// and there was one.
+    /// Applies the head event, and counts it for the worker of its unit; answers whether there was
+    /// one and it was not refused.
     fn apply_head_event(&mut self) -> bool
         ensures grows { IsTrue result → (length self.new.machine.history ≡ length self.old.machine.history + 1) × (length self.new.machine.history ≤ most_events) }
         ensures workers { length self.new.counts ≡ length self.old.counts }
@@ -221,7 +221,7 @@ impl<'a, P: Predict, J: Naming> Desk<'a, P, J> {
         true
     }
 
-    /// Goes on by head events until no worker would; where one is refused the note stands.
+    /// Applies head events until no worker would continue; where one is refused the note is set.
     fn finish(&mut self, budget: u32)
         ensures done { IsDone budget self.new }
         ensures workers { length self.new.counts ≡ length self.old.counts }
@@ -234,12 +234,12 @@ impl<'a, P: Predict, J: Naming> Desk<'a, P, J> {
         }
     }
 
-    /// The report of the run, once all workers have ended; where nothing ended them the run goes on by
+    /// The report of the run, once all workers have ended; where nothing ended them the run continues by
     /// head events first.
     ///
     /// # Errors
     ///
-    /// `OutOfMemory` where the note stands.
+    /// `OutOfMemory` where the note is set.
     pub(crate) fn report(mut self, budget: u32) -> Result<Report<'a>, RunFault>
         ensures fault { IfErr result (λ fault. fault ≡ RunFault.OutOfMemory) }
         ensures over { IfOk result (λ report. (report.machine.accepted ≡ J.accepted) × (units_of report.machine ≡ J.units)) }
@@ -273,7 +273,7 @@ impl<'a, P: Predict, J: Naming> Desk<'a, P, J> {
     }
 
     /// The workers that wait and now have something to do, a turn or the end of the run; they count as awake from
-    /// here on.
+    /// now on.
     pub(crate) fn call(&mut self, share: Share, budget: u32) -> Called
         requires { IsShareOf J.units J.workers share }
         ensures others { self.new ≡ record self.old { asleep = self.new.asleep } }
@@ -366,7 +366,7 @@ fn assign_of(machine: &Machine<'_>, unit: u32, answer: u32) -> Event
     }
 }
 
-/// The head executes instructions, at most so many; answers how many. It ends before that only where one is
+/// The head executes at most the given number of instructions; answers how many. It ends earlier only where one is
 /// refused.
 #[tactic(auto, using(crate::proofs::Locked::one_more))]
 fn exec_head(machine: &mut Machine<'_>, most: u32) -> u32

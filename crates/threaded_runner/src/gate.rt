@@ -1,12 +1,12 @@
 //! What is called around each burst.
 
-/// Is called by each worker around each of its bursts, while it does not hold the lock: to
+/// Each worker calls it around each of its bursts, while it does not hold the lock: to
 /// watch the workers, or to hold one up.
 pub trait RunGate: Sync {
     /// A worker is about to make a burst.
     fn before(&self, worker: u32);
 
-    /// A worker has made a burst of so many instructions, at most 65,536.
+    /// A worker has made a burst of the given number of instructions, at most 65,536.
     fn after(&self, worker: u32, steps: u32);
 }
 

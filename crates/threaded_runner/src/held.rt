@@ -56,8 +56,8 @@ fn try_soon<T>(shared: &Mutex<T>) -> Option<MutexGuard<'_, T>> {
     None
 }
 
-/// Lets go of the lock, and rings for the workers that now have something to do: of all workers but this one
-/// nobody sleeps who has a turn, or whose run is over.
+/// Lets go of the lock, and rings for the workers that now have something to do: of all workers but this one,
+/// none stays asleep that has a turn, or whose run is over.
 pub(crate) fn let_go<P: Predict, J: Naming>(
     held: Held<'_, '_, P, J>,
     called: Called,
@@ -72,7 +72,7 @@ pub(crate) fn let_go<P: Predict, J: Naming>(
 }
 
 /// Lets go of the lock as `let_go` does, for a worker that has nothing to do: it is marked as waiting, so that it is
-/// rung for once it has.
+/// rung for once it has something.
 pub(crate) fn let_go_to_wait<P: Predict, J: Naming>(
     held: Held<'_, '_, P, J>,
     idle: Idle,
@@ -112,7 +112,7 @@ pub(crate) fn let_go_at_end<P: Predict, J: Naming>(
     }
 }
 
-/// Sleeps until the worker's bell rings, or for no reason not so long; the lock is free meanwhile. A worker
+/// Sleeps until the worker's bell rings, or wakes earlier for no reason; the lock is free meanwhile. A worker
 /// that was called before it sleeps would not hear its bell.
 pub(crate) fn sleep<'l, 'a, P: Predict, J: Naming, R: Wait>(
     rt: &R,

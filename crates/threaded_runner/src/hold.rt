@@ -19,10 +19,10 @@ use unit_turns::turn::Turn;
 /// The most turns of one hold of the lock.
 const TURNS_OF_A_HOLD: u32 = 64;
 
-/// The most events by which a worker that serves all units goes on with the head where it is.
+/// The most events by which a worker that serves all units continues with the head in place.
 const EVENTS_IN_PLACE: u32 = 1_024;
 
-/// A worker of a run: which units it serves, and how it goes on with each.
+/// A worker of a run: which units it serves, and how it continues with each.
 #[derive(Drop)]
 pub(crate) struct Worker<J: Naming> {
     share: Share,
@@ -81,7 +81,7 @@ impl<J: Naming> Worker<J> {
         self.share
     }
 
-    /// How many events the history may have, but for those of a burst that is handed in late.
+    /// How many events the history may have, not counting those of a burst that is handed in late.
     pub(crate) fn budget(&self) -> u32
         ensures value { result ≡ self.now.budget }
         ensures of_run { result ≡ J.budget }
@@ -89,7 +89,7 @@ impl<J: Naming> Worker<J> {
         self.budget
     }
 
-    /// Takes turns of the worker's units, at most 64. What that did is what `turn` says.
+    /// Takes turns of the worker's units, at most 64. What they did is what `turn` names.
     pub(crate) fn hold<P: Predict>(&mut self, desk: &mut Desk<'_, P, J>) -> Then
         ensures next { IsNext self.new desk.new result }
         ensures turns { TakesTurns self.old.share 0 desk.old desk.new }
@@ -153,7 +153,7 @@ impl<J: Naming> Worker<J> {
         None
     }
 
-    /// Applies the event of a unit's turn. Where memory is wanting for it, the unit gives up its task, and the
+    /// Applies the event of a unit's turn. Where memory runs out for it, the unit gives up its task, and the
     /// head the run.
     fn apply_event<P: Predict>(&mut self, desk: &mut Desk<'_, P, J>, unit: u32, event: Event)
         requires served { IsServed self.old.share unit }
@@ -171,7 +171,7 @@ impl<J: Naming> Worker<J> {
         }
     }
 
-    /// After an event of a unit, which may begin a task of it.
+    /// After an event of a unit, which may begin one of its tasks.
     fn after_event(&mut self, unit: u32, begins: bool)
         ensures { self.new ≡ (if begins then with_pace self.old unit (next_task (pace_of self.old.paces unit)) else self.old) }
     {
@@ -216,7 +216,7 @@ impl<J: Naming> Worker<J> {
         }
     }
 
-    /// How the worker goes on with a unit.
+    /// How the worker continues with a unit.
     fn pace(&self, unit: u32) -> Pace
         ensures { result ≡ pace_of self.now.paces unit }
     {
@@ -226,7 +226,7 @@ impl<J: Naming> Worker<J> {
         }
     }
 
-    /// The worker goes on with a unit at another pace.
+    /// The worker continues with a unit at another pace.
     fn set_pace(&mut self, unit: u32, pace: Pace)
         ensures { self.new ≡ with_pace self.old unit pace }
     {
@@ -259,7 +259,7 @@ impl<J: Naming> Worker<J> {
         Some(self.burst_of(unit, pace, room))
     }
 
-    /// A burst of a unit at this pace, where the budget leaves so much room. A worker that serves all units
+    /// A burst of a unit at this pace, where the budget leaves that much room. A worker that serves all units
     /// makes short bursts in place: nobody else waits for the lock.
     fn burst_of(&self, unit: u32, pace: Pace, room: u32) -> Then
         requires { room ≤ 65536 }
@@ -282,7 +282,7 @@ impl<J: Naming> Worker<J> {
         room.min(MOST_STEPS as usize) as u32
     }
 
-    /// The unit executes instructions under the lock: the head at most so many, another unit one.
+    /// The unit executes instructions under the lock: the head at most the given number, another unit one.
     fn execute<P: Predict>(&mut self, desk: &mut Desk<'_, P, J>, unit: u32, most: u32)
         requires served { IsServed self.old.share unit }
         requires turn { Turn.Burst ≡ turn_of desk.old.machine unit }
@@ -311,7 +311,7 @@ impl<J: Naming> Worker<J> {
         ensures none { result ≡ 0 → desk.new.machine ≡ desk.old.machine }
         ensures turns { TakesTurns self.now.share result desk.old desk.new }
     {
-        // The share is read for what is known of it.
+        // Reading the share gives what is known of it.
         let _ = self.share();
         match desk.machine().position(unit) {
             Some(0) => desk.run_head(most),
@@ -323,9 +323,9 @@ impl<J: Naming> Worker<J> {
         }
     }
 
-    /// The head, which is the unit of this burst, executes its instructions where it is, and goes on from task
-    /// to task by the events that `turn` names: so many events at most. Answers how many instructions that
-    /// were.
+    /// The head, which is the unit of this burst, executes its instructions in place, and continues from task
+    /// to task by the events that `turn` names: at most the given number of events. Answers how many
+    /// instructions that was.
     pub(crate) fn run_in_place<P: Predict>(
         &mut self,
         desk: &mut Desk<'_, P, J>,
@@ -357,14 +357,14 @@ impl<J: Naming> Worker<J> {
         steps
     }
 
-    /// The head executes instructions of its task, at most so many; answers how many.
+    /// The head executes at most the given number of instructions of its task; answers how many.
     fn run_inside<P: Predict>(&self, desk: &mut Desk<'_, P, J>, most: u32) -> u32
         requires { self.now.share.workers ≡ 1 }
         ensures few { result ≤ most }
         ensures history { length desk.new.machine.history ≡ length desk.old.machine.history + result }
         ensures turns { TakesTurns self.now.share 0 desk.old desk.new }
     {
-        // The share is read for what is known of it.
+        // Reading the share gives what is known of it.
         let _ = self.share();
         law_ring(desk.machine());
         match desk.machine().spot(0) {
@@ -373,15 +373,15 @@ impl<J: Naming> Worker<J> {
         }
     }
 
-    /// Applies the event that the turn of the head's unit names; answers whether it names one and the run goes
-    /// on.
+    /// Applies the event that the turn of the head's unit names; answers whether it names one and the run
+    /// continues.
     fn apply_at_head<P: Predict>(&mut self, desk: &mut Desk<'_, P, J>) -> bool
         requires { self.old.share.workers ≡ 1 }
         ensures turns { TakesTurns self.old.share 0 desk.old desk.new }
         ensures few { length desk.new.machine.history ≤ length desk.old.machine.history + 1 }
         ensures stays { IsSameWorker self.old self.new }
     {
-        // The share is read for what is known of it.
+        // Reading the share gives what is known of it.
         let _ = self.share();
         let machine = desk.machine();
         let head = machine.head_unit();
@@ -428,8 +428,8 @@ impl<J: Naming> Worker<J> {
         }
     }
 
-    /// Hands in the burst that was made as `next` says. Where memory is wanting for it, the unit gives up its
-    /// task if it is ahead of the head; the head goes on by single instructions.
+    /// Hands in the burst that was made as `next` states. Where memory runs out for it, the unit gives up its
+    /// task if it is ahead of the head; the head continues by single instructions.
     pub(crate) fn check_in<P: Predict>(
         &mut self,
         desk: &mut Desk<'_, P, J>,
@@ -446,7 +446,7 @@ impl<J: Naming> Worker<J> {
         self.follow_up(desk, next, steps, answer);
     }
 
-    /// After the answer to a burst of so many instructions.
+    /// After the answer to a burst of the given number of instructions.
     fn follow_up<P: Predict>(
         &mut self,
         desk: &mut Desk<'_, P, J>,
@@ -473,7 +473,7 @@ impl<J: Naming> Worker<J> {
         }
     }
 
-    /// Goes on with a unit after the answer to a burst of so many instructions.
+    /// Continues with a unit after the answer to a burst of the given number of instructions.
     fn go_on(&mut self, next: &NextBurst, steps: u32, answer: Result<u32, Refused>)
         ensures { self.new ≡ with_pace self.old next.now.unit (after_check_in (nat_eq self.old.share.workers 1) next.now.most steps answer (pace_of self.old.paces next.now.unit)) }
     {

@@ -15,7 +15,7 @@ use crate::laws::history_counts;
 use sequencer::machine::Machine;
 use unit_turns::laws::law_goes_on;
 
-/// The machine is the replay of its history, which has room for itself and says how many tasks have
+/// The machine is the replay of its history, which has room for itself and gives how many tasks have
 /// retired and how many units are at work.
 pub(crate) fn law_replay(machine: &Machine<'_>)
     ensures replay { Replays machine.now.accepted.program (units_of machine.now) machine.now.history (state machine.now) }

@@ -1,4 +1,4 @@
-//! Which run the threads make, as the types of what they share say it.
+//! Which run the threads make, as the types of what they share state it.
 
 ghost use Rattle.std.specs.Prelude.{ℕ, []};
 ghost use Rattle.mark_checker.specs.Places.{Checked};
@@ -6,7 +6,7 @@ ghost use Rattle.mark_checker.specs.Places.{Checked};
 use std::marker::Brand;
 
 /// The program and certificate of a run, its number of units, its number of workers and its budget. They exist
-/// in the proofs alone, and each run picks its own. What lies under the lock says by this type that its machine is
+/// in the proofs alone, and each run picks its own. The type of what lies under the lock states that its machine is
 /// that of this run, so neither a burst nor the machine that comes out has to be compared with anything.
 pub(crate) trait Naming {
     ghost accepted: { Checked };

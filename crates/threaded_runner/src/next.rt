@@ -23,7 +23,7 @@ pub(crate) struct NextBurst {
 pub(crate) enum Then {
     /// Makes a burst on the unit, which is to be lent.
     Burst(NextBurst),
-    /// Goes on with the head where it is, by as many events as the burst may have instructions.
+    /// Continues with the head in place, by as many events as the burst may have instructions.
     BurstInPlace(NextBurst),
     /// Waits until the machine has changed.
     Wait(Idle),

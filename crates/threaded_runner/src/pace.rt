@@ -1,4 +1,4 @@
-//! How a worker goes on with one of its units.
+//! How a worker continues with one of its units.
 
 ghost use Rattle.std.specs.Prelude.{◌≡◌, ◌<◌, ◌↔◌, IsTrue};
 ghost use Rattle.threaded_runner.specs.Paces.{after_check_in, after_in_place, after_single, after_taken, anew, doubled, fresh_pace, next_task, one_by_one};
@@ -12,7 +12,7 @@ const FIRST_STEPS: u32 = 64;
 /// How many instructions are executed one by one after a burst that ended early.
 const SINGLE_STEPS: u32 = 64;
 
-/// How a worker goes on with a unit.
+/// How a worker continues with a unit.
 #[derive(Clone, Copy, Debug, PartialEq, Eq)]
 pub(crate) struct Pace {
     /// The most instructions of the next burst.
@@ -54,7 +54,7 @@ impl Pace {
         self.most == FIRST_STEPS
     }
 
-    /// The pace after so many instructions were executed one by one, or one was refused.
+    /// The pace after the given number of instructions were executed one by one, or one was refused.
     pub(crate) fn after_single(self, steps: u32) -> Pace
         ensures { result ≡ after_single steps self }
     {
@@ -64,7 +64,7 @@ impl Pace {
         }
     }
 
-    /// The pace after a burst in place of so many instructions, at most `most`.
+    /// The pace after a burst in place of the given number of instructions, at most `most`.
     pub(crate) fn after_in_place(self, most: u32, steps: u32) -> Pace
         ensures { result ≡ after_in_place most steps self }
     {
@@ -77,7 +77,7 @@ impl Pace {
         }
     }
 
-    /// The pace after a burst of so many instructions, at most `most`, was handed in with this answer.
+    /// The pace after a burst of the given number of instructions, at most `most`, was handed in with this answer.
     pub(crate) fn after_check_in(
         self,
         is_all: bool,
@@ -95,8 +95,8 @@ impl Pace {
         }
     }
 
-    /// The pace after a burst that was taken over with so many instructions. To lend a unit and to hand in a
-    /// burst shorter than a task's first costs more than to execute as many instructions one by one.
+    /// The pace after a burst that was taken over with this many instructions. Lending a unit and handing in a
+    /// burst shorter than a task's first costs more than executing as many instructions one by one.
     fn after_taken(self, is_all: bool, most: u32, events: u32) -> Pace
         ensures { result ≡ after_taken is_all most events self }
     {

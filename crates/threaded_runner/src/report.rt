@@ -12,7 +12,7 @@ pub enum RunFault {
     /// 2: not a budget of 1 to 1,000,000 events.
     #[error("2 Budget")]
     Budget,
-    /// 3: want of memory, or a thread could not be made.
+    /// 3: out of memory, or a thread could not be made.
     #[error("3 OutOfMemory")]
     OutOfMemory,
     /// 4: the machine that came out of the threads has another program or number of units. No run answers
@@ -24,9 +24,9 @@ pub enum RunFault {
 /// How a run ended.
 #[derive(Clone, Copy, Debug, PartialEq, Eq)]
 pub enum How {
-    /// The machine ended: it halted, trapped or went on at an address that is not listed.
+    /// The machine ended: it halted, trapped or continued at an address that is not listed.
     Ended,
-    /// The machine goes on, and its history has as many events as the budget.
+    /// The machine has not ended, and its history has as many events as the budget.
     OutOfBudget,
 }
 

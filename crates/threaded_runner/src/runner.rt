@@ -25,14 +25,14 @@ use std::thread;
 use std::thread::Threads;
 use unit_turns::bell::Bell;
 
-/// Runs the accepted program on a machine of so many units, 1 to 16, with one thread for each unit, until
+/// Runs the accepted program on a machine with the given number of units, 1 to 16, with one thread for each unit, until
 /// the run has ended or the history has `budget` events, 1 to 1,000,000; a burst that is handed in late may
-/// go beyond. The predictor chooses behind a task that has not stopped, and the gate is called around each
+/// go beyond. The predictor chooses after a task that has not stopped, and the gate is called around each
 /// burst. The calling thread waits until all others have ended.
 ///
 /// # Errors
 ///
-/// `Units`, `Budget` and `OutOfMemory`, in this order. After each the predictor and the machine are gone.
+/// `Units`, `Budget` and `OutOfMemory`, in this order. After any of these the predictor and the machine are gone.
 pub fn run_threads<'a, P: Predict, G: RunGate, R: Threads + Wait + Sync>(
     rt: &R,
     alloc: Global,
@@ -54,13 +54,13 @@ pub fn run_threads<'a, P: Predict, G: RunGate, R: Threads + Wait + Sync>(
     run_workers(rt, alloc, accepted, units, units, budget, predictor, gate)
 }
 
-/// The same with a number of threads, 1 to `units`: worker j serves the units u with u modulo `workers`
+/// Like `run_threads`, with a number of threads, 1 to `units`: worker j serves the units u with u modulo `workers`
 /// equal to j, from the head on. With one worker only the head's task is worked on.
 ///
 /// # Errors
 ///
 /// `Units`, also where the number of workers is not 1 to `units`; `Budget` and `OutOfMemory`, in this order.
-/// After each the predictor and the machine are gone.
+/// After any of these the predictor and the machine are gone.
 pub fn run_workers<'a, P: Predict, G: RunGate, R: Threads + Wait + Sync>(
     rt: &R,
     alloc: Global,
@@ -89,7 +89,7 @@ pub fn run_workers<'a, P: Predict, G: RunGate, R: Threads + Wait + Sync>(
     run_named::<P, Brand, G, R>(rt, alloc, accepted, units, workers, budget, predictor, gate)
 }
 
-/// The run, once the numbers are as they must be, over the program and certificate that its types name.
+/// The run, once the numbers are valid, over the program and certificate that its types name.
 fn run_named<'a, P: Predict, J: Naming + Send + Sync, G: RunGate, R: Threads + Wait + Sync>(
     rt: &R,
     alloc: Global,

@@ -17,7 +17,7 @@ use unit_turns::turn::Turn;
 pub(crate) struct Share {
     /// How many units there are, 1 to 16.
     pub(crate) units: u32,
-    /// How many workers, 1 to that.
+    /// How many workers there are, 1 to the number of units.
     pub(crate) workers: u32,
     /// The number of the worker.
     pub(crate) worker: u32,
@@ -39,7 +39,7 @@ impl Share {
         self.workers == 1
     }
 
-    /// The first of the worker's units, from the head on round the ring, that does not wait, with its turn;
+    /// The first of the worker's units, in ring order from the head, that does not wait, with its turn;
     /// `None` exactly where all of them wait. A worker that serves all units looks at the head alone, which
     /// waits only where all do.
     #[inline]
@@ -91,7 +91,7 @@ impl Share {
         }
     }
 
-    /// The first of the worker's units, from the head on round the ring, that does not wait, with its turn.
+    /// The first of the worker's units, in ring order from the head, that does not wait, with its turn.
     fn first_turn_from(self, machine: &Machine<'_>, head: u32) -> Option<(u32, Turn)>
         requires share { IsShareOf (units_of machine.now) self.workers self }
         requires head { unit_for machine.now (Exec 0) ≡ head }

@@ -85,7 +85,7 @@ pub(crate) fn ring_and_let_go<P: Predict, J: Naming>(
     let_go(held, called, bells, share);
 }
 
-/// Lends a unit into the slot, which keeps the room of the burst before; says whether it did.
+/// Lends a unit into the slot, which keeps the room of the previous burst; answers whether it did.
 fn lend<'a>(machine: &Machine<'a>, unit: u32, slot: &mut Option<Burst<'a>>) -> bool
     ensures { IsTrue result → IfSome slot.new (λ burst. (burst.accepted ≡ machine.now.accepted) × (burst.steps ≡ 0)) }
 {

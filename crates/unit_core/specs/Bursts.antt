@@ -1,4 +1,4 @@
--- Leases and bursts as contracts see them (own).
+-- Leases and bursts as contracts see them.
 use Rattle.std.specs.Prelude.{◌≡◌, ℕ, ◌+◌, ◌≤◌, ◌++◌, List, is_some}
 use Rattle.mips_plain.specs.declared.outcome.Read.{Read}
 use Rattle.task_descriptor.specs.Listing.{Listing}
@@ -8,42 +8,42 @@ use Rattle.machine_model.specs.Unit.{with_log}
 use Rattle.machine_model.specs.Burst.{Burst, AllIn, with_arrived}
 use Rattle.unit_core.specs.Units.{UnitView, active_of, IsPlaced}
 
--- a unit as it is, its log aside, lent with its program
+-- a unit as it is, apart from its log, lent with its program
 pub record LeaseView : Type 0 where
   pub accepted : Checked
   pub unit : UnitView
 
--- `after` is `before`, which has no log, after so many steps; its log is what these read
+-- `after` is `before`, which has no log, after `steps` steps; its log is what these steps read
 pub record BurstView : Type 0 where
   pub accepted : Checked
   pub before : UnitView
   pub steps : ℕ
   pub after : UnitView
 
--- the unit before is the unit after, after so many steps of the program, with any log before the reads
+-- `n` steps of the program lead from the unit `before` to the unit `after`, whatever log precedes the reads
 abbrev pub Makes : Listing → (before : UnitView) → (n : ℕ) → (after : UnitView) → Type 0
 Makes p before n after = (log : List Read) → Burst p (with_log (active_of before) log) n (with_log (active_of after) (log ++ after.log))
 
--- a unit has sent the same registers as another one
+-- two units have sent the same registers
 abbrev pub HasSentTheSame : Active → Active → Type 0
 HasSentTheSame u v = (r : ℕ) → is_some (u.sent r) ≡ is_some (v.sent r)
 
--- only the last of so many steps sends a register for the first time: with one step less the unit has sent
--- what it had sent before
+-- only the last of these steps sends a register for the first time: after one step fewer the unit has sent
+-- the registers that it had sent before
 abbrev pub SendsLast : Listing → (before : UnitView) → (steps : ℕ) → Type 0
 SendsLast p before steps = (n : ℕ) → steps ≡ n + 1 → (mid : UnitView) × Makes p before n mid × HasSentTheSame (active_of mid) (active_of before)
 
--- what a burst keeps
+-- the invariant of a burst
 pub record IsMade (b : BurstView) : Type 0 where
   pub few : b.steps ≤ 65536
   pub made : Makes b.accepted.program b.before b.steps b.after
   pub placed : IsPlaced b.accepted (active_of b.after)
 
--- the unit is this one, logs aside, with at most more registers arrived
+-- the units are equal, apart from their logs and from registers that have arrived since
 pub record HasMore (before u : Active) : Type 0 where
   pub more : AllIn before.arrived u.arrived
   pub is : u ≡ with_log (with_arrived before u.arrived) u.log
 
--- a unit that goes on as the one before a burst did: what arrived stays, and the reads are behind its log
+-- a unit that continues as the one before a burst did: what arrived stays, and the reads follow its log
 abbrev pub carried_on : (after u : Active) → Active
 carried_on after u = with_log (with_arrived after u.arrived) (u.log ++ after.log)

@@ -46,7 +46,7 @@ but_three = 0x3FFFFF8FF
 abbrev pub at_work : Active
 at_work = active_of (unit (Inside 1) but_three 0x200000180 0)
 
--- register 0 has 0, also where nothing has arrived
+-- register 0 has 0, even where nothing has arrived
 pub value_of_zero : value (active_of (unit (Inside 0) 0 0 0)) 0 ≡ Some 0
 value_of_zero = refl
 
@@ -64,7 +64,7 @@ value_arrived = refl
 pub value_reserved : value at_work 9 ≡ None
 value_reserved = refl
 
--- words are moved, put out and sent; register 8 has the address
+-- words are moved, output and sent; register 8 has the address
 abbrev pub moves : Listing
 moves = record {
   code = bare (Load Lw 9 8 (pos 0)) ∷ bare (Store Sw 11 8 (pos 0)) ∷ bare (Three Addu 9 10 9) ∷ bare (Release 0x600) ∷ bare (Out 9) ∷ bare Halt ∷ [];
@@ -74,8 +74,8 @@ moves = record {
   start = 0;
 }
 
--- a unit before an instruction, to which all registers but 9 and 10 have arrived: this address as
--- register 8, any other with 0
+-- a unit before an instruction, to which all registers but 9 and 10 have arrived: register 8 with this
+-- address, any other with 0
 abbrev pub addressed : (index address : ℕ) → Active
 addressed index address = active_of (record {
   task = 0;
@@ -117,7 +117,7 @@ pub load_ahead : exec_refusal moves false (addressed 0 0x1000FFFC) ≡ None
 unfolding least region effective
 load_ahead = refl
 
--- the first word of data memory is not, nor what is no whole word of read-only data
+-- the first word of data memory is not, nor is anything but a whole word of read-only data
 pub load_behind : exec_refusal moves false (addressed 0 0x10010000) ≡ Some refused.NotHead
 unfolding least region effective
 load_behind = refl
@@ -140,7 +140,7 @@ unfolding least region effective
 store_fixed_behind = refl
 
 -- Task A of `count` wrote registers 8, 9 and 10 of its create mask and sent 8 and 9. A register outside
--- the mask is refused before all else, then a unit that has not stopped, then what is sent
+-- the mask is refused before all else, then a unit that has not stopped, then what has been sent
 pub drain_outside : drain_refusal count (active_of (unit (Inside 3) but_three 0x700 0x300)) 7 ≡ Some refused.NoSuch
 drain_outside = refl
 
@@ -153,13 +153,13 @@ drain_again = refl
 pub drain_allowed : drain_refusal count (active_of (unit (Stopped 0x400000) but_three 0x700 0x300)) 10 ≡ None
 drain_allowed = refl
 
--- register 7 in the create mask, too, which the task does not write: while it is reserved it has no value
+-- with register 7, which the task does not write, in the create mask too: while reserved it has no value
 pub drain_reserved :
     drain_refusal (record count { tasks = task 0 0x780 (0 ∷ 4 ∷ []) ∷ [] }) (active_of (unit (Stopped 0x400000) 0x3FFFFF87F 0x700 0x300)) 7
     ≡ Some (refused.NotYet 7)
 drain_reserved = refl
 
--- the certificate of `count`: register 8 may still be written at index 0, and not behind it
+-- the certificate of `count`: register 8 may still be written at index 0, but not after it
 abbrev pub checked : Checked
 checked = record {
   program = count;
@@ -179,7 +179,7 @@ without_mask = refl
 pub arrived_since : HasMore at_work (with_arrived at_work (put 9 5 at_work.arrived))
 arrived_since = record { more = λ r word is. grind (arith, nat_tests, is); is = refl }
 
--- and no register anew with another word; nor may the unit write in the meantime
+-- but no register may arrive again with another word, nor may the unit write in the meantime
 pub arrived_anew : HasMore at_work (with_arrived at_work (put 6 5 at_work.arrived)) → ⊥
 arrived_anew has = let e = has.more 6 106 refl in cc
 

@@ -1,4 +1,4 @@
--- What a unit keeps of its sent registers (own). A certificate's mask at an index of a task holds the
+-- What stays true of a unit's sent registers. A certificate's mask at an index of a task holds the
 -- registers that may still be written from there.
 use Rattle.std.specs.Prelude.{◌≡◌, ℕ, Bool, Some}
 use Rattle.mask_certificate.specs.Lists.{list_of, mask_at}
@@ -15,7 +15,7 @@ mask_has c t i r = in_mask (mask_at (list_of c.cert t) i) r
 abbrev pub KeepsSent : Checked → Active → Type 0
 KeepsSent c u = SentIsLast (mask_has c u.task) u
 
--- that holds of u' too, and each register that u had sent has the value that it had
+-- that holds of u' too, and each register that u had sent still has its value
 pub record SentStays (c : Checked) (u u' : Active) : Type 0 where
   pub keeps : KeepsSent c u'
   pub same : (r word : ℕ) → u.sent r ≡ Some word → value u' r ≡ value u r

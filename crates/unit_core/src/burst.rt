@@ -1,5 +1,5 @@
 //! Work outside the lock: a unit is lent, a burst of its instructions is made on the copy, and the
-//! unit takes the burst over.
+//! unit takes over the burst.
 
 ghost use Rattle.std.specs.Prelude.{◌≡◌, ℕ, ◌<◌, ◌≤◌, [], IfOk, IfErr, OnOk, OnErr, IsTrue, ◌↔◌, is_some};
 ghost use Rattle.mips_instructions.specs.Words.{has};
@@ -14,10 +14,10 @@ use mips_plain::outcome::OutOfMemory;
 use std::alloc::Global;
 use std::marker::Model;
 
-/// The most instructions of a burst.
+/// The maximum number of instructions in a burst.
 pub const MOST_STEPS: u32 = 65_536;
 
-/// A unit as it is, its log aside, lent with its program and certificate, to make a burst on.
+/// A unit as it is, apart from its log, lent with its program and certificate to make a burst on.
 #[derive(Drop)]
 pub struct Lease<'a> {
     accepted: &'a Accepted,
@@ -36,7 +36,7 @@ impl<'a> Model for Lease<'a> {
     ghost invariant = { λ l. IsPlaced l.accepted.now (active_of (unlogged l.state)) };
 }
 
-/// A unit before and after some steps, its log aside: instructions, each register-only or a load of
+/// A unit, apart from its log, before and after some steps: instructions, each register-only or a load of
 /// read-only data. What they read is the log of the unit after them.
 #[derive(Drop)]
 pub struct Burst<'a> {
@@ -57,10 +57,10 @@ impl<'a> Model for Burst<'a> {
     ghost invariant = { λ b. IsMade (record { accepted = b.accepted.now; before = unlogged b.before; steps = b.steps; after = b.after }) };
 }
 
-/// For how many reads a burst takes memory before its first step, so that the log of a usual one grows once.
+/// The number of reads for which a burst takes memory before its first step, so that a usual log grows once.
 const RESERVED_READS: u32 = 64;
 
-/// Whether a unit has sent the registers of a set and no others.
+/// Whether a unit has sent exactly the registers of a set.
 #[inline]
 fn has_sent(unit: &Unit, set: RegSet) -> bool
     ensures { IsTrue result → (r : ℕ) → is_some ((active_of unit.now).sent r) ≡ has set r }
@@ -69,7 +69,7 @@ fn has_sent(unit: &Unit, set: RegSet) -> bool
 }
 
 /// Executes instructions ahead until one is refused or sends a register for the first time, at most
-/// `most`, and answers how many.
+/// `most`, and returns how many.
 fn run_ahead(accepted: &Accepted, unit: &mut Unit, most: u32) -> u32
     requires placed { IsPlaced accepted.now (active_of unit.old) }
     requires no_log { unit.old.log ≡ [] }
@@ -94,9 +94,9 @@ fn run_ahead(accepted: &Accepted, unit: &mut Unit, most: u32) -> u32
 
 impl<'a> Burst<'a> {
     /// Executes at most `most` instructions on a lent unit, 1..=65,536, each a register-only one or a
-    /// load of read-only data. It ends early where the unit would wait or has stopped, behind an
+    /// load of read-only data. It ends early where the unit would wait or has stopped, after an
     /// instruction that sends a register for the first time, so that the successor gets it soon, or
-    /// where a growth of the reads was refused.
+    /// where growth of the reads was refused.
     pub fn run(lease: Lease<'a>, most: u32) -> Burst<'a>
         requires { most ≤ 65536 }
         ensures accepted { result.accepted ≡ lease.entry.accepted }
@@ -124,9 +124,9 @@ impl<'a> Burst<'a> {
         }
     }
 
-    /// Becomes a burst without a step on a unit as it is, its log aside. The caller sees to it that the unit is
-    /// one of this program and certificate. It lies where an earlier burst did, and keeps the room of that
-    /// one's reads; so it takes no memory, and nothing is moved.
+    /// Becomes a burst without a step on a unit as it is, apart from its log. The caller ensures that the unit
+    /// is one of this program and certificate. It reuses the place of an earlier burst and the room of
+    /// its reads, so it takes no memory, and nothing is moved.
     #[inline]
     pub fn begin(&mut self, accepted: &'a Accepted, unit: &Unit)
         requires { IsPlaced accepted.now (active_of unit.now) }
@@ -140,8 +140,8 @@ impl<'a> Burst<'a> {
         self.after.begin_as(unit);
     }
 
-    /// Executes at most `most` instructions, 1..=65,536, on the unit of a burst without a step, as `run` does
-    /// on a lent one.
+    /// Like `run`, executes at most `most` instructions, 1..=65,536, but on the unit of a burst without a step
+    /// instead of a lent one.
     pub fn go(&mut self, most: u32)
         requires few { most ≤ 65536 }
         requires none { self.old.steps ≡ 0 }
@@ -151,7 +151,7 @@ impl<'a> Burst<'a> {
         ensures made { IsMade self.new }
         ensures sends_last { SendsLast self.new.accepted.program self.new.before self.new.steps }
     {
-        // Where this growth is refused, each step asks for room of its own.
+        // If this growth is refused, each step asks for its own room.
         let _ = self.after.reserve_reads(most.min(RESERVED_READS) as usize);
         self.steps = run_ahead(self.accepted, &mut self.after, most);
     }
@@ -181,7 +181,7 @@ impl<'a> Burst<'a> {
         self.steps
     }
 
-    /// The unit behind these instructions; its reads are theirs.
+    /// The unit after these instructions; its reads are theirs.
     #[inline]
     pub fn after(&self) -> &Unit
         ensures { result.now ≡ self.now.after }
@@ -191,7 +191,7 @@ impl<'a> Burst<'a> {
 }
 
 impl Unit {
-    /// Lends the unit as it is, its log aside. The caller sees to it that the unit is one of this program
+    /// Lends the unit as it is, apart from its log. The caller ensures that the unit is one of this program
     /// and certificate. Takes no memory, and costs the same however long the log is.
     pub fn lease<'a>(&self, accepted: &'a Accepted) -> Lease<'a>
         requires { IsPlaced accepted.now (active_of self.now) }
@@ -205,9 +205,9 @@ impl Unit {
         }
     }
 
-    /// Takes a burst over, and answers how many steps that were: their reads come behind its log, and
-    /// what arrived since it was lent stays arrived. Answers 0, and changes nothing, exactly where the
-    /// burst has no step, or the unit is not as it was lent, logs aside, but for registers that arrived
+    /// Takes over a burst and returns its number of steps: their reads are appended to its log, and
+    /// what arrived since it was lent stays arrived. Returns 0, and changes nothing, exactly where the
+    /// burst has no step, or the unit is not as it was lent, apart from logs and registers that arrived
     /// since.
     ///
     /// # Errors
@@ -234,9 +234,9 @@ impl Unit {
         }
     }
 
-    /// Goes on as the unit of a burst did: its reads come behind the log, and what arrived stays
-    /// arrived. The burst is left without a step. The caller sees to it that the unit is as it was lent,
-    /// logs aside, but for registers that arrived since. Where the reads are many they are moved, not
+    /// Continues as the unit of a burst did: its reads are appended to the log, and what arrived stays
+    /// arrived. The burst is left without a step. The caller ensures that the unit is as it was lent,
+    /// apart from logs and registers that arrived since. If there are many reads, they are moved, not
     /// copied.
     ///
     /// # Errors
@@ -254,8 +254,8 @@ impl Unit {
         Ok(())
     }
 
-    /// Goes on as `carry_on` does, but a burst of few reads, which are copied, may stay as it is: so the unit
-    /// before it is not written anew.
+    /// Like `carry_on`, but a burst of few reads, which are copied, may stay as it is, so that the unit before
+    /// it is not rewritten.
     ///
     /// # Errors
     ///

@@ -1,4 +1,4 @@
-//! A log of reads in chunks, so that a long log joins another one without being copied.
+//! A log of reads in chunks, so that a long log can be appended to another without being copied.
 
 ghost use Rattle.std.specs.Prelude.{◌≡◌, ℕ, ◌+◌, ◌^◌, ◌<◌, ◌≤◌, [], ◌∷◌, ◌++◌, true, false, length, flat_map, IfOk, OnOk, OnErr, vec_len, vec_capacity};
 
@@ -7,15 +7,15 @@ use std::alloc::{AllocError, Global};
 use std::marker::Model;
 use std::mem;
 
-/// Where the current chunks of two logs have at most so many reads together, one is copied behind the
-/// other. Own choice: 12 KB.
+/// If the current chunks of two logs have at most this many reads together (12 KB), one is copied to the
+/// end of the other.
 const SHORT: usize = 1_000;
 
-/// The most reads that closed chunks may have: no vector has room for more.
+/// The maximum number of reads in closed chunks: no vector has room for more.
 const MOST: usize = usize::MAX / 2;
 
-/// What instructions read, oldest first: some closed chunks, which stay as they are, and behind them
-/// the current one, to which a read is pushed.
+/// What instructions read, oldest first: some closed chunks, which stay as they are, and after them
+/// the current one, to which reads are pushed.
 #[derive(Debug, Drop)]
 pub struct ReadLog {
     closed: Vec<Vec<Read>>,
@@ -38,7 +38,7 @@ impl Model for ReadLog {
 }
 
 impl ReadLog {
-    /// A log without a read. Takes no memory.
+    /// A log without reads. Takes no memory.
     pub fn new(alloc: Global) -> ReadLog
         ensures { result.reads ≡ [] }
     {
@@ -55,7 +55,7 @@ impl ReadLog {
         *self.current.allocator()
     }
 
-    /// Keeps none of its reads, but the room of the current chunk.
+    /// Drops all its reads, but keeps the room of the current chunk.
     pub fn clear(&mut self)
         ensures { self.new.reads ≡ [] }
     {
@@ -64,7 +64,7 @@ impl ReadLog {
         self.current.clear();
     }
 
-    /// How many reads it has.
+    /// The number of its reads.
     #[inline]
     pub fn len(&self) -> usize
         ensures { result ≡ length self.now.reads }
@@ -72,14 +72,14 @@ impl ReadLog {
         self.closed_len + self.current.len()
     }
 
-    /// Its reads as they lie in memory: chunk behind chunk, and behind these the last one.
+    /// Its reads as they lie in memory: the closed chunks in order, then the last one.
     pub fn chunks(&self) -> (&[Vec<Read>], &[Read])
         ensures { self.now.reads ≡ flat_map (λ c. c.items) result.0.now ++ result.1.now }
     {
         (&self.closed, &self.current)
     }
 
-    /// Sees to it that so many more reads find room.
+    /// Makes room for `count` more reads.
     ///
     /// # Errors
     ///
@@ -92,7 +92,7 @@ impl ReadLog {
         self.current.reserve(count)
     }
 
-    /// Puts a read behind all others, for which there is room.
+    /// Appends a read, for which there is room.
     #[inline]
     pub fn push_reserved(&mut self, read: Read)
         requires { 0 < self.old.room }
@@ -101,8 +101,8 @@ impl ReadLog {
         self.current.push_reserved(read);
     }
 
-    /// Puts the reads of another log behind its own; the other one keeps none. Only short logs are
-    /// copied: of a long one the chunks are moved, and a log without a read changes place with the other.
+    /// Appends the reads of another log to its own and empties the other. Only short logs are copied:
+    /// the chunks of a long one are moved, and a log without reads is swapped with the other.
     ///
     /// # Errors
     ///
@@ -123,7 +123,7 @@ impl ReadLog {
         self.move_from(other)
     }
 
-    /// Puts copies of the reads of another log behind its own, where both are short, and says whether it did.
+    /// Appends copies of the reads of another log to its own, if both are short, and returns whether it did.
     ///
     /// # Errors
     ///
@@ -144,7 +144,7 @@ impl ReadLog {
         Ok(true)
     }
 
-    /// Its length with `more` further reads. If no memory could hold them, it asks for the room, and that is
+    /// Its length with `more` further reads. If no memory could hold them, it asks for the room, which is
     /// refused.
     fn len_with(&mut self, more: usize) -> Result<usize, AllocError>
         ensures len { IfOk result (λ len. (len ≡ length self.old.reads + more) × (len < 2 ^ 63)) }
@@ -158,8 +158,8 @@ impl ReadLog {
         Ok(len)
     }
 
-    /// Closes its current chunk, and moves the chunks of another log behind it: the other one's current
-    /// chunk is then its own.
+    /// Closes its current chunk and moves the chunks of another log after it; the other log's current
+    /// chunk becomes its own.
     fn move_from(&mut self, other: &mut ReadLog) -> Result<(), OutOfMemory>
         ensures reads { OnOk result (self.new.reads ≡ self.old.reads ++ other.old.reads) }
         ensures emptied { OnOk result (other.new.reads ≡ []) }
@@ -176,7 +176,7 @@ impl ReadLog {
     }
 }
 
-/// Puts a chunk behind the closed ones, where it has any read.
+/// Appends a chunk to the closed ones, if it has any reads.
 fn close(closed: &mut Vec<Vec<Read>>, current: &mut Vec<Read>)
     requires { vec_len closed.old < vec_capacity closed.old }
     ensures reads { flat_map (λ c. c.items) closed.new.items ≡ flat_map (λ c. c.items) closed.old.items ++ current.old.items }
@@ -191,7 +191,7 @@ fn close(closed: &mut Vec<Vec<Read>>, current: &mut Vec<Read>)
     closed.push_reserved(mem::replace(current, empty));
 }
 
-/// Moves chunks behind the closed ones.
+/// Moves chunks to the end of the closed ones.
 fn move_all(closed: &mut Vec<Vec<Read>>, more: &mut Vec<Vec<Read>>)
     requires { vec_len closed.old + vec_len more.old ≤ vec_capacity closed.old }
     ensures reads { flat_map (λ c. c.items) closed.new.items ≡ flat_map (λ c. c.items) closed.old.items ++ flat_map (λ c. c.items) more.old.items }

@@ -1,4 +1,4 @@
-//! The parts of one step of a unit: what it needs of an instruction and where it goes.
+//! The parts of one step of a unit: what it needs from an instruction and where it goes.
 
 ghost use Rattle.std.specs.Prelude.{◌≡◌, ℕ, ◌+◌, ◌%◌, ◌^◌, ◌<◌, ◌&&◌, true, false, None, Some, IfOk, IfErr};
 ghost use Rattle.std.specs.Option.{option_or};
@@ -30,17 +30,17 @@ use register_ring::port::Port;
 use task_descriptor::descriptor::{Marked, Stop};
 use task_graph::edges::{ends_task, leads_to};
 
-/// What an instruction does, where that is found together with its operands. The instructions that are
-/// executed most have a variant of their own; with more variants they would be told apart by an indirect
-/// jump. Most of them write a word: that variant stands last, here and in `Unit::advance`, since the
+/// What an instruction does, where that is found together with its operands. The most frequently executed
+/// instructions have variants of their own; with more variants, telling them apart would take an indirect
+/// jump. Most of them write a word: that variant comes last, here and in `Unit::advance`, since the
 /// compiler then tests for it first.
 #[derive(Clone, Copy)]
 pub(crate) enum Effect {
-    /// Its operation has to be looked at once more.
+    /// Its operation has to be looked at again.
     Other,
-    /// It writes nothing, and goes on at an index; a conditional branch is taken or isn't.
+    /// It writes nothing and continues at an index; a conditional branch is taken or isn't.
     Goes(bool, u32),
-    /// It writes a word to one general register, and goes on at the following instruction.
+    /// It writes a word to one general register and continues at the following instruction.
     Writes(Gpr, u32),
 }
 
@@ -91,7 +91,7 @@ impl<'a> Next<'a> {
     }
 }
 
-/// Whether an instruction waits for its operands alone: each but a `release` does.
+/// Whether an instruction waits only for its operands: all but `release` do.
 #[inline]
 pub(crate) fn waits_for_operands(op: &Op) -> bool
     ensures { result ≡ true → (r : ℕ) → released op.now r ≡ false }
@@ -134,7 +134,7 @@ pub(crate) fn load_ahead(
     }
 }
 
-/// The same, by the operation.
+/// Like `load_ahead`, but by the operation.
 #[inline]
 fn load_by_operation(op: &Op, a: u32, fixed: &[u8]) -> Result<Option<u32>, Wait>
     ensures loaded { IfOk result (λ word. (may_run_ahead op.now a ≡ true) × (word ≡ loads op.now a (byte_of fixed.now) no_memory)) }
@@ -156,7 +156,7 @@ pub(crate) fn spot_after(next: &Next<'_>) -> Spot
     requires { next.now.index < 4096 }
     ensures { result ≡ place_after (leaves next.now.marked.now.stop (taken next.now.marked.now.op next.now.a next.now.b)) (edge next.now.marked.now.op next.now.index (taken next.now.marked.now.op next.now.a next.now.b)) (turn next.now.marked.now.op next.now.a next.now.b next.now.pc) }
 {
-    // A call for each case, so that what only a taken branch needs falls away from the other one.
+    // One call for each case, so that the untaken one omits what only a taken branch needs.
     if next.marked.op.taken(next.a, next.b) {
         spot_where(next, true)
     } else {
@@ -164,7 +164,7 @@ pub(crate) fn spot_after(next: &Next<'_>) -> Spot
     }
 }
 
-/// Where a unit stands after an instruction, for a conditional branch where it is `taken` or isn't.
+/// Where a unit stands after an instruction, given whether a conditional branch is `taken`.
 #[inline(always)]
 fn spot_where(next: &Next<'_>, taken: bool) -> Spot
     requires { next.now.index < 4096 }
@@ -179,8 +179,8 @@ fn spot_where(next: &Next<'_>, taken: bool) -> Spot
     Spot::Stopped(op.turn(next.a, next.b, next.pc))
 }
 
-/// Where a unit stands after an instruction that leads to an index, for a conditional branch where it is
-/// `taken` or isn't.
+/// Where a unit stands after an instruction that leads to an index, given whether a conditional branch is
+/// `taken`.
 #[inline(always)]
 pub(crate) fn spot_at(next: &Next<'_>, taken: bool, to: u32) -> Spot
     requires index { next.now.index < 4096 }
@@ -193,8 +193,8 @@ pub(crate) fn spot_at(next: &Next<'_>, taken: bool, to: u32) -> Spot
     }
 }
 
-/// The same for an instruction with stop bits, which are rare. It is not inlined, so that no indirect jump over
-/// them is left in the ways of most instructions.
+/// Like `spot_at`, but for an instruction with stop bits, which are rare. Not inlined, so that the paths of
+/// most instructions have no indirect jump on the stop bits.
 #[inline(never)]
 fn spot_with_stop_bits(next: Next<'_>, taken: bool) -> Spot
     requires { next.index < 4096 }
@@ -203,7 +203,7 @@ fn spot_with_stop_bits(next: Next<'_>, taken: bool) -> Spot
     spot_where(&next, taken)
 }
 
-/// Where a unit stands after an instruction that goes on at the following one, wherever the run is.
+/// Where a unit stands after an instruction that continues at the following one, wherever the run is.
 #[inline(always)]
 pub(crate) fn spot_behind(next: &Next<'_>) -> Spot
     requires { next.now.index < 4096 }
@@ -215,7 +215,7 @@ pub(crate) fn spot_behind(next: &Next<'_>) -> Spot
     }
 }
 
-/// The same for an instruction with stop bits, which are rare.
+/// Like `spot_behind`, but for an instruction with stop bits, which are rare.
 #[inline(never)]
 fn spot_at_stop(stop: Stop, index: u32, pc: u32) -> Spot
     requires { index < 4096 }
@@ -273,7 +273,7 @@ fn send_some(port: &mut Port, register: Reg, word: Option<u32>)
     }
 }
 
-/// Writes what an instruction computes or has loaded, to each of its destinations.
+/// Writes what an instruction computes or has loaded to each of its destinations.
 #[inline(always)]
 pub(crate) fn write(local: &mut RegisterWords, next: &Next<'_>, dests: RegSet, loaded: Option<u32>)
     requires { (r : ℕ) → has dests r ≡ dests_of next.now.marked.now.op r }
@@ -284,7 +284,7 @@ pub(crate) fn write(local: &mut RegisterWords, next: &Next<'_>, dests: RegSet, l
     }
 }
 
-/// Writes what an instruction computes or has loaded, to each register of a set.
+/// Writes what an instruction computes or has loaded to each register of a set.
 fn write_each(local: &mut RegisterWords, next: &Next<'_>, dests: RegSet, loaded: Option<u32>)
     requires { (r : ℕ) → has dests r ≡ dests_of next.now.marked.now.op r }
     ensures { pairs local.new ≡ with_own (writes next.now.marked.now.op next.now.a next.now.b next.now.pc loaded) (pairs local.old) }
@@ -325,7 +325,7 @@ pub(crate) fn send_each(port: &mut Port, local: &RegisterWords, set: RegSet)
     }
 }
 
-/// The same, but looks only at registers that were not sent before.
+/// Like `send_each`, but looks only at registers that have not been sent.
 #[inline(always)]
 pub(crate) fn send_unsent(port: &mut Port, local: &RegisterWords, set: RegSet)
     ensures sent { sent_of port.new ≡ sent_with (has set) (value_in (pairs local.now) (arrived_of port.old)) (sent_of port.old) }

@@ -5,21 +5,21 @@ use mips_plain::outcome::OutOfMemory;
 use std::alloc::AllocError;
 use thiserror::Error;
 
-/// Why a unit does not execute its next instruction. The first that holds, in this order, is the
-/// answer; nothing is changed.
+/// Why a unit does not execute its next instruction. The first that holds, in this order, is
+/// returned; nothing is changed.
 #[derive(Clone, Copy, Debug, PartialEq, Eq, Error)]
 pub enum Wait {
     /// 1: it has stopped.
     #[error("1 Stopped")]
     Stopped,
-    /// 2: this register, of those that the instruction needs the least without a value, is reserved.
+    /// 2: this register is reserved: the least without a value of those that the instruction needs.
     #[error("2 Waiting ${}", .0.get())]
     Waiting(Reg),
-    /// 3: the instruction is a memory operation, `out` or `halt`, which wait until the unit is the
-    /// head, and no load of read-only data.
+    /// 3: the instruction waits until the unit is the head: it is `out`, `halt` or a memory operation other
+    /// than a load of read-only data.
     #[error("3 NotHead")]
     NotHead,
-    /// 4: a growth of the log or of the output was refused.
+    /// 4: growth of the log or of the output was refused.
     #[error("4 OutOfMemory")]
     OutOfMemory,
 }
@@ -46,8 +46,8 @@ impl From<OutOfMemory> for Wait {
     }
 }
 
-/// Why a unit does not send a register at its end. The first that holds, in this order, is the
-/// answer; nothing is changed.
+/// Why a unit does not send a register at its end. The first that holds, in this order, is
+/// returned; nothing is changed.
 #[derive(Clone, Copy, Debug, PartialEq, Eq, Error)]
 pub enum DrainFault {
     /// 1: the register is not in the create mask of the unit's task.

@@ -1,4 +1,4 @@
-//! What the head's instructions change beside the head.
+//! What the head's instructions change besides the head.
 
 use machine_model::event::Standing;
 use mips_instructions::instruction::Op;
@@ -12,7 +12,7 @@ use std::marker::Model;
 pub struct World {
     /// Data memory and read-only data.
     pub memory: Memory,
-    /// The words that were put out, the first one first.
+    /// The words that were output, oldest first.
     pub output: Vec<u32>,
     /// How the run stands.
     pub outcome: Standing,
@@ -36,7 +36,7 @@ impl World {
     ghost use Rattle.unit_core.specs.ExecParts.{loads, IsAddress};
     ghost use Rattle.machine_model.specs.declared.event.Standing.TheVariants.{Running};
 
-    /// A world with this memory, in which nothing was put out and the run goes on. Takes no memory.
+    /// A world with this memory, in which nothing was output and the run has not ended. Takes no memory.
     pub fn new(alloc: Global, memory: Memory) -> World
         ensures contents { result.contents ≡ memory }
         ensures output { result.output ≡ [] }
@@ -56,7 +56,7 @@ impl World {
         &self.memory
     }
 
-    /// The words that were put out, the first one first.
+    /// The words that were output, oldest first.
     pub fn output(&self) -> &[u32]
         ensures { result.now ≡ self.now.output }
     {
@@ -71,7 +71,7 @@ impl World {
         self.outcome
     }
 
-    /// Whether the run goes on.
+    /// Whether the run continues.
     #[inline]
     pub fn is_running(&self) -> bool
         ensures { IsTrue result ↔ (self.now.outcome ≡ Running) }
@@ -79,9 +79,9 @@ impl World {
         matches!(self.outcome, Standing::Running)
     }
 
-    /// Carries out what an instruction of the head with the operands a and b does beside its
-    /// registers, and answers the word that it loads, if it loads one. `fixed` are the bytes that the
-    /// program's read-only data begins with. Want of memory is answered only by `out`; nothing is
+    /// Carries out what an instruction of the head with the operands a and b does besides its
+    /// registers, and returns the word that it loads, if it loads one. `fixed` holds the bytes that the
+    /// program's read-only data begins with. Only `out` reports lack of memory; nothing is
     /// changed then.
     #[inline]
     pub(crate) fn carry_out(

@@ -1,4 +1,4 @@
--- Which run on its way a machine with a predictor stands for.
+-- Which run in progress a machine with a predictor stands for.
 use Rattle.sequencer.specs.Machines.{MachineView, state}
 use Rattle.unit_turns.specs.declared.predictor.Predictor.{Predictor}
 use Rattle.unit_turns.specs.Steps.{Course}

@@ -14,14 +14,14 @@ use Rattle.unit_turns.specs.Turns.{position_of_unit, turn_at}
 use Rattle.unit_turns.specs.declared.turn.Turn.{Turn}
 use Rattle.unit_turns.specs.declared.turn.Turn.TheVariants.{Apply, Choose, Burst, Wait}
 
--- round a ring of four the units 2, 3, 0 and 1 stand one after another once six tasks have retired
+-- on a ring of four the units 2, 3, 0 and 1 follow one another once six tasks have retired
 pub of_head : position_of_unit 4 6 2 ≡ 0
 of_head = refl
 
 pub of_last : position_of_unit 4 6 1 ≡ 3
 of_last = refl
 
--- turns on three units, after some events of the loop `count` and so many instructions
+-- turns on three units, after some events of the loop `count` and the given number of instructions
 abbrev pub after : List Event → State
 after events = (play count 3 events).state
 
@@ -75,7 +75,7 @@ pub runs_ahead : turn_after eight_taken 1 1 ≡ Burst
 unfolding address index_of region effective least registers first_allowed
 runs_ahead = refl
 
--- It pauses once more than 65,536 + 2 instructions beside the one of the head were executed; the head never does.
+-- It pauses once more than 65,536 + 2 instructions besides the head's one were executed; the head never does.
 pub runs_still : turn_after eight_taken 65539 1 ≡ Burst
 unfolding address index_of region effective least registers first_allowed
 runs_still = refl
@@ -88,7 +88,7 @@ pub head_never_pauses : turn_after eight_taken 65540 0 ≡ Burst
 unfolding address index_of region effective least registers first_allowed
 head_never_pauses = refl
 
--- the second unit has come to its stop: it sends register 10, which its task has not sent, and then waits
+-- the second unit has reached its stop: it sends register 10, which its task has not sent, and then waits
 abbrev pub stopped_ahead : List Event
 stopped_ahead = two_tasks ++ Exec 0 ∷ Exec 0 ∷ Transfer 1 8 ∷ Transfer 1 9 ∷ Exec 1 ∷ Exec 1 ∷ Exec 1 ∷ Exec 1 ∷ []
 
@@ -115,12 +115,12 @@ pub task_at_stop : turn_after stopped_ahead 6 2 ≡ Apply (Assign 0)
 unfolding address index_of region effective least registers first_allowed
 task_at_stop = refl
 
--- after a task without targets none follows
+-- after a task without targets, none follows
 pub no_task : turn_after (Assign 0 ∷ Assign 1 ∷ []) 0 2 ≡ Wait
 unfolding address index_of region effective least registers first_allowed
 no_task = refl
 
--- an instruction that puts out a word waits ahead of the head, and is executed alone at it
+-- an instruction that outputs a word waits ahead of the head, and is executed singly at the head
 abbrev pub two_products : List Event
 two_products = Assign 0 ∷ Assign 1 ∷ Exec 0 ∷ Exec 0 ∷ Transfer 1 32 ∷ Transfer 1 33 ∷ Transfer 1 8 ∷ Exec 1 ∷ []
 

@@ -1,4 +1,4 @@
--- The first of some events that the machine allows (own).
+-- The first of some events that the machine allows.
 use Rattle.std.specs.Prelude.{◌≡◌, ℕ, ◌<◌, List, ◌∷◌, ◌++◌, map, is_none, Option, Some, None, Ok, IfSome}
 use Rattle.std.specs.List.{find, range_with_len}
 use Rattle.std.specs.Option.{option_map, option_or}
@@ -8,7 +8,7 @@ use Rattle.machine_model.specs.Answer.{refusal, answer}
 use Rattle.machine_model.specs.declared.event.Event.{Event}
 use Rattle.processor_steps.specs.LeastRegisters.{IsLeast}
 
--- the registers, the least first
+-- the registers, in ascending order
 unfoldable pub registers : List ℕ
 registers = range_with_len 0 34
 
@@ -25,11 +25,11 @@ TakesAllowed = (p : Listing) (units : ℕ) (s : State) (e : Event) (es : List Ev
 abbrev pub SkipsRefused : Type 0
 SkipsRefused = (p : Listing) (units : ℕ) (s : State) (e : Event) (es : List Event) → (refusal p units s e ≡ None → ⊥) → first_allowed p units s (e ∷ es) ≡ first_allowed p units s es
 
--- of two lists that of the front one, else that of the other
+-- of two lists that of the first one, else that of the other
 abbrev pub GoesByLists : Type 0
 GoesByLists = (p : Listing) (units : ℕ) (s : State) (front behind : List Event) → first_allowed p units s (front ++ behind) ≡ option_or (first_allowed p units s front) (first_allowed p units s behind)
 
--- of an event for each register that of the least register
+-- of an event for each register, that of the least register
 abbrev pub TakesLeast : Type 0
 TakesLeast = (p : Listing) (units : ℕ) (s : State) (event : ℕ → Event) (least : Option ℕ) → IsLeast (λ r. refusal p units s (event r) ≡ None) least → IfSome least (λ r. r < 34) → first_allowed p units s (map event registers) ≡ option_map event least
 

@@ -1,4 +1,4 @@
--- What a step is (own): each unit does at most one event in it, and each event is allowed already in the
+-- What a step is: each unit does at most one event in it, and each event is allowed already in the
 -- state with which the step begins, before any other unit has done its own.
 use Rattle.std.specs.Prelude.{◌≡◌, ℕ, suc, ◌<◌, List, [], ◌∷◌, ◌++◌, length}
 use Rattle.std.specs.List.{All}
@@ -14,7 +14,7 @@ use Rattle.unit_turns.specs.Steps.{Course, beginning, after_steps}
 abbrev pub IsAllowed : Listing → (units : ℕ) → State → Event → Type 0
 IsAllowed p units s e = (s' : State) × Next p units s e s'
 
--- the events of different units, in a queue of so many: each is nearer the head than the one before it, and
+-- the events of different units, in a queue of the given length: each is nearer the head than the one before it, and
 -- the first is below a position
 abbrev pub FromLast : (active position : ℕ) → List Event → Type 0
 FromLast active position [] = Unit {0}
@@ -27,7 +27,7 @@ pub record IsStep (p : Listing) (units : ℕ) (c d : Course) : Type 0 where
   pub at_once : All (IsAllowed p units c.state) events
   pub one_each : FromLast (length c.state.queue) units events
 
--- so many steps of a run from its beginning are steps
+-- each of the given number of steps from the beginning of a run is a step
 abbrev pub AreSteps : Listing → (units budget : ℕ) → Predictor → (count : ℕ) → Type 0
 AreSteps p units budget predictor count =
     (n : ℕ) → n < count → IsStep p units (after_steps p units budget n (beginning p predictor)) (after_steps p units budget (suc n) (beginning p predictor))

@@ -1,4 +1,4 @@
--- What a predictor answers (own): a number, and the next task begins at the target at this position,
+-- What a predictor answers: a number, and the next task begins at the target at this position,
 -- modulo the number of targets.
 use Rattle.std.specs.Prelude.{ℕ, ◌-◌, ◌^◌, List, length, min, slice_index}
 use Rattle.sequencer.specs.Scripts.{answered}

@@ -1,8 +1,8 @@
--- The synchronous schedule (own): the machine goes on in steps, and in a step each unit does at most one
--- event. The units have their turns from the last to the head. So what a unit does in a step the units
--- behind it see from the next step on: in one step a register goes one unit further at most. It says how
--- far the marks let tasks overlap; it is no model of a processor's time, and knows no latencies and no
--- caches.
+-- The synchronous schedule: the machine advances in steps, and in a step each unit does at most one
+-- event. The units take their turns from the last to the head. So the units behind a unit see what it
+-- does in a step from the next step on: in one step a register moves at most one unit further. The
+-- schedule shows how far the marks let tasks overlap; it is no model of a processor's time, and has no
+-- latencies and no caches.
 use Rattle.std.specs.Prelude.{◌≡◌, ℕ, zero, suc, ◌<◌, List, [], ◌∷◌, ◌++◌, Bool, true, false, ◌&&◌, nat_lt, if◌then◌else◌, length, map, Option, Some, None}
 use Rattle.task_descriptor.specs.Listing.{Listing}
 use Rattle.machine_model.specs.Machine.{State, opening}
@@ -15,7 +15,7 @@ use Rattle.unit_turns.specs.FirstAllowed.{registers, first_allowed}
 use Rattle.unit_turns.specs.declared.predictor.Predictor.{Predictor}
 use Rattle.unit_turns.specs.Predictions.{answer_for, asked}
 
--- a run on its way: the machine's state, the events so far, and the predictor
+-- a run in progress: the machine's state, the events so far, and the predictor
 pub record Course : Type 0 where
   pub state : State
   pub events : List Event
@@ -24,7 +24,7 @@ pub record Course : Type 0 where
 abbrev pub beginning : Listing → Predictor → Course
 beginning p predictor = record { state = opening p; events = []; predictor = predictor }
 
--- whether the run goes on: the machine has not ended, and the budget is not used up
+-- whether the run continues: the machine has not ended, and the budget is not used up
 abbrev pub goes_on : (budget : ℕ) → State → (count : ℕ) → Bool
 goes_on budget s count = is_running s.outcome && nat_lt count budget
 
@@ -39,7 +39,7 @@ with_event p c (Some e) = record c { state = after p c.state e; events = c.event
 abbrev pub tries : (k : ℕ) → List Event
 tries k = Squash k ∷ Exec k ∷ map (Transfer k) registers ++ map (Drain k) registers
 
--- The free unit behind the tail: it takes the task that may follow. Behind a tail that has not stopped the
+-- The free unit after the tail: it takes the task that may follow. After a tail that has not stopped the
 -- predictor is asked which.
 
 abbrev pub with_targets : Listing → Course → (targets : List ℕ) → Course
@@ -74,7 +74,7 @@ abbrev pub after_steps : Listing → (units budget n : ℕ) → Course → Cours
 after_steps p units budget zero c = c
 after_steps p units budget (suc n) c = step p units budget (after_steps p units budget n c)
 
--- the run took so many steps: it goes on before each of them, and not behind the last
+-- the run took this many steps: it continues before each of them, and not after the last
 pub record Takes (p : Listing) (units budget : ℕ) (c : Course) (steps : ℕ) : Type 0 where
   pub went_on : (n : ℕ) → n < steps → goes_on budget (after_steps p units budget n c).state (length (after_steps p units budget n c).events) ≡ true
   pub is_over : goes_on budget (after_steps p units budget steps c).state (length (after_steps p units budget steps c).events) ≡ false

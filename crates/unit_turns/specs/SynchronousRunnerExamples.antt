@@ -29,12 +29,12 @@ pub seven_steps : (after_steps count 2 100 7 (beginning count predictor.First)).
 unfolding address index_of region effective least registers first_allowed
 seven_steps = refl
 
--- the last target is the task behind the loop
+-- the last target is the task after the loop
 pub last_target : (after_steps count 2 100 2 (beginning count predictor.Last)).events ≡ Assign 0 ∷ Assign 1 ∷ Exec 0 ∷ []
 unfolding address index_of region effective least registers first_allowed
 last_target = refl
 
--- a list of answers is gone through, one answer for each task that is predicted
+-- a list of answers is used in order, one answer for each task that is predicted
 abbrev pub listed : Course
 listed = after_steps count 2 100 2 (beginning count (predictor.Script (record { list = 1 ∷ 0 ∷ []; at = 0 })))
 

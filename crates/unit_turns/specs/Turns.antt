@@ -1,4 +1,4 @@
--- What the worker of a unit does next (own): one function of the machine and the unit's number on the ring.
+-- What the worker of a unit does next: one function of the machine and the unit's number on the ring.
 use Rattle.std.specs.Prelude.{◌≡◌, ℕ, zero, suc, ◌+◌, ◌*◌, ◌-◌, ◌%◌, ◌<◌, List, [], ◌∷◌, ◌++◌, Bool, true, false, ◌&&◌, nat_lt, nat_eq, if◌then◌else◌, length, map, slice_get, is_none, Option, Some, None, Ok}
 use Rattle.task_descriptor.specs.Listing.{Listing}
 use Rattle.machine_model.specs.Machine.{Active, State}
@@ -36,7 +36,7 @@ turn_of_head in_burst (Some e) = Apply e
 abbrev pub own_events : (k : ℕ) → List Event
 own_events k = map (Transfer k) registers ++ (Squash k ∷ (map (Drain k) registers ++ (Exec k ∷ [])))
 
--- Units ahead pause while, beside the h instructions of the retired tasks and of the head, more than
+-- Units ahead pause while, besides the h instructions of the retired tasks and of the head, more than
 -- 65,536 + 2 h were executed: so no wrong path uses up the history.
 abbrev pub pauses : State → (executed : ℕ) → Bool
 pauses s executed = nat_lt (65536 + 2 * count_h s) (executed - count_h s)
@@ -57,7 +57,7 @@ abbrev pub turn_of_free : Listing → State → (targets : List ℕ) → Turn
 turn_of_free p s [] = apply_or_wait (choice_of p s 0)
 turn_of_free p s (target ∷ targets) = Choose
 
--- the turn of the unit at a position, after so many instructions were executed
+-- the turn of the unit at a position, after the given number of instructions were executed
 abbrev pub turn_at : Listing → (units : ℕ) → State → (executed k : ℕ) → Turn
 turn_at p units s executed zero = turn_of_head (fits_burst p (slice_get s.queue 0)) (head_event p s)
 turn_at p units s executed (suc k) =

@@ -38,7 +38,7 @@ impl Bell {
         self.rings.load(Ordering::SeqCst)
     }
 
-    /// Looks for a while, without the lock, whether it has rung more often than so.
+    /// Looks for a while, without the lock, whether it has rung more than the given number of times.
     pub fn listen(&self, heard: u64) {
         for _ in 0..ROUNDS {
             if self.rings_soon(heard) {
@@ -48,7 +48,7 @@ impl Bell {
         }
     }
 
-    /// Whether it rings more often than so within a few looks.
+    /// Whether a few looks find that it has rung more than the given number of times.
     fn rings_soon(&self, heard: u64) -> bool {
         for _ in 0..LOOKS {
             if self.rings() != heard {
@@ -59,7 +59,7 @@ impl Bell {
         false
     }
 
-    /// Sleeps until it rings, or for no reason not so long; the lock is free meanwhile.
+    /// Sleeps until it rings, or wakes earlier for no reason; the lock is free meanwhile.
     pub fn sleep<'l, T, R: Wait>(&self, rt: &R, guard: MutexGuard<'l, T>) -> MutexGuard<'l, T> {
         self.sleeper.wait(rt, guard)
     }

@@ -32,7 +32,7 @@ impl Called {
         }
     }
 
-    /// One worker more.
+    /// Adds a worker.
     pub fn add(&mut self, worker: u32)
         requires { worker < 16 }
         ensures value { self.new ≡ slice_set self.old worker true }

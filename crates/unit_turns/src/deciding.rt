@@ -18,7 +18,7 @@ use machine_model::event::{Event, Standing};
 use processor_steps::processor::MOST_EVENTS;
 use sequencer::machine::Machine;
 
-/// How many instructions beyond 2 h may have been executed beside h, h being those of the retired tasks and
+/// How many instructions beyond 2 h may have been executed besides h, h being those of the retired tasks and
 /// of the head: with more, the units ahead of the head pause.
 const MOST_AHEAD: u64 = 65_536;
 
@@ -26,7 +26,7 @@ const MOST_AHEAD: u64 = 65_536;
 /// ahead of it takes a register, squashes the units after it, sends a register or executes, whichever is the
 /// first that the machine allows. The free unit after the tail takes the task that may follow, or asks for a
 /// choice. An instruction that needs nothing but registers and read-only data is executed in a burst, ahead
-/// of the head only while not more than 65,536 + 2 h instructions beside h were executed, h being those of
+/// of the head only while at most 65,536 + 2 h instructions besides h were executed, h being those of
 /// the retired tasks and of the head: so no wrong path uses up the history. All else waits. An event that is
 /// named is allowed and belongs to the unit; so does each that may be chosen. Takes no memory.
 pub fn turn(machine: &Machine<'_>, unit: u32) -> Turn
@@ -130,7 +130,7 @@ fn event_ahead(machine: &Machine<'_>, unit: u32, position: u32) -> Option<Event>
     ensures value { result ≡ first_allowed machine.now.accepted.program (units_of machine.now) (state machine.now) (own_events position) }
 {
     law_own_event(machine);
-    // A register is below 34, which is known where its number is read.
+    // Reading a register's number gives that it is below 34.
     if let Some(register) = machine.register_to_take(position) {
         let _ = register.get();
         return Some(Event::Transfer(position, register));

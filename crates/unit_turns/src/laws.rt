@@ -17,7 +17,7 @@ ghost use Rattle.unit_turns.specs.declared.turn.Turn.TheVariants.{Choose, Wait};
 use machine_model::laws::events_count;
 use sequencer::machine::Machine;
 
-/// Somebody can go on: while the run goes on and the history has room, the unit at position 0 does not
+/// Some unit can act: while the run continues and the history has room, the unit at position 0 does not
 /// wait, whatever the other units do. It is the head, or on an empty queue the unit that takes the next task.
 pub fn law_goes_on(machine: &Machine<'_>)
     ensures { (state machine.now).outcome ≡ standing.Running → length machine.now.history < most_events → turn_of machine.now (unit_for machine.now (Exec 0)) ≡ Wait → ⊥ }
@@ -26,7 +26,7 @@ pub fn law_goes_on(machine: &Machine<'_>)
     let _ = machine.head_event();
 }
 
-/// What a unit waits for: while the run goes on and the history has room, nothing is allowed of a unit that
+/// What a unit waits for: while the run continues and the history has room, nothing is allowed of a unit that
 /// waits but a Drop, or ahead of the head its Exec, where it pauses. A register's number is below 34.
 pub fn law_waits(machine: &Machine<'_>)
     ensures { (unit : ℕ) (e : Event) → (state machine.now).outcome ≡ standing.Running → turn_of machine.now unit ≡ Wait → NamesRegister e → IsOwn machine.now unit e → MayWait machine.now e }
@@ -53,7 +53,7 @@ pub fn law_head_unit(machine: &Machine<'_>)
 }
 
 /// What the first allowed of some events is: the first event, where nothing refuses it, else that of the
-/// others; of two lists that of the front one, else that of the other; of an event for each register that of
+/// others; of two lists that of the first one, else that of the other; of an event for each register that of
 /// the least register. What the machine allows, nothing refuses.
 pub fn law_first_allowed()
     ensures takes { TakesAllowed }

@@ -2,14 +2,14 @@
 
 use sequencer::predict::Script;
 
-/// Which target is followed behind a task that has not stopped.
+/// Which target is followed after a task that has not stopped.
 #[derive(Debug, Drop)]
 pub enum Predictor {
     /// The first one.
     First,
     /// The last one.
     Last,
-    /// The one at the position that a list says, modulo the number of targets; the list is gone through
+    /// The one at the position that a list gives, modulo the number of targets; the list is used
     /// over and over.
     Script(Script),
 }

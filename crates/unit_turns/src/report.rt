@@ -12,17 +12,17 @@ pub enum StepsFault {
     /// 2: not a budget of 1 to 1,000,000 events.
     #[error("2 Budget")]
     Budget,
-    /// 3: want of memory.
+    /// 3: out of memory.
     #[error("3 OutOfMemory")]
     OutOfMemory,
 }
 
-/// StepsEnd a run ended.
+/// How a run ended.
 #[derive(Clone, Copy, Debug, PartialEq, Eq)]
 pub enum StepsEnd {
-    /// The machine ended: it halted, trapped or went on at an address that is not listed.
+    /// The machine ended: it halted, trapped or continued at an address that is not listed.
     Ended,
-    /// The machine goes on, and its history has as many events as the budget.
+    /// The machine has not ended, and its history has as many events as the budget.
     OutOfBudget,
 }
 
@@ -31,8 +31,8 @@ pub enum StepsEnd {
 pub struct StepsReport<'a> {
     /// The machine after the last step.
     pub machine: Machine<'a>,
-    /// StepsEnd the run ended.
+    /// How the run ended.
     pub how: StepsEnd,
-    /// StepsEnd many steps the run took. The budget may have cut the last one short.
+    /// How many steps the run took. The budget may have cut the last one short.
     pub steps: u32,
 }

@@ -19,14 +19,14 @@ use mark_checker::accept::Accepted;
 use sequencer::machine::{MOST_BUDGET, MOST_UNITS, Machine, MachineFault};
 use std::alloc::Global;
 
-/// Runs the accepted program on a machine of so many units, 1 to 16, in steps, until the run has ended or
+/// Runs the accepted program on a machine with the given number of units, 1 to 16, in steps, until the run has ended or
 /// the history has `budget` events, 1 to 1,000,000. In a step each unit does at most one event, which the
 /// machine allows already where the step begins. The same program, units, budget and predictor
 /// give the same events, output and number of steps.
 ///
 /// # Errors
 ///
-/// `Units`, `Budget` and `OutOfMemory`, in this order. After each the predictor and the machine are gone.
+/// `Units`, `Budget` and `OutOfMemory`, in this order. After any of these the predictor and the machine are gone.
 pub fn run_steps<'a>(
     alloc: Global,
     accepted: &'a Accepted,
@@ -62,7 +62,7 @@ pub fn run_steps<'a>(
         Err(Refused::OutOfMemory) => return Err(StepsFault::OutOfMemory),
         Err(_) => unreachable!(),
     };
-    // A machine is the replay of its history, which is known where that is read.
+    // Reading a machine's history gives that the machine is its replay.
     let _ = machine.history();
     next_is_after();
     replays_join();
@@ -74,7 +74,7 @@ pub fn run_steps<'a>(
     })
 }
 
-/// StepsEnd a run ended, by the machine that it left.
+/// How a run ended, by the machine that it left.
 fn how_of(machine: &Machine<'_>) -> StepsEnd
     ensures ended { (result ≡ StepsEnd.Ended) ↔ ((state machine.now).outcome ≡ standing.Running → ⊥) }
     ensures running { result ≡ StepsEnd.OutOfBudget → (state machine.now).outcome ≡ standing.Running }

@@ -7,8 +7,8 @@ use machine_model::event::Event;
 pub enum Turn {
     /// Applies this event, which is allowed and belongs to the unit.
     Apply(Event),
-    /// Asks the predictor which of the targets of the machine's `choices` follows, and applies the Assign
-    /// of it, which is the unit's.
+    /// Asks the predictor which of the targets of the machine's `choices` follows, and applies that
+    /// target's Assign, which is the unit's.
     Choose,
     /// Makes a burst: the unit's next instruction needs nothing but its registers and read-only data.
     Burst,

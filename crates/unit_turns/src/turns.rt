@@ -17,14 +17,14 @@ use machine_model::laws::next_is_after;
 use sequencer::machine::Machine;
 use sequencer::predict::Predict;
 
-/// Whether the run goes on: the machine has not ended, and has fewer events than the budget.
+/// Whether the run continues: the machine has not ended, and has fewer events than the budget.
 pub(crate) fn goes_on(machine: &Machine<'_>, budget: u32) -> bool
     ensures { result ≡ goes_on_by budget (state machine.now) (length machine.now.history) }
 {
     machine.outcome() == Standing::Running && machine.length() < budget as usize
 }
 
-/// The turn of the unit at position 0, which has an event as long as the run goes on.
+/// The turn of the unit at position 0, which has an event as long as the run continues.
 ///
 /// # Errors
 ///
@@ -45,7 +45,7 @@ pub(crate) fn turn_of_head(machine: &mut Machine<'_>, budget: u32) -> Result<(),
     apply(machine, event)
 }
 
-/// The turn of the unit at a position behind the head: of one at work, or of the free one behind the tail.
+/// The turn of the unit at a position behind the head: of one at work, or of the free one after the tail.
 ///
 /// # Errors
 ///
@@ -104,7 +104,7 @@ fn event_at_work(machine: &Machine<'_>, position: u32) -> Option<Event>
     if machine.enabled(Event::Exec(position)) {
         return Some(Event::Exec(position));
     }
-    // A register is below 34, which is known where its number is read.
+    // Reading a register's number gives that it is below 34.
     if let Some(register) = machine.register_to_take(position) {
         let _ = register.get();
         return Some(Event::Transfer(position, register));
@@ -118,7 +118,7 @@ fn event_at_work(machine: &Machine<'_>, position: u32) -> Option<Event>
     }
 }
 
-/// The Assign of the free unit behind the tail.
+/// The Assign of the free unit after the tail.
 fn task_for_free(machine: &Machine<'_>, predictor: &mut Predictor) -> Option<Event>
     requires running { (state machine.now).outcome ≡ standing.Running }
     requires room { length machine.now.history < most_events }

@@ -1,5 +1,5 @@
--- Waits counted: those of one task, at one place and for one reason together, in the order in which the first of each
--- comes.
+-- Waits counted: those of one task, at one place and for one reason together, ordered by the first
+-- of each.
 use Rattle.std.specs.Prelude.{ℕ, ◌+◌, ◌^◌, ◌<◌, Bool, true, false, not, ◌&&◌, nat_eq, if◌then◌else◌, List, [], ◌∷◌}
 use Rattle.std.specs.List.{fold}
 use Rattle.machine_model.specs.declared.event.Spot.{Spot}
@@ -30,7 +30,7 @@ is_same_reason _ _ = false
 abbrev pub is_alike : Waiting → Waiting → Bool
 is_alike v w = nat_eq v.task w.task && is_same_place v.place w.place && is_same_reason v.reason w.reason
 
--- the counts with one wait more
+-- the counts with one more wait
 abbrev pub counted : List Count → Waiting → List Count
 counted [] w = record { first = w; waits = 1 } ∷ []
 counted (c ∷ cs) w = if is_alike c.first w then record c { waits = c.waits + 1 } ∷ cs else c ∷ counted cs w
@@ -38,12 +38,12 @@ counted (c ∷ cs) w = if is_alike c.first w then record c { waits = c.waits + 1
 abbrev pub counts_of : List Waiting → List Count
 counts_of waits = fold counted [] waits
 
--- how many waits some counts are together
+-- how many waits some counts make together
 abbrev pub all_waits : List Count → ℕ
 all_waits [] = 0
 all_waits (c ∷ cs) = c.waits + all_waits cs
 
--- each can be one more, as far as the numbers' type goes; for private functions
+-- each can grow by one within the numbers' type; for private functions
 abbrev pub HaveRoom : List Count → Type 0
 HaveRoom [] = Unit {0}
 HaveRoom (c ∷ cs) = (c.waits + 1 < 2 ^ 32) × HaveRoom cs

@@ -69,12 +69,12 @@ pub not_ended : waits count 3 (five_steps ++ Exec 2 ∷ []) ≡ wait 4 2 0 (Insi
 unfolding address index_of region effective least
 not_ended = refl
 
--- what keeps the unit at a position after some events
+-- what holds back the unit at a position after some events
 abbrev reason_after : Listing → (units k : ℕ) → List Event → Option Reason
 reason_after p units k events =
     option_map (reason_of p units (play p units events).state k) (slice_get (play p units events).state.queue k)
 
--- The second unit has come to its stop. It has a value of register 10 to send; then it has sent all.
+-- The second unit has reached its stop. It has a value of register 10 to send; then it has sent all.
 abbrev stopped : List Event
 stopped = Assign 0 ∷ Assign 0 ∷ Exec 0 ∷ Exec 0 ∷ Transfer 1 8 ∷ Transfer 1 9 ∷ Exec 1 ∷ Exec 1 ∷ Exec 1 ∷ Exec 1 ∷ []
 
@@ -86,7 +86,7 @@ pub has_sent_all : reason_after count 3 1 (stopped ++ Drain 1 10 ∷ []) ≡ Som
 unfolding address index_of region effective least
 has_sent_all = refl
 
--- Task A sends register 8 at once. Task B may produce it, and stops without a write of it
+-- Task A sends register 8 at once. Task B may produce it, and stops without writing it
 abbrev passed_on : Listing
 passed_on = record {
   code = forwards (Imm Addiu 8 0 (pos 1)) ∷ stops (BranchTwo Bne 0 0 0) ∷ stops (BranchTwo Bne 0 0 0) ∷ bare (Out 8) ∷ bare Halt ∷ [];
@@ -96,7 +96,7 @@ passed_on = record {
   start = 0;
 }
 
--- so it waits for the register, to pass it on; and the unit behind it for what it then passes on
+-- so it waits for the register, to pass it on; and the unit behind it waits for what it then passes on
 pub has_to_pass : reason_after passed_on 3 1 (Assign 0 ∷ Assign 1 ∷ Assign 2 ∷ Exec 1 ∷ []) ≡ Some (HasToPass 8 (owed 0 0))
 unfolding address index_of region effective least
 has_to_pass = refl

@@ -7,7 +7,7 @@ use Rattle.machine_model.specs.declared.event.Event.{Event}
 use Rattle.unit_waits.specs.Waits.{after_all, ends_step}
 use Rattle.unit_waits.specs.Signals.{Shown, signals}
 
--- from a step on that began in state s and had some events so far
+-- in the step that began in state s and has had some events so far, and in the later ones
 abbrev pub moments_from : Listing → (units : ℕ) → State → (begun : List Event) → List Event → List (List Shown)
 moments_from p units s begun [] = signals p units (after_all p s begun) [] ∷ []
 moments_from p units s begun (e ∷ es) =

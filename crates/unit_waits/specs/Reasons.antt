@@ -1,4 +1,4 @@
--- What keeps a unit behind the head from going on: the first refusal of its next instruction, or, where it has
+-- What keeps a unit behind the head from continuing: the first refusal of its next instruction, or, where it has
 -- stopped, what it still has to send.
 use Rattle.std.specs.Prelude.{ℕ, zero, suc, Bool, true, false, if◌then◌else◌, List, length, slice_get, is_some, is_none, Option, Some, None}
 use Rattle.task_descriptor.specs.Listing.{Listing}
@@ -32,15 +32,15 @@ abbrev pub owed_by : Listing → (unit r : ℕ) → Option Active → Owed
 owed_by p unit r None = record { unit = unit; task = 0; is_sent = false }
 owed_by p unit r (Some u) = record { unit = unit; task = u.task; is_sent = is_some (pass p u r) }
 
--- what the unit at a position owes of a register
+-- what the unit at a position owes for a register
 abbrev pub owed_at : Listing → (units : ℕ) → State → (r k : ℕ) → Owed
 owed_at p units s r k = owed_by p (unit_at units s k) r (slice_get s.queue k)
 
--- what is owed of a register to the unit at a position
+-- what the unit at a position is owed for a register
 abbrev pub owed_to : Listing → (units : ℕ) → State → (r k : ℕ) → Owed
 owed_to p units s r k = owed_at p units s r (position_owing p s.queue r k)
 
--- a unit that has stopped, by the least register that it has not sent
+-- what holds back a unit that has stopped, by the least register that it has not sent
 abbrev pub reason_to_stay : Listing → (units : ℕ) → State → (k : ℕ) → Active → Option ℕ → Reason
 reason_to_stay p units s k u None = HasFinished
 reason_to_stay p units s k u (Some r) = if is_none (value u r) then HasToPass r (owed_to p units s r k) else CouldGoOn
@@ -48,13 +48,13 @@ reason_to_stay p units s k u (Some r) = if is_none (value u r) then HasToPass r 
 abbrev pub unsent : Listing → Active → Option ℕ
 unsent p u = least (creates p u.task) (λ r. is_none (u.sent r))
 
--- a unit by what refuses its next instruction
+-- what holds back a unit, by what refuses its next instruction
 abbrev pub reason_by : Listing → (units : ℕ) → State → (k : ℕ) → Active → Option Refused → Reason
 reason_by p units s k u None = CouldGoOn
 reason_by p units s k u (Some (refused.Waiting r)) = NeedsRegister r (owed_to p units s r k)
 reason_by p units s k u (Some refused.NotHead) = NeedsHead
 reason_by p units s k u (Some other) = reason_to_stay p units s k u (unsent p u)
 
--- what keeps the unit at a position, which is not the head
+-- what holds back the unit at a position, which is not the head
 abbrev pub reason_of : Listing → (units : ℕ) → State → (k : ℕ) → Active → Reason
 reason_of p units s k u = reason_by p units s k u (exec_refusal p false u)

@@ -36,7 +36,7 @@ ring_signals units s =
 
 -- ---- a unit
 
--- the number of which bit r, below `bits` bits, is whether r passes a test
+-- the number of `bits` bits whose bit r is 1 where r passes a test
 abbrev pub bits_below : (ℕ → Bool) → (bits : ℕ) → ℕ
 bits_below test zero = 0
 bits_below test (suc r) = (if test r then 1 else 0) * 2 ^ r + bits_below test r
@@ -63,8 +63,8 @@ by_reason (HasToPass r owed) = (4, Some r)
 by_reason HasFinished = (5, None)
 by_reason CouldGoOn = (0, None)
 
--- why the unit at a position waits in a step with these events, as `by_reason`; the head and a unit that does one of
--- them do not wait
+-- why the unit at a position waits in a step with these events, as `by_reason` gives it; the head and a unit that
+-- does one of them do not wait
 abbrev pub wait_of : Listing → (units : ℕ) → State → List Event → (k : ℕ) → Active → ℕ × Shown
 wait_of p units s events k u =
     if nat_eq k 0 then (0, None)
@@ -91,7 +91,7 @@ abbrev pub signals_at : Listing → (units : ℕ) → State → List Event → (
 signals_at p units s events k None = signals_free
 signals_at p units s events k (Some u) = signals_at_work u (wait_of p units s events k u)
 
--- the position of the unit of a number round the ring
+-- the position of the unit with a given number round the ring
 abbrev pub position_of : (units : ℕ) → State → (unit : ℕ) → ℕ
 position_of units s unit = (unit + (units - unit_at units s 0)) % units
 

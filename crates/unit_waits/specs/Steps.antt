@@ -8,7 +8,7 @@ use Rattle.sequencer.specs.Machines.{MachineView, state}
 use Rattle.unit_waits.specs.declared.waiting.Waiting.{Waiting}
 use Rattle.unit_waits.specs.Waits.{waits_from}
 
--- a machine did `events` of the events that were left, one at least, in a step in which these were the waits
+-- a machine did `events` of the events that were left, at least one, in a step with these waits
 pub record IsStepDone (p : Listing) (units number : ℕ) (old : MachineView) (left : List Event) (events : ℕ) (waited : List Waiting) (new : MachineView) : Type 0 where
   pub some : 0 < events
   pub within : events ≤ length left

@@ -34,7 +34,7 @@ abbrev pub waits_at : Listing → (units step : ℕ) → State → List Event �
 waits_at p units step s events k u =
     if acts (length s.queue) k events then [] else waiting p units step s k u ∷ []
 
--- of units of which the first is at position k
+-- of units, the first of which is at position k
 abbrev pub waits_of : Listing → (units step : ℕ) → State → List Event → (k : ℕ) → List Active → List Waiting
 waits_of p units step s events k [] = []
 waits_of p units step s events k (u ∷ us) =
@@ -47,8 +47,8 @@ waits_in p units step s events = waits_of p units step s events 1 (drop 1 s.queu
 abbrev pub after_all : Listing → State → List Event → State
 after_all p s events = fold (after p) s events
 
--- the waits from a step on that began in state s and had some events so far; a step that the history does not
--- end does not count
+-- the waits in the step that began in state s and has had some events so far, and in the later ones; a step that
+-- the history does not end does not count
 abbrev pub waits_from : Listing → (units step : ℕ) → State → (begun : List Event) → List Event → List Waiting
 waits_from p units step s begun [] = []
 waits_from p units step s begun (e ∷ es) =
@@ -56,6 +56,6 @@ waits_from p units step s begun (e ∷ es) =
     then waits_in p units step s (begun ++ e ∷ []) ++ waits_from p units (suc step) (after_all p s (begun ++ e ∷ [])) [] es
     else waits_from p units step s (begun ++ e ∷ []) es
 
--- the waits of a history, step after step, and in a step from the head on
+-- the waits of a history, step after step, and within a step from the head back
 abbrev pub waits : Listing → (units : ℕ) → (history : List Event) → List Waiting
 waits p units history = waits_from p units 1 (opening p) [] history

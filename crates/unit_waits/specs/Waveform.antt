@@ -20,7 +20,7 @@ legend =
     codes "$comment waits: 0 no, 1 needs a register that is not sent, 2 needs a register on its way, 3 needs to be the head, 4 has to pass a register on, 5 has finished $end" ++ (10 ∷
     codes "$comment arrived, sent: bit r is register r, 32 is HI, 33 is LO $end" ++ 10 ∷ []))))
 
--- the name of a task, if there is one of this number
+-- the name of the task with this number, if there is one
 abbrev pub name_line : (task : ℕ) → (name : List ℕ) → List ℕ
 name_line task name = codes "$comment task " ++ (decimal task ++ (codes " is " ++ (name ++ (codes " $end" ++ 10 ∷ []))))
 
@@ -51,7 +51,7 @@ variable_line kind signal name =
 unfoldable pub scope_line : (unit : ℕ) → List ℕ
 scope_line unit = codes "$scope module unit" ++ (decimal unit ++ (codes " $end" ++ 10 ∷ []))
 
--- the signals of a unit, of which the first has this number: where the unit is, why it waits, and its registers
+-- the signals of a unit, the first of which has this number: where the unit is, why it waits, and its registers
 unfoldable pub place_text : (unit first : ℕ) → List ℕ
 place_text unit first =
     scope_line unit
@@ -94,7 +94,7 @@ is_same (Some m) (Some n) = nat_eq m n
 is_same None None = true
 is_same _ _ = false
 
--- a value is written unless it is the one before
+-- a value is written unless it equals the one before
 abbrev pub told : (signal : ℕ) → (before : Option Shown) → (now : Shown) → List ℕ
 told signal None now = change_line signal now
 told signal (Some before) now = if is_same before now then [] else change_line signal now
@@ -115,7 +115,7 @@ time_text time before now =
     then codes "#0" ++ (10 ∷ codes "$dumpvars" ++ (10 ∷ changes_text before now ++ (codes "$end" ++ 10 ∷ [])))
     else codes "#" ++ (decimal time ++ (10 ∷ changes_text before now))
 
--- from a time on, before which the signals had these values
+-- this time, before which the signals had these values, and the times after it
 abbrev pub times_from : (time : ℕ) → (before : List Shown) → List (List Shown) → List ℕ
 times_from time before [] = []
 times_from time before (now ∷ later) = time_text time before now ++ times_from (suc time) now later

@@ -44,7 +44,7 @@ fn is_same_need(register: Reg, owed: &Owed, other: &Reason) -> bool
     }
 }
 
-/// Whether a reason is that a register has to be passed on that is owed like this one.
+/// Whether a reason is that a register owed like this one has to be passed on.
 fn is_same_duty(register: Reg, owed: &Owed, other: &Reason) -> bool
     ensures { result ≡ is_same_reason_as (HasToPass register owed.now) other.now }
 {
@@ -54,7 +54,7 @@ fn is_same_duty(register: Reg, owed: &Owed, other: &Reason) -> bool
     }
 }
 
-/// Whether two units wait for one reason. Where it is a register that is owed, the units that owe it may differ.
+/// Whether two units wait for the same reason. Where it is a register that is owed, the units that owe it may differ.
 pub fn is_same_reason(reason: &Reason, other: &Reason) -> bool
     ensures { result ≡ is_same_reason_as reason.now other.now }
 {
@@ -67,7 +67,7 @@ pub fn is_same_reason(reason: &Reason, other: &Reason) -> bool
     }
 }
 
-/// Whether two waits are of one task, at one place and for one reason.
+/// Whether two waits are of the same task, at the same place and for the same reason.
 pub(crate) fn is_alike(waiting: &Waiting, other: &Waiting) -> bool
     ensures { result ≡ is_alike_to waiting.now other.now }
 {

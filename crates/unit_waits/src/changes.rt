@@ -6,7 +6,7 @@ ghost use Rattle.unit_waits.specs.Waveform.{change_line, changes_text, is_same a
 
 use std::alloc::AllocError;
 
-/// Adds that a signal takes a value.
+/// Adds the value that a signal takes.
 fn write_change(text: &mut String, signal: usize, now: Option<u64>) -> Result<(), AllocError>
     ensures { OnOk result (string_bytes text.new ≡ string_bytes text.old ++ change_line signal now) }
 {
@@ -48,7 +48,7 @@ fn write_value(
     }
 }
 
-/// Adds what the signal of a number shows, if there is one and it showed something else before.
+/// Adds what the signal with this number shows, if there is one and it showed something else before.
 fn write_signal(
     text: &mut String,
     signal: usize,
@@ -63,7 +63,7 @@ fn write_signal(
     }
 }
 
-/// Adds what the signals show that showed something else before.
+/// Adds what each signal shows, if it showed something else before.
 fn write_changes(
     text: &mut String,
     before: &[Option<u64>],

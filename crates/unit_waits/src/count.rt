@@ -7,6 +7,6 @@ use crate::waiting::Waiting;
 pub struct Count {
     /// The first of them.
     pub first: Waiting,
-    /// How many they are.
+    /// How many there are.
     pub waits: u32,
 }

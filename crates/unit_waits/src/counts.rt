@@ -60,8 +60,8 @@ fn add_all(counts: &mut Vec<Count>, waits: &[Waiting]) -> Result<(), AllocError>
 }
 
 /// The waits in the steps of a history of `units` units, 1 to 16, at the start of an accepted program: those of one
-/// task, at one place and for one reason counted together, in the order in which the first of each comes. Each event
-/// of the history is allowed where it comes, and there are at most 1,000,000. The error says that memory was refused.
+/// task, at one place and for one reason counted together, ordered by the first of each. Each event
+/// of the history is allowed where it comes, and there are at most 1,000,000. The error means that memory was refused.
 pub fn count_waits(
     alloc: Global,
     accepted: &Accepted,

@@ -49,7 +49,7 @@ fn write_name(text: &mut String, task: usize, name: &str) -> Result<(), AllocErr
     writeln!(text, "$comment task {task} is {name} $end")
 }
 
-/// Adds the name of a task, if there is one of this number.
+/// Adds the name of the task with this number, if there is one.
 fn write_task(text: &mut String, program: &Program, task: usize) -> Result<(), AllocError>
     ensures { OnOk result (string_bytes text.new ≡ string_bytes text.old ++ task_line task (slice_get program.now.tasks task)) }
 {
@@ -85,7 +85,7 @@ fn write_scope(text: &mut String, unit: u32) -> Result<(), AllocError>
     writeln!(text, "$scope module unit{unit} $end")
 }
 
-/// Adds the signals that say where a unit is, of which the first has this number.
+/// Adds the signals that show where a unit is; the first has this number.
 #[tactic(auto, unfolding(crate::specs::Waveform::place_text))]
 fn write_place(text: &mut String, unit: u32, first: u32) -> Result<(), AllocError>
     requires { first ≤ 1000 }
@@ -97,7 +97,7 @@ fn write_place(text: &mut String, unit: u32, first: u32) -> Result<(), AllocErro
     write_variable(text, "wire 2", first + 2, "state")
 }
 
-/// Adds the signals that say why it waits.
+/// Adds the signals that show why it waits.
 #[tactic(auto, unfolding(crate::specs::Waveform::wait_text))]
 fn write_wait(text: &mut String, first: u32) -> Result<(), AllocError>
     requires { first ≤ 1000 }

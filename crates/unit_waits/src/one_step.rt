@@ -44,7 +44,7 @@ fn add_wait(
     Ok(())
 }
 
-/// The waits in a step of this number with these events, which begins with a machine.
+/// The waits in the step with this number and these events, which begins with a machine.
 pub(crate) fn waits_in_step(
     alloc: Global,
     accepted: &Accepted,

@@ -14,7 +14,7 @@ pub(crate) fn law_placed(accepted: &Accepted, machine: &Machine<'_>)
     requires { machine.now.accepted ≡ accepted.now }
     ensures { ArePlaced accepted.now (state machine.now).queue }
 {
-    // What a program and a machine keep is known where they are read.
+    // Reading a program and a machine gives what they keep.
     let _ = accepted.program().start();
     let _ = machine.history();
     places_are_valid();

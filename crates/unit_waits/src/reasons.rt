@@ -1,4 +1,4 @@
-//! What keeps a unit behind the head.
+//! What holds back a unit behind the head.
 
 ghost use Rattle.std.specs.Prelude.{◌≡◌, ◌<◌, Some, slice_get, is_none, is_some};
 ghost use Rattle.machine_model.specs.Machine.{creates, pass, task_at};
@@ -67,7 +67,7 @@ fn passes_on(program: &Program, unit: &Unit, register: Reg) -> bool
     unit.pass(created(program, unit.task()), register).is_some()
 }
 
-/// What the unit at a position owes of a register.
+/// What the unit at a position owes for a register.
 fn owed_at(
     program: &Program,
     machine: &Machine<'_>,
@@ -93,7 +93,7 @@ fn owed_at(
     }
 }
 
-/// What is owed of a register to the unit at a position.
+/// What the unit at a position is owed for a register.
 fn owed_to(
     program: &Program,
     machine: &Machine<'_>,
@@ -115,7 +115,7 @@ fn unsent(program: &Program, unit: &Unit) -> Option<Reg>
     next_member(created(program, unit.task()).minus(unit.sent_set()), 0)
 }
 
-/// What keeps a unit that has stopped.
+/// What holds back a unit that has stopped.
 fn reason_to_stay(
     program: &Program,
     machine: &Machine<'_>,
@@ -138,7 +138,7 @@ fn reason_to_stay(
     )
 }
 
-/// What keeps a unit that does not execute its next instruction, by what refuses it.
+/// What holds back a unit that does not execute its next instruction, by what refuses the instruction.
 fn reason_by(
     program: &Program,
     machine: &Machine<'_>,
@@ -161,7 +161,7 @@ fn reason_by(
     }
 }
 
-/// What keeps the unit at a position behind the head: the first refusal of its next instruction, or, where it
+/// What holds back the unit at a position behind the head: the first refusal of its next instruction, or, where it
 /// has stopped, what it still has to send.
 pub fn reason(
     accepted: &Accepted,

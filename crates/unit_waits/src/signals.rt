@@ -24,7 +24,7 @@ fn push_ring(
     shown.extend_from_slice(&ring)
 }
 
-/// Adds what the signals show of the unit of a number round the ring.
+/// Adds what the signals of the unit with a given number round the ring show.
 fn push_unit(
     shown: &mut Vec<Option<u64>>,
     accepted: &Accepted,

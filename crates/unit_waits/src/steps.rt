@@ -32,7 +32,7 @@ fn apply(machine: &mut Machine<'_>, event: &Event) -> Result<(), AllocError>
     }
 }
 
-/// Applies events of which each is allowed where it comes. An error says that memory was refused; the events
+/// Applies events, each of which is allowed where it comes. An error means that memory was refused; the events
 /// before it stay.
 pub fn apply_all(machine: &mut Machine<'_>, events: &[Event]) -> Result<(), AllocError>
     requires replay { (s : State) × ReplaysFrom machine.old.accepted.program (units_of machine.old) (state machine.old) events.now s }
@@ -48,8 +48,8 @@ pub fn apply_all(machine: &mut Machine<'_>, events: &[Event]) -> Result<(), Allo
     Ok(())
 }
 
-/// Does the next step, of this number, whose last event is at this index among those that are left, and
-/// answers who waited in it. An error says that memory was refused.
+/// Does the next step, which has this number and whose last event is at this index among those left, and
+/// returns who waited in it. An error means that memory was refused.
 pub(crate) fn do_step(
     alloc: Global,
     accepted: &Accepted,

@@ -51,7 +51,7 @@ fn phase_of(spot: &Spot) -> u64
     }
 }
 
-/// The number of the reason of a unit whose next instruction needs a register, by whether that is on its way.
+/// The number of the reason of a unit whose next instruction needs a register, by whether the register is on its way.
 fn number_of_need(owed: &Owed) -> u64
     ensures { result ≡ (if owed.now.is_sent then 2 else 1) }
 {
@@ -73,8 +73,8 @@ fn by_reason(reason: &Reason) -> (u64, Option<u64>)
     }
 }
 
-/// Why the unit at a position waits in a step with these events, as `by_reason`. The head and a unit that does one of
-/// them do not wait.
+/// Why the unit at a position waits in a step with these events, as `by_reason` gives it. The head and a unit that
+/// does one of them do not wait.
 fn wait_of(
     accepted: &Accepted,
     machine: &Machine<'_>,
@@ -120,7 +120,7 @@ fn signals_free() -> [Option<u64>; OF_UNIT]
     [None, None, Some(0), Some(0), None, None, None]
 }
 
-/// The position of the unit of a number round the ring.
+/// The position of the unit with a given number round the ring.
 fn position_of(machine: &Machine<'_>, units: u32, unit: u32) -> u32
     requires some { 0 < units }
     requires few { units ≤ 16 }
@@ -130,7 +130,7 @@ fn position_of(machine: &Machine<'_>, units: u32, unit: u32) -> u32
     (unit + units.saturating_sub(unit_at(machine, units, 0))) % units
 }
 
-/// What the signals show of the unit of a number round the ring, in a step with these events.
+/// What the signals of the unit with a given number round the ring show, in a step with these events.
 pub(crate) fn unit_signals(
     accepted: &Accepted,
     machine: &Machine<'_>,

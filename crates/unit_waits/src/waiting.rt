@@ -1,4 +1,4 @@
-//! A unit that does nothing in a step, and what keeps it.
+//! A unit that does nothing in a step, and what holds it back.
 
 use machine_model::event::Spot;
 use mips_instructions::number::Reg;
@@ -14,14 +14,14 @@ pub struct Owed {
     pub is_sent: bool,
 }
 
-/// What keeps a unit.
+/// What holds a unit back.
 #[derive(Clone, Copy, Debug, PartialEq, Eq)]
 pub enum Reason {
     /// Its next instruction needs this register, the least of those that have not arrived.
     NeedsRegister(Reg, Owed),
     /// Its next instruction is one that the head alone executes.
     NeedsHead,
-    /// It has stopped, and has to pass this register on, which has not arrived.
+    /// It has stopped, and has to pass on this register, which has not arrived.
     HasToPass(Reg, Owed),
     /// It has stopped and has sent all that its task may produce, and is not the head yet.
     HasFinished,
@@ -40,6 +40,6 @@ pub struct Waiting {
     pub task: u32,
     /// Where it stands.
     pub place: Spot,
-    /// What keeps it.
+    /// What holds it back.
     pub reason: Reason,
 }

@@ -22,8 +22,8 @@ use mark_checker::accept::Accepted;
 use sequencer::machine::Machine;
 use std::alloc::{AllocError, Global};
 
-/// Adds a time, before which the signals showed this, with a step of these events. Answers what the signals show. An
-/// error says that memory was refused.
+/// Adds a time, before which the signals showed this, with a step of these events. Returns what the signals show. An
+/// error means that memory was refused.
 fn show(
     alloc: Global,
     text: &mut String,
@@ -45,7 +45,7 @@ fn show(
     Ok(shown)
 }
 
-/// Adds the times of a history. An error says that memory was refused.
+/// Adds the times of a history. An error means that memory was refused.
 fn write_times(
     alloc: Global,
     text: &mut String,
@@ -85,10 +85,10 @@ fn write_times(
 }
 
 /// The waveform of a history of `units` units, 1 to 16, at the start of an accepted program, as a Value Change Dump.
-/// One unit of time is one step. At time N stands what the signals show in step N, counted from 0, by the state with
-/// which the step begins, and at the last time what they show by the state that the history leaves; a signal that
+/// One unit of time is one step. Time N gives what the signals show in step N, counted from 0, by the state with
+/// which the step begins, and the last one what they show by the state that the history leaves; a signal that
 /// shows what it showed before is left out. Each event of the history is allowed where it comes, and there are at
-/// most 1,000,000. An error says that memory was refused.
+/// most 1,000,000. An error means that memory was refused.
 #[tactic(auto, unfolding(crate::specs::Waveform::waveform_text))]
 pub fn waveform(
     alloc: Global,

@@ -1,4 +1,4 @@
--- The lines that `curve` writes while its runs go on, to whoever asks.
+-- The lines that `curve` writes during its runs, if they are asked for.
 use Rattle.std.specs.Prelude.{◌≡◌, ℕ, zero, suc, Bool, true, false, List, [], ◌∷◌, ◌++◌, codes, Option}
 use Rattle.std.specs.Fmt.{decimal}
 use Rattle.std.specs.Io.KnownBytes.{Appends, Keeps}
@@ -23,13 +23,13 @@ abbrev pub curve_lines : (name : List ℕ) → (units : ℕ) → Judgement → L
 curve_lines name units (refused said) = []
 curve_lines name units (accepted p) = run_lines name units units
 
--- a text was written if it is asked for: whole where `is_told`, else a beginning of it
+-- a text was written if it is asked for: whole where `is_told`, else a prefix of it
 pub record IsSaidIf (asked is_told : Bool) (text : List ℕ) (old new : Option (List ℕ)) : Type 0 where
   pub whole : is_told ≡ true → (asked ≡ true) × Appends old new text
   pub begun : asked ≡ true → Begins old new text
   pub silent : asked ≡ false → Keeps old new
 
--- the most that a job says on the way
+-- the most that a job writes along the way
 abbrev pub progress_lines : Job → (name : List ℕ) → List ℕ
 progress_lines (Curve source units budget predict emit) name = run_lines name units units
 progress_lines _ name = []

@@ -14,7 +14,7 @@ use Rattle.report_texts.specs.OutputTexts.{Report}
 use Rattle.report_texts.specs.JudgedTexts.{Judgement, refused, accepted, judgement}
 use Rattle.verdict_report.specs.RunText.{predictor_of}
 
--- the status that `run` has for a run with this standing; one that still goes on was out of budget
+-- the status that `run` has for a run with this standing; one that has not ended was out of budget
 abbrev pub end_status : Standing → ℕ
 end_status Running = 3
 end_status Halted = 0
@@ -42,7 +42,7 @@ abbrev pub IsCurveJudged : (units budget : ℕ) → Prediction → CurveEmit →
 IsCurveJudged units budget predict emit (refused said) report = report ≡ said
 IsCurveJudged units budget predict emit (accepted p) report = IsCurveReport units budget predict emit p report
 
--- what `curve` writes of a program text and the text of its certificate
+-- what `curve` writes for a program text and the text of its certificate
 abbrev pub IsCurveText : (units budget : ℕ) → Prediction → CurveEmit → (program certificate : List ℕ) → Report → Type 0
 IsCurveText units budget predict emit program certificate report =
     IsCurveJudged units budget predict emit (judgement program certificate) report

@@ -25,7 +25,7 @@ lines ls = flat_map (λ l. l ++ 10 ∷ []) ls
 abbrev report : List (List ℕ) → ℕ → Report
 report ls status = record { bytes = lines ls; status = status }
 
--- the program that counts to four puts out 10 and halts; with the budget 5 it does not come so far
+-- the program that counts to four puts out 10 and halts; with the budget 5 it does not get that far
 pub count_halts : seq_text 20 count_text ≡ report (codes "10" ∷ codes "halted after 18 instructions" ∷ []) 0
 unfolding digits plain reads address index_of fetch region effective
 count_halts = ap (seq_read 20) count_is

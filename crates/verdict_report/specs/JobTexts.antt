@@ -1,4 +1,4 @@
--- What a job writes of its texts, and the status.
+-- What a job writes for its texts, and the status.
 use Rattle.std.specs.Prelude.{◌≡◌, ℕ, Bool, List, Option}
 use Rattle.std.specs.Io.KnownBytes.{Appends}
 use Rattle.std.specs.Option.{option_map}
@@ -33,7 +33,7 @@ IsExplainedIn Sarif name certificate_file script_file warnings colors text certi
 IsExplainedIn Json name certificate_file script_file warnings colors text certificate script report =
     IsJsonReport name certificate_file script_file warnings text certificate script report
 
--- what a job may write of its texts; how many threads there are does not matter. With the least certificate
+-- what a job may write for its texts; how many threads there are does not matter. With the least certificate
 -- it is what the job writes with the text of `annotate --emit keep` in its place
 abbrev pub IsReportOf : Job → Texts → Report → Type 0
 IsReportOf (Seq budget) texts report = report ≡ seq_text budget texts.program.items
@@ -63,7 +63,7 @@ pub record IsDone (job : Job) (texts : Texts) (status : ℕ) (old new : Option (
   pub answered : status ≡ report.status
   pub written : Appends old new report.bytes
 
--- the writer failed: what went out is a beginning of a report of the job
+-- the writer failed: what was written is a prefix of a report of the job
 pub record IsCutOff (job : Job) (texts : Texts) (old new : Option (List ℕ)) : Type 0 where
   pub report : Report
   pub right : IsReportOf job texts report

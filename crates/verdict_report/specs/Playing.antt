@@ -1,4 +1,4 @@
--- A machine in the middle of a script, and what is written of it. No public contract cites it.
+-- A machine in the middle of a script, and what is written for it. No public contract cites it.
 use Rattle.std.specs.Prelude.{List, Result, length}
 use Rattle.machine_model.specs.Answer.{Played}
 use Rattle.machine_model.specs.declared.event.Refused.{Refused}

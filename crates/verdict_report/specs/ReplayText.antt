@@ -54,10 +54,10 @@ allowed (event ∷ events) [] = []
 allowed (event ∷ events) (Ok done ∷ answers) = event ∷ allowed events answers
 allowed (event ∷ events) (Err refusal ∷ answers) = allowed events answers
 
--- what is written of events that were played: the answers, and how the machine stands; or what the tasks
--- came to that the allowed events assigned, as `run` sums them up; or a picture of the allowed events; or
--- the trace of the events, by the lines of the program text, or the same in JSON; or a timeline of the allowed
--- events; or how the machine stands, and its units
+-- what is written for events that were played: the answers, and how the machine stands; or the summary of the
+-- tasks that the allowed events assigned, as in `run`; or a picture of the allowed events; or the trace of the
+-- events, by the lines of the program text, or as lines of JSON; or a timeline of the allowed events; or how
+-- the machine stands, and its units
 abbrev pub played_text : ReplayEmit → (units : ℕ) → (name text : List ℕ) → Listing → List Event → Played → List ℕ
 played_text emit.Answers units name text p events played = answers_text played.answers ++ machine_text played.state
 played_text emit.Summary units name text p events played = summary_text p (lives_of units (allowed events played.answers))
@@ -67,7 +67,7 @@ played_text emit.Json units name text p events played = json_text name Script p 
 played_text emit.Timeline units name text p events played = timeline_text p units clock.Events (allowed events played.answers)
 played_text emit.State units name text p events played = machine_text played.state ++ stand_text p (places_of text) (ring_in units played.state) played.state
 
--- what `replay` writes of the events of a script, where an event that is refused changes nothing
+-- what `replay` writes for the events of a script, where an event that is refused changes nothing
 abbrev pub events_report : ReplayEmit → (units : ℕ) → (name text : List ℕ) → Listing → List Event → Report
 events_report emitted units name text p events =
     let played = play p units events in
@@ -85,10 +85,11 @@ abbrev pub script_read : ReplayEmit → (units : ℕ) → (until : Option ℕ) �
 script_read emitted units until name text p (Ok events) = events_report emitted units name text p (first_events until events)
 script_read emitted units until name text p (Err fault) = script_refused fault
 
--- what `replay` writes of the text of a program of this name in which nothing is found, and the text of a script
+-- what `replay` writes for the text of a program of this name in which nothing is found, and the text of a script
 abbrev pub script_report : ReplayEmit → (units : ℕ) → (until : Option ℕ) → (name text script : List ℕ) → Listing → Report
 script_report emitted units until name text script p = script_read emitted units until name text p (script_of p script)
 
--- what `replay` writes of a program text, the name of the program, the text of its certificate and the text of a script
+-- what `replay` writes for a program text, the name of the program, the text of its certificate and the text of a
+-- script
 abbrev pub replay_text : ReplayEmit → (units : ℕ) → (until : Option ℕ) → (name program certificate script : List ℕ) → Report
 replay_text emitted units until name program certificate script = judged (script_report emitted units until name program script) program certificate

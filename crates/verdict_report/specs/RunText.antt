@@ -50,7 +50,7 @@ pub record Run : Type 0 where
   pub how : How
   pub steps : Option ℕ
 
--- a run of a program: each event is allowed where it comes; it has ended exactly where the machine does not go on,
+-- a run of a program: each event is allowed where it comes; it has ended exactly where the machine does not continue,
 -- and was out of budget only with at least `budget` events
 pub record IsRunOf (p : Listing) (units budget : ℕ) (run : Run) : Type 0 where
   pub replay : Replays p units run.history run.state
@@ -99,14 +99,15 @@ abbrev pub source_of : Option ℕ → EventSource
 source_of None = source.Threads
 source_of (Some count) = source.Steps
 
--- what the last line in JSON says: how a run that has ended stands, or that it was out of budget
+-- what the last line in JSON states: how a run that has ended stands, or that it was out of budget
 abbrev pub last_line_of : How → LastLine
 last_line_of Ended = last_line.AsItStands
 last_line_of OutOfBudget = last_line.OutOfBudget
 
--- what is written of a run: its end; its history as a script, which is read as that history; or what the
--- tasks that it assigned came to, and its steps; or a picture of its history, by events or by steps; or the trace of its history, by
--- the lines of the program text, or the same in JSON; or the table of its waits, its waveform or its timeline
+-- what is written for a run: its end; its history as a script, which is read as that history; or the summary of
+-- the tasks that it assigned, and its steps; or a picture of its history, by events or by steps; or the trace of
+-- its history, by the lines of the program text, or as lines of JSON; or the table of its waits, its waveform or
+-- its timeline
 abbrev pub IsWrittenOf : RunEmit → (units : ℕ) → Prediction → (name text : List ℕ) → Listing → Run → List ℕ → Type 0
 IsWrittenOf emit.Report units predict name text p run bytes = bytes ≡ ending_text run.how run.state
 IsWrittenOf emit.Script units predict name text p run bytes = (bytes ≡ script_text p run.history) × (script_of p bytes ≡ Ok run.history)
@@ -132,7 +133,7 @@ abbrev pub IsRunJudged : Schedule → (units budget : ℕ) → Prediction → Ru
 IsRunJudged schedule units budget predict emitted name text (refused said) report = report ≡ said
 IsRunJudged schedule units budget predict emitted name text (accepted p) report = IsRunReport schedule units budget predict emitted name text p report
 
--- what `run` may write of a program text, the name of the program and the text of its certificate
+-- what `run` may write for a program text, the name of the program and the text of its certificate
 abbrev pub IsRunText : Schedule → (units budget : ℕ) → Prediction → RunEmit → (name program certificate : List ℕ) → Report → Type 0
 IsRunText schedule units budget predict emitted name program certificate report =
     IsRunJudged schedule units budget predict emitted name program (judgement program certificate) report

@@ -1,8 +1,8 @@
--- What went out of a text where its writer may have failed.
+-- What was written of a text where its writer may have failed.
 use Rattle.std.specs.Prelude.{◌≡◌, ◌++◌, ℕ, List, Option}
 use Rattle.std.specs.Io.KnownBytes.{Appends}
 
--- a beginning of the text was added, and nothing else
+-- a prefix of the text was added, and nothing else
 pub record Begins (old new : Option (List ℕ)) (text : List ℕ) : Type 0 where
   pub written : List ℕ
   pub left : List ℕ

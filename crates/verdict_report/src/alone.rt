@@ -16,7 +16,7 @@ use report_texts::report::JobReport;
 use report_texts::verdict_text::accepted_program;
 use std::alloc::{AllocError, Global};
 
-/// What `check` writes of a program text and the text of its certificate.
+/// What `check` writes for a program text and the text of its certificate.
 ///
 /// # Errors
 ///
@@ -35,7 +35,7 @@ pub fn check_alone(
     }
 }
 
-/// How a run in steps is made, and what is written of it.
+/// How a run in steps is made, and what is written for it.
 #[derive(Clone, Copy)]
 pub struct StepsRun<'a> {
     /// How many units the machine has.
@@ -48,7 +48,7 @@ pub struct StepsRun<'a> {
     pub emit: RunEmit,
 }
 
-/// What `run --schedule steps` writes of a program text, the name of the program and the text of its certificate.
+/// What `run --schedule steps` writes for a program text, the name of the program and the text of its certificate.
 ///
 /// # Errors
 ///
@@ -71,7 +71,7 @@ pub fn run_alone(
     }
 }
 
-// What `run --schedule steps` writes of an accepted program with its name and text.
+// What `run --schedule steps` writes for an accepted program with its name and text.
 fn run_accepted(
     alloc: Global,
     steps: &StepsRun<'_>,

@@ -23,7 +23,7 @@ use speed_curve::table::write;
 use std::alloc::{AllocError, Global};
 use std::io::Write;
 
-/// What `curve` writes of a program text and the text of its certificate: a table or a picture of its runs in steps
+/// What `curve` writes for a program text and the text of its certificate: a table or a picture of its runs in steps
 /// on 1, 2, 3 units and more, up to `units`.
 pub fn curve(
     alloc: Global,
@@ -62,8 +62,8 @@ pub struct ToldReport {
     pub is_told: bool,
 }
 
-/// What `curve` writes, as above; `errors` gets a line for each run when it is done, with the name of the program.
-/// Once a line cannot be written, none is tried again, and the runs go on.
+/// Like `curve`, but `errors` gets a line for each run when it is done, with the name of the program. Once a line
+/// cannot be written, none is tried again, and the runs continue.
 pub fn curve_told<E: Write>(
     alloc: Global,
     units: Units,
@@ -87,7 +87,7 @@ pub fn curve_told<E: Write>(
     )
 }
 
-// What `curve` writes; `errors` hears of the runs if that is asked for.
+// What `curve` writes; `errors` gets a line for each run if that is asked for.
 fn curve_heard<E: Write>(
     alloc: Global,
     units: Units,
@@ -118,7 +118,7 @@ fn curve_heard<E: Write>(
     }
 }
 
-// What `curve` writes of an accepted program.
+// What `curve` writes for an accepted program.
 fn curve_of_accepted<E: Write>(
     alloc: Global,
     units: Units,

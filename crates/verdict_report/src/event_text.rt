@@ -8,7 +8,7 @@ use machine_model::event::Refused;
 use report_texts::report::JobReport;
 use std::alloc::{AllocError, Global};
 
-/// What `replay` writes of a text that is no script.
+/// What `replay` writes for a text that is no script.
 pub fn refused_script(alloc: Global, fault: ScriptFault) -> Result<JobReport, AllocError>
     ensures { IfOk result (λ report. report ≡ script_refused fault) }
 {
@@ -17,7 +17,7 @@ pub fn refused_script(alloc: Global, fault: ScriptFault) -> Result<JobReport, Al
     Ok(JobReport::new(text.into_bytes(), 1))
 }
 
-/// Adds what a machine answers to each event of a script, the first first.
+/// Adds what a machine answers to each event of a script, in order.
 pub fn write_answers(text: &mut String, answers: &[Result<(), Refused>]) -> Result<(), AllocError>
     ensures { OnOk result (string_bytes text.new ≡ string_bytes text.old ++ answers_text answers.now) }
 {

@@ -9,9 +9,9 @@ use std::fmt;
 pub enum ServeFault {
     /// 1: memory ran out, or a thread of `run` could not be made; nothing was written.
     OutOfMemory,
-    /// 2: the writer failed; what went out is a beginning of the job's text.
+    /// 2: the writer failed; what was written is a prefix of the job's text.
     Write,
-    /// 3: the threads of `run` gave back another machine; nothing was written. No job answers this.
+    /// 3: the threads of `run` returned another machine; nothing was written. No job answers this.
     Foreign,
 }
 

@@ -1,8 +1,8 @@
 //! What the program writes: from a reader to the bytes of a file, and from a job and its texts to the
 //! bytes that it writes and its status.
 //!
-//! A job is added by what it writes in `specs/`, with its line in `IsReportOf`, by the module that writes
-//! it, and by its arm in `serve`.
+//! To add a job, add what it writes to `specs/`, with its line in `IsReportOf`, the module that writes
+//! it, and its arm in `serve`.
 #![tactic(auto)]
 
 pub mod alone;

@@ -76,7 +76,7 @@ pub fn summary_of(
     task_lives::summary::write(alloc, program, &lives)
 }
 
-/// The history of a machine of so many units, which runs this program, as a picture that gives the program this name.
+/// The history of a machine of `units` units, which runs this program, as a picture that gives the program this name.
 pub fn picture_of(
     alloc: Global,
     units: Units,
@@ -125,8 +125,8 @@ pub fn trace_of(
     Ok(text.into_bytes())
 }
 
-/// The trace of some events in JSON: an object on each line, of which the first gives the program this name, and the last says
-/// this of the end. The events of a run in steps are fewer than 2^31.
+/// The trace of some events in JSON: an object on each line, of which the first gives the program this name, and the
+/// last states this about the end. The events of a run in steps are fewer than 2^31.
 pub fn lines_of(
     alloc: Global,
     units: Units,

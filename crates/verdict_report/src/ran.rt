@@ -12,7 +12,7 @@ pub struct Extent {
     pub schedule: Schedule,
     /// How many units the machine has.
     pub units: Units,
-    /// How many threads serve them; more than units are as many as units. A run in steps has one.
+    /// How many threads serve them; more than units count as one for each unit. A run in steps has one.
     pub workers: Workers,
     /// How many events end the run.
     pub budget: Budget,

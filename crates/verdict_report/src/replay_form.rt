@@ -4,7 +4,7 @@ ghost use Rattle.verdict_report.specs.Playing.{emit_of};
 
 use jobs::job::ReplayEmit;
 
-/// What is written of the machine that the events leave.
+/// What is written for the machine that the events leave.
 #[derive(Clone, Copy, Debug, PartialEq, Eq)]
 pub(crate) enum MachineForm {
     /// What it answered to each event, and how it stands.
@@ -19,7 +19,7 @@ pub(crate) enum MachineForm {
     State,
 }
 
-/// What is written of the events of a script.
+/// What is written for the events of a script.
 #[derive(Clone, Copy, Debug, PartialEq, Eq)]
 pub(crate) enum ReplayForm {
     /// Each event with what it changed, as lines for a reader: written while the events are played.

@@ -37,8 +37,8 @@ use sequencer::machine::{Machine, MachineFault};
 use std::alloc::{AllocError, Global};
 use strict_replay::stand::stand;
 
-/// What `replay` writes of a program text, the name of the program, the text of its certificate and the text of a
-/// script, on a machine of so many units: of all events, or of the first so many.
+/// What `replay` writes for a program text, the name of the program, the text of its certificate and the text of a
+/// script, on a machine of `units` units: for all events, or for the first `until`.
 pub fn replay(
     alloc: Global,
     source: CertificateSource,
@@ -69,7 +69,7 @@ pub fn replay(
     }
 }
 
-// What `replay` writes of an accepted program with its name and text, and the text of a script.
+// What `replay` writes for an accepted program with its name and text, and the text of a script.
 fn replay_script(
     alloc: Global,
     units: Units,
@@ -109,7 +109,7 @@ fn first_of(events: &[Event], most: usize) -> &[Event]
     &events[..most.min(events.len())]
 }
 
-// What `replay` writes of an accepted program with its name and text, and events.
+// What `replay` writes for an accepted program with its name and text, and events.
 fn replay_events(
     alloc: Global,
     units: Units,
@@ -169,7 +169,7 @@ fn lines_report(
     Ok(JobReport::new(lines.into_bytes(), standing_status_of(standing)))
 }
 
-// What is written of the machine that the events leave.
+// What is written for the machine that the events leave.
 fn machine_report(
     alloc: Global,
     units: Units,
@@ -187,7 +187,7 @@ fn machine_report(
     Ok(JobReport::new(bytes, standing_status_of(machine.outcome())))
 }
 
-// What is written of a machine after the events of a script, with its answers.
+// What is written for a machine after the events of a script, with its answers.
 fn bytes_of(
     alloc: Global,
     units: Units,
@@ -284,7 +284,7 @@ fn play_events(
     Ok(answers)
 }
 
-// Applies an event to a machine, and answers what the machine says of it.
+// Applies an event to a machine, and returns what the machine answers to it.
 fn play_event_of(machine: &mut Machine<'_>, event: Event) -> Result<Result<(), Refused>, AllocError>
     ensures answer { IfOk result (λ said. (answers : List (Result (Unit {0}) Refused)) →
         played_so_far machine.new (answers ++ said ∷ [])

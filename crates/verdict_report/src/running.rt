@@ -43,7 +43,7 @@ use threaded_runner::report::How;
 use unit_waits::waveform::waveform;
 use wait_table::table::table;
 
-/// What `run` writes of a program text, the name of the program and the text of its certificate.
+/// What `run` writes for a program text, the name of the program and the text of its certificate.
 ///
 /// # Errors
 ///
@@ -72,7 +72,7 @@ pub fn run<R: Threads + Wait + Sync>(
     }
 }
 
-// What `run` writes of an accepted program with its name and text.
+// What `run` writes for an accepted program with its name and text.
 fn run_accepted<R: Threads + Wait + Sync>(
     rt: &R,
     alloc: Global,
@@ -92,7 +92,7 @@ fn run_accepted<R: Threads + Wait + Sync>(
     Ok(report_of_run(alloc, emit, units, predict, &ran, name, text, accepted)?)
 }
 
-/// What is written of a run, and the status.
+/// What is written for a run, and the status.
 pub(crate) fn report_of_run(
     alloc: Global,
     emit: RunEmit,
@@ -193,7 +193,7 @@ fn json_of(
     lines_of(alloc, units, name, source, accepted, text, &events, last)
 }
 
-// In how many steps which task waited where, and for what.
+// How many steps each task waited, where, and for what.
 fn waits_of(
     alloc: Global,
     units: Units,
@@ -297,7 +297,7 @@ fn source_of(ran: &Ran<'_>) -> EventSource
     }
 }
 
-// What the last line of the run in JSON says.
+// What the last line of the run in JSON states.
 fn last_line_of(ran: &Ran<'_>) -> LastLine
     ensures { result ≡ last_line_of ran.now.how }
 {

@@ -20,7 +20,7 @@ use unit_turns::predictor::Predictor;
 use unit_turns::report::{StepsEnd, StepsFault, StepsReport};
 use unit_turns::runner::run_steps;
 
-/// Runs an accepted program as the schedule and the predictor say that are asked for.
+/// Runs an accepted program with the schedule and the predictor that are asked for.
 ///
 /// # Errors
 ///

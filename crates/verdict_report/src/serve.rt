@@ -28,9 +28,9 @@ use std::sync::Wait;
 use std::thread::Threads;
 use strict_replay::replaying::replay_strictly;
 
-/// Does a job: builds its text whole, writes it, and answers the status of the program, 0 to 3. Want of
-/// memory may come at any point; nothing is written then. Where the writer fails, what went out is a
-/// beginning of the text. `check` and `run` make threads.
+/// Does a job: builds its text whole, writes it, and returns the status of the program, 0 to 3. Memory may
+/// run out at any point; nothing is written then. Where the writer fails, what was written is a
+/// prefix of the text. `check` and `run` make threads.
 pub fn serve<W: Write, R: Threads + Wait + Sync>(
     rt: &R,
     alloc: Global,
@@ -51,9 +51,9 @@ pub fn serve<W: Write, R: Threads + Wait + Sync>(
     Ok(report.status())
 }
 
-/// What a job writes, as `serve` writes it; on the way `errors` hears how far it is: `curve` writes a line for each
+/// What a job writes, as `serve` writes it; meanwhile `errors` is told how far it is: `curve` writes a line for each
 /// run when it is done, with the name of the program. Once a line cannot be written, none is tried again, and the job
-/// goes on.
+/// continues.
 pub fn report_told<E: Write, R: Threads + Wait + Sync>(
     rt: &R,
     alloc: Global,

@@ -1,4 +1,4 @@
-//! Saying how many runs are done.
+//! Reporting how many runs are done.
 ghost use Rattle.std.specs.Prelude.{◌≡◌, IfOk, OnOk};
 ghost use Rattle.std.specs.Io.KnownBytes.{Appends};
 ghost use Rattle.std.specs.String.{string_bytes};
@@ -10,7 +10,7 @@ use std::alloc::{AllocError, Global};
 use std::io;
 use std::io::Write;
 
-/// Writes how many runs of how many are done, if that is asked for; answers whether it was written.
+/// Writes how many runs of how many are done, if that is asked for; returns whether it was written.
 pub(crate) fn tell<E: Write>(
     alloc: Global,
     asked: bool,
@@ -30,7 +30,7 @@ pub(crate) fn tell<E: Write>(
     }
 }
 
-// The line that says how many runs of how many are done.
+// The line that states how many runs of how many are done.
 fn run_line(alloc: Global, name: &str, done: u32, of: u32) -> Result<String, AllocError>
     ensures { IfOk result (λ line. string_bytes line ≡ run_line name.now done of) }
 {
@@ -39,7 +39,7 @@ fn run_line(alloc: Global, name: &str, done: u32, of: u32) -> Result<String, All
     Ok(line)
 }
 
-// Writes a text, so that it has arrived.
+// Writes a text and flushes it, so that it arrives.
 fn say<E: Write>(text: &str, errors: &mut E) -> io::Result<()>
     ensures whole { OnOk result (Appends (E.contents errors.old) (E.contents errors.new) text.now) }
     ensures part { Begins (E.contents errors.old) (E.contents errors.new) text.now }

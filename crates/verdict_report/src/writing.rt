@@ -1,4 +1,4 @@
-//! Writing bytes, so that it is known what went out where the writer failed.
+//! Writing bytes, so that it is known what was written where the writer failed.
 ghost use Rattle.std.specs.Prelude.{◌≡◌, OnOk};
 ghost use Rattle.std.specs.Io.KnownBytes.{Appends};
 ghost use Rattle.verdict_report.specs.Writing.{Begins};
@@ -18,12 +18,12 @@ pub fn write_text<W: Write>(text: &str, writer: &mut W) -> io::Result<()>
     write_bytes(text.as_bytes(), writer)
 }
 
-/// Writes bytes whole; after an error what went out is a beginning of them. A write that was interrupted is
-/// made again.
+/// Writes bytes whole; after an error what was written is a prefix of them. A write that was interrupted is
+/// tried again.
 ///
 /// # Errors
 ///
-/// As the writer; also where it takes nothing.
+/// Those of the writer; also where it takes nothing.
 pub fn write_bytes<W: Write>(bytes: &[u8], writer: &mut W) -> io::Result<()>
     ensures whole { OnOk result (Appends (W.contents writer.old) (W.contents writer.new) bytes.now) }
     ensures part { Begins (W.contents writer.old) (W.contents writer.new) bytes.now }
