@@ -5,11 +5,12 @@ use Rattle.task_descriptor.specs.Listing.{Listing}
 use Rattle.annotated_asm.specs.ProgramText.{parse}
 use Rattle.diagnostics.specs.declared.colour.Colour.TheVariants as colour
 use Rattle.diagnostics.specs.declared.diagnostic.Diagnostic.{Diagnostic}
+use Rattle.diagnostics.specs.TextForm.{text_form}
 use Rattle.explain_report.specs.declared.explanation.Explanation.{Explanation}
 use Rattle.explain_report.specs.Beside.{is_silent}
 use Rattle.explain_report.specs.Explained.{IsExplained, IsProgramExplained, said_status}
 use Rattle.explain_report.specs.Order.{in_order}
-use Rattle.explain_report.specs.ExplainText.{explained_text}
+use Rattle.explain_report.specs.ExplainText.{named_texts}
 use Rattle.explain_report.specs.LeftOvers.{IsLeftIn, closing_line}
 use Rattle.explain_report.specs.declared.left.LeftOver.{LeftOver}
 
@@ -35,6 +36,6 @@ program_explained name text certificate script p left h = record {
 pub said_explained : (name text certificate script : List ℕ) (p : Listing) (left : LeftOver) → parse text ≡ Ok p
     → IsLeftIn name text p left
     → (explained : Explanation) × IsExplained None None false text certificate script explained
-    × (left.said.items ≡ explained_text colour.Never name None None text certificate script explained.said ++ closing_line name left.count)
+    × (left.said.items ≡ text_form colour.Never (named_texts name None None text certificate script) explained.said ++ closing_line name left.count)
 said_explained name text certificate script p left spelled h =
     (said_of h.errors, rw spelled (program_explained name text certificate script p left h), h.written)

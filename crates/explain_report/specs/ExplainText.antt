@@ -1,13 +1,18 @@
--- The text of `explain`.
+-- What `explain` writes: text, a log in SARIF, or lines of JSON.
 use Rattle.std.specs.Prelude.{◌≡◌, ℕ, Bool, true, false, List, [], ◌++◌, codes, Option}
 use Rattle.jobs.specs.declared.job.Colors.{Colors}
 use Rattle.jobs.specs.declared.job.Colors.TheVariants as colors
+use Rattle.jobs.specs.declared.job.Format.{Format}
+use Rattle.jobs.specs.declared.job.Format.TheVariants.{Text, Sarif, Json}
 use Rattle.program_tokens.specs.Lines.{lines}
 use Rattle.diagnostics.specs.declared.colour.Colour.{Colour}
 use Rattle.diagnostics.specs.declared.colour.Colour.TheVariants.{Never, Always}
-use Rattle.diagnostics.specs.declared.diagnostic.Diagnostic.{Diagnostic}
-use Rattle.diagnostics.specs.Files.{Texts}
+use Rattle.diagnostics.specs.Files.{NamedText, Texts}
 use Rattle.diagnostics.specs.TextForm.{text_form}
+use Rattle.diagnostic_log.specs.declared.text.LoggedTexts.{LoggedTexts}
+use Rattle.diagnostic_log.specs.Lines.{lines_text}
+use Rattle.diagnostic_log.specs.Log.{log_text}
+use Rattle.diagnostic_log.specs.Seen.{SeenText}
 use Rattle.report_texts.specs.OutputTexts.{Report}
 use Rattle.explain_report.specs.declared.explanation.Explanation.{Explanation}
 use Rattle.explain_report.specs.Explained.{IsExplained}
@@ -27,20 +32,32 @@ named_texts name cert_file script_file text certificate script = record {
   script = record { name = file_name script_file; rows = file_lines script_file script };
 }
 
--- diagnostics of these texts, as text
-abbrev pub explained_text : Colour → (name : List ℕ) → (cert_file script_file : Option (List ℕ)) → (text certificate script : List ℕ) → List Diagnostic → List ℕ
-explained_text colour name cert_file script_file text certificate script said =
-    text_form colour (named_texts name cert_file script_file text certificate script) said
+-- a text as a log has it, and all of them
+abbrev pub logged_text : NamedText → SeenText
+logged_text text = record { name = text.name; lines = text.rows }
+
+abbrev pub logged_texts : Texts → LoggedTexts
+logged_texts texts = record {
+  program = logged_text texts.program;
+  certificate = logged_text texts.certificate;
+  script = logged_text texts.script;
+}
 
 -- the last line where marks of a program in a file of this name are wrong: the command that looks for a run that goes wrong
 abbrev pub harm_line : (has_wrong_marks : Bool) → (name : List ℕ) → List ℕ
 harm_line false name = []
 harm_line true name = codes "to look for a run that goes wrong: multiscalar demonstrate " ++ (name ++ codes "\n")
 
+-- what is said of these texts, in a format
+abbrev pub explanation_text : Format → Colour → Texts → Explanation → List ℕ
+explanation_text Text colour texts e = text_form colour texts e.said ++ harm_line e.has_wrong_marks texts.program.name
+explanation_text Sarif colour texts e = log_text (logged_texts texts) e.said
+explanation_text Json colour texts e = lines_text (logged_texts texts) e.said
+
 -- what `explain` writes of a program text, whose file has this name, with warnings or without, and of a certificate and of a
 -- script, if a file is named
-pub record IsExplainReport (name : List ℕ) (cert_file script_file : Option (List ℕ)) (warnings : Bool) (asked : Colors) (text certificate script : List ℕ) (report : Report) : Type 0 where
+pub record IsExplainReport (format : Format) (name : List ℕ) (cert_file script_file : Option (List ℕ)) (warnings : Bool) (asked : Colors) (text certificate script : List ℕ) (report : Report) : Type 0 where
   pub explained : Explanation
   pub is : IsExplained cert_file script_file warnings text certificate script explained
-  pub bytes : report.bytes ≡ explained_text (colour_of asked) name cert_file script_file text certificate script explained.said ++ harm_line explained.has_wrong_marks name
+  pub bytes : report.bytes ≡ explanation_text format (colour_of asked) (named_texts name cert_file script_file text certificate script) explained
   pub status : report.status ≡ explained.status

@@ -15,7 +15,8 @@ use Rattle.jobs.specs.declared.job.Job.TheVariants.{Annotate}
 use Rattle.report_texts.specs.OutputTexts.{Report}
 use Rattle.report_texts.specs.AnnotateText.{IsAnnotateReport}
 use Rattle.diagnostics.specs.declared.colour.Colour.TheVariants.{Never}
-use Rattle.explain_report.specs.ExplainText.{explained_text}
+use Rattle.diagnostics.specs.TextForm.{text_form}
+use Rattle.explain_report.specs.ExplainText.{named_texts}
 use Rattle.explain_report.specs.Order.{in_order}
 use Rattle.explain_report.specs.declared.left.LeftOver.{LeftOver}
 
@@ -37,7 +38,7 @@ pub record IsLeftIn (name text : List ℕ) (p : Listing) (left : LeftOver) : Typ
   pub errors : List Diagnostic
   pub wrong : AreMarkErrors text errors
   pub counted : IsFindingCount p left.count
-  pub written : left.said.items ≡ explained_text Never name None None text [] [] (in_order errors) ++ closing_line name left.count
+  pub written : left.said.items ≡ text_form Never (named_texts name None None text [] []) (in_order errors) ++ closing_line name left.count
 
 abbrev pub IsLeftRead : (name text : List ℕ) → Result Listing AsmFault → Option LeftOver → Type 0
 IsLeftRead name text (Ok p) left = IsSomeAnd left (IsLeftIn name text p)

@@ -3,6 +3,5 @@ pub mod Beside
 pub mod Order
 pub mod Explained
 pub mod ExplainText
-pub mod LogText
 pub mod LeftOvers
 pub mod Examples

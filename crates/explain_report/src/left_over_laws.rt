@@ -3,9 +3,10 @@ ghost use Rattle.std.specs.Prelude.{◌≡◌, ◌++◌, ℕ, List, None, Ok, fa
 ghost use Rattle.task_descriptor.specs.Listing.{Listing};
 ghost use Rattle.annotated_asm.specs.ProgramText.{parse};
 ghost use Rattle.diagnostics.specs.declared.colour.Colour.TheVariants.{Never};
+ghost use Rattle.diagnostics.specs.TextForm.{text_form};
 ghost use Rattle.explain_report.specs.declared.explanation.Explanation.{Explanation};
 ghost use Rattle.explain_report.specs.Explained.{IsExplained};
-ghost use Rattle.explain_report.specs.ExplainText.{explained_text};
+ghost use Rattle.explain_report.specs.ExplainText.{named_texts};
 ghost use Rattle.explain_report.specs.LeftOvers.{IsLeftIn, closing_line};
 ghost use Rattle.explain_report.specs.declared.left.LeftOver.{LeftOver};
 
@@ -16,5 +17,5 @@ pub fn said_is_explained()
     ensures { (name text certificate script : List ℕ) (p : Listing) (left : LeftOver) → parse text ≡ Ok p
         → IsLeftIn name text p left
         → (explained : Explanation) × IsExplained None None false text certificate script explained
-        × (left.said.items ≡ explained_text Never name None None text certificate script explained.said ++ closing_line name left.count) }
+        × (left.said.items ≡ text_form Never (named_texts name None None text certificate script) explained.said ++ closing_line name left.count) }
 {}

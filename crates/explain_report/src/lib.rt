@@ -10,7 +10,6 @@ mod inputs;
 pub mod laws;
 pub mod left;
 pub mod left_over_laws;
-pub mod logging;
 pub mod order;
 pub mod proposal;
 #[cfg(test)]

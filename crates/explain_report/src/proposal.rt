@@ -5,13 +5,15 @@ ghost use Rattle.annotated_asm.specs.ProgramText.{parse};
 ghost use Rattle.annotator.specs.Least.{IsLeast};
 ghost use Rattle.explain_report.specs.LeftOvers.{IsFindingCount, IsLeftEmitted, IsLeftIn, IsLeftOf, IsLeftOver, closing_line};
 
-use crate::explaining::explained_text;
+use crate::inputs::lines_of;
 use crate::left::LeftOver;
 use crate::order::in_order;
 use annotated_asm::assembler::assemble;
 use annotated_asm::fault::AsmFault;
 use annotator::certify::certify;
 use diagnostics::colour::Colour;
+use diagnostics::files::{Files, TextFile};
+use diagnostics::text::text_of;
 use finding_paths::shown::shown_findings;
 use jobs::job::{Emit, Job};
 use mark_diagnostics::error::mark_errors;
@@ -97,17 +99,13 @@ fn left_in(
 {
     let least = certify(alloc, program)?;
     let errors = in_order(alloc, mark_errors(alloc, text, program, &least)?)?;
-    let mut said = explained_text(
-        alloc,
-        Colour::Never,
-        name,
-        &None,
-        &None,
-        text,
-        &[],
-        &[],
-        &errors,
-    )?;
+    let rows = lines_of(alloc, text)?;
+    let files = Files::new(
+        TextFile::new(name, &rows),
+        TextFile::new("", &[]),
+        TextFile::new("", &[]),
+    );
+    let mut said = text_of(alloc, &files, &errors, Colour::Never)?;
     let count = finding_count(alloc, program, &least)?;
     write_closing(&mut said, name, count)?;
     Ok(LeftOver {

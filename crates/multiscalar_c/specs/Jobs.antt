@@ -7,8 +7,8 @@ use Rattle.report_texts.specs.OutputTexts.{Report}
 use Rattle.report_texts.specs.AnnotateText.{IsAnnotateReport}
 use Rattle.report_texts.specs.CertificateTexts.{OfCertificate}
 use Rattle.report_texts.specs.CheckText.{check_text}
+use Rattle.explain_report.specs.ExplainText.{IsExplainReport}
 use Rattle.verdict_report.specs.CurveText.{IsCurveText}
-use Rattle.verdict_report.specs.JobTexts.{IsExplainedIn}
 use Rattle.strict_replay.specs.StrictReplay.{strict_text}
 use Rattle.verdict_report.specs.ReplayText.{replay_text}
 use Rattle.verdict_report.specs.RunText.{IsRunText}
@@ -36,7 +36,7 @@ pub record ExplainTakes (format : ℕ) (name : List ℕ) (file : Option (List �
 -- what `explain` writes, without colours and of no event script
 abbrev pub IsExplained : (format : ℕ) → (warnings : Bool) → (name : List ℕ) → (file : Option (List ℕ)) → (program certificate : List ℕ) → Report → Type 0
 IsExplained format warnings name file program certificate report =
-    IfSome (slice_get formats format) (λ format. IsExplainedIn format name file None warnings Never program certificate [] report)
+    IfSome (slice_get formats format) (λ format. IsExplainReport format name file None warnings Never program certificate [] report)
 
 -- what `replay` takes
 pub record ReplayTakes (units emit : ℕ) : Type 0 where

@@ -12,6 +12,7 @@ use crate::answer::{Fault, hand_out};
 use crate::codes;
 use crate::texts::{name, texts};
 use demonstration::report::demonstrate;
+use explain_report::explaining::explain;
 use jobs::job::{Colors, DemonstrateEmit};
 use jobs::ranges::{Budget, Units};
 use report_texts::annotating::annotate;
@@ -23,7 +24,6 @@ use strict_replay::replaying::replay_strictly;
 use verdict_report::alone::{StepsRun, check_alone, run_alone};
 use verdict_report::curving::curve;
 use verdict_report::replaying::replay;
-use verdict_report::serve::explain_in;
 
 /// `seq`: runs a program text sequentially, at most `budget` instructions, 1..=1,000,000.
 #[unsafe(no_mangle)]
@@ -170,7 +170,7 @@ fn explain_of(
     let texts = texts(alloc, program, certificate, b"")?;
     let none: Option<String> = None;
     let never = Colors::Never;
-    Ok(explain_in(alloc, format, title, &file, &none, warnings, never, &texts)?)
+    Ok(explain(alloc, format, title, &file, &none, warnings, never, &texts)?)
 }
 
 /// `replay`: plays a script of events on a machine of this many units, 1..=16. `emit` is 0 for the answers, 1 for

@@ -1,5 +1,5 @@
 -- What a job writes for its texts, and the status.
-use Rattle.std.specs.Prelude.{◌≡◌, ℕ, Bool, List, Option}
+use Rattle.std.specs.Prelude.{◌≡◌, ℕ, List, Option}
 use Rattle.std.specs.Io.KnownBytes.{Appends}
 use Rattle.std.specs.Option.{option_map}
 use Rattle.std.specs.String.{string_bytes}
@@ -16,22 +16,9 @@ use Rattle.report_texts.specs.CertificateTexts.{OfCertificate}
 use Rattle.demonstration.specs.DemonstrateText.{IsDemonstrateReport}
 use Rattle.explain_report.specs.ExplainText.{IsExplainReport}
 use Rattle.strict_replay.specs.StrictReplay.{strict_text}
-use Rattle.explain_report.specs.LogText.{IsJsonReport, IsLogReport}
-use Rattle.jobs.specs.declared.job.Colors.{Colors}
-use Rattle.jobs.specs.declared.job.Format.{Format}
-use Rattle.jobs.specs.declared.job.Format.TheVariants.{Text, Sarif, Json}
 use Rattle.jobs.specs.declared.job.Job.{Job}
 use Rattle.jobs.specs.declared.job.Job.TheVariants.{Seq, Print, Annotate, Explain, Check, Replay, ReplayStrictly, Run, Curve, Demonstrate}
 use Rattle.jobs.specs.declared.job.Texts.{Texts}
-
--- what `explain` writes in a format
-abbrev pub IsExplainedIn : Format → (name : List ℕ) → (certificate_file script_file : Option (List ℕ)) → (warnings : Bool) → Colors → (text certificate script : List ℕ) → Report → Type 0
-IsExplainedIn Text name certificate_file script_file warnings colors text certificate script report =
-    IsExplainReport name certificate_file script_file warnings colors text certificate script report
-IsExplainedIn Sarif name certificate_file script_file warnings colors text certificate script report =
-    IsLogReport name certificate_file script_file warnings text certificate script report
-IsExplainedIn Json name certificate_file script_file warnings colors text certificate script report =
-    IsJsonReport name certificate_file script_file warnings text certificate script report
 
 -- what a job may write for its texts; how many threads there are does not matter. With the least certificate
 -- it is what the job writes with the text of `annotate --emit keep` in its place
@@ -40,7 +27,7 @@ IsReportOf (Seq budget) texts report = report ≡ seq_text budget texts.program.
 IsReportOf Print texts report = report ≡ print_text texts.program.items
 IsReportOf (Annotate emit) texts report = IsAnnotateReport emit texts.program.items report
 IsReportOf (Explain name certificate script warnings format colors) texts report =
-    IsExplainedIn format (string_bytes name) (option_map string_bytes certificate) (option_map string_bytes script) warnings colors
+    IsExplainReport format (string_bytes name) (option_map string_bytes certificate) (option_map string_bytes script) warnings colors
     texts.program.items texts.certificate texts.script.items report
 IsReportOf (Check source workers) texts report =
     OfCertificate source texts.program.items texts.certificate (λ certificate. report ≡ check_text texts.program.items certificate)

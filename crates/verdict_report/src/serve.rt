@@ -1,10 +1,8 @@
 //! Doing a job: its text is built whole, and then written.
 ghost use Rattle.std.specs.Prelude.{◌≡◌, ◌≢◌, Err, IfOk, OnOk, OnErr};
 ghost use Rattle.std.specs.Io.KnownBytes.{Appends, Keeps};
-ghost use Rattle.std.specs.Option.{option_map};
-ghost use Rattle.std.specs.String.{string_bytes};
 ghost use Rattle.verdict_report.specs.CurveProgress.{IsProgress, progress_lines};
-ghost use Rattle.verdict_report.specs.JobTexts.{IsCutOff, IsDone, IsExplainedIn, IsReportOf};
+ghost use Rattle.verdict_report.specs.JobTexts.{IsCutOff, IsDone, IsReportOf};
 ghost use Rattle.verdict_report.specs.Writing.{Begins};
 
 use crate::curving::{ToldReport, curve, curve_told};
@@ -15,14 +13,13 @@ use crate::running::run;
 use crate::writing::write_bytes;
 use demonstration::report::demonstrate;
 use explain_report::explaining::explain;
-use explain_report::logging::{explain_json, explain_log};
-use jobs::job::{Colors, Format, Job, Texts};
+use jobs::job::{Job, Texts};
 use report_texts::annotating::annotate;
 use report_texts::checking::check;
 use report_texts::printing::print;
 use report_texts::report::JobReport;
 use report_texts::sequential::seq;
-use std::alloc::{AllocError, Global};
+use std::alloc::Global;
 use std::io::Write;
 use std::sync::Wait;
 use std::thread::Threads;
@@ -121,7 +118,7 @@ fn report_of<R: Threads + Wait + Sync>(
             format,
             colors,
         } => {
-            let report = explain_in(
+            let report = explain(
                 alloc,
                 *format,
                 name,
@@ -173,33 +170,6 @@ fn report_of<R: Threads + Wait + Sync>(
         Job::Demonstrate { units, steps, emit } => {
             Ok(demonstrate(alloc, *units, *steps, *emit, program)?)
         }
-    }
-}
-
-/// What `explain` writes in this format of a program text, whose file has this name, and of the texts of a certificate
-/// and of an event script, if a file of one is named.
-///
-/// # Errors
-///
-/// `AllocError` where memory was refused.
-pub fn explain_in(
-    alloc: Global,
-    format: Format,
-    name: &str,
-    certificate: &Option<String>,
-    script: &Option<String>,
-    warnings: bool,
-    colors: Colors,
-    texts: &Texts,
-) -> Result<JobReport, AllocError>
-    ensures { IfOk result (λ report. IsExplainedIn format name.now (option_map string_bytes certificate.now)
-        (option_map string_bytes script.now) warnings colors
-        texts.now.program.items texts.now.certificate texts.now.script.items report) }
-{
-    match format {
-        Format::Text => explain(alloc, name, certificate, script, warnings, colors, texts),
-        Format::Sarif => explain_log(alloc, name, certificate, script, warnings, texts),
-        Format::Json => explain_json(alloc, name, certificate, script, warnings, texts),
     }
 }
 
