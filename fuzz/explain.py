@@ -4,8 +4,9 @@
 Takes random programs whose marks are right, plants wrong marks, and lays the text out anew: labels on
 lines of their own or before their statement, blanks, comments, blank lines. It reads the log of each: its errors
 must be what the model tells, at the same places; each path must be a path inside the task that leads where the rule
-says, and none may be shorter. Then it makes the changes of each fix alone, and what the error stands for must be gone; of one that puts a stop
-where a task goes on into a target, that edge.
+says, and none may be shorter; one that is told in short, since a stop may mend it and the one before, has none. Then it
+makes the changes of each fix alone, and what the error stands for must be gone; of one that puts a stop where a task goes
+on into a target, that edge.
 Of a refused text the model's first fault must be told. Every third program is explained together with a certificate:
 that of the program, one with a wrong mask or a line too few, or a text that is none. It asks for no warnings, which
 `costly_marks.py` compares. PROGRAM is the built `multiscalar`.
@@ -259,7 +260,11 @@ def differs(program, text, results):
             return f"the rule or the place of {error}"
         if not re.fullmatch(sentence(program, error, text) + r"\.", result["message"]["text"]):
             return f"the sentence of {error}"
-        asked, paths = list(queries(program, error)), paths_of(result)
+        advice = [it["description"]["text"] for it in result["fixes"] if STOP.match(it["description"]["text"])]
+        in_short = bool(advice) and error != next(it for it in errors if it[0] == error[0])
+        if any(("; if it is meant to go on, " in it) == in_short for it in advice):
+            return f"what to do about {error}"
+        asked, paths = [] if in_short else list(queries(program, error)), paths_of(result)
         if len(asked) != len(paths):
             return f"{len(paths)} paths of {error}"
         for (start, sought, on), path in zip(asked, paths):

@@ -9,6 +9,7 @@ use Rattle.diagnostics.specs.declared.diagnostic.Help.{Help}
 use Rattle.mark_subjects.specs.Subjects.{Judged, task_name, targets_of, entries_of, task_at, is_entry, place_text, label_at, targets_text, is_branch, exit_end, inner_end, is_end, instruction_span, targets_span}
 use Rattle.mark_subjects.specs.Parts.{in_words, by_text, written, note_at, way_notes}
 use Rattle.mark_subjects.specs.Targets.{entries_listed, both}
+use Rattle.exit_diagnostics.specs.Slots.{slot_or}
 use Rattle.exit_diagnostics.specs.Meant.{meant, meant_help}
 
 -- a note on a place, if an instruction is there
@@ -100,13 +101,13 @@ targets_help s task targets =
     if nat_le (length targets) 16 then written (targets_span s task) (targets_text s targets)
     else in_words (codes "a task has at most 16 targets: let task " ++ (task_name s task ++ codes " go on to fewer places"))
 
--- where no task begins, another stop may be meant; else one is to begin, and to be a target
+-- where no task begins, a delay slot or another stop may be meant; else one is to begin, and to be a target
 abbrev pub listed_too : (name : List ℕ) → List ℕ
 listed_too name = codes ", and make it a target of task " ++ name
 
 abbrev pub begin_help : Judged → Finding → (to : ℕ) → Help
 begin_help s f j =
-    meant_help s f.index (meant s f.task f.index j) (task_to_begin s j (listed_too (task_name s f.task)))
+    slot_or s f.index j (meant_help s f.index (meant s f.task f.index j) (task_to_begin s j (listed_too (task_name s f.task))))
 
 -- these places are no targets; at the first of them where no task begins, one is to begin
 abbrev pub unlisted_help_by : Judged → Finding → (places : List ℕ) → Option ℕ → Help

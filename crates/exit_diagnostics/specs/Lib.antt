@@ -1,3 +1,4 @@
+pub mod Slots
 pub mod Meant
 pub mod Exits
 pub mod Calls

@@ -4,8 +4,6 @@ use Rattle.std.specs.List.{list_any}
 use Rattle.std.specs.Option.{option_or}
 use Rattle.std.specs.Fmt.{decimal}
 use Rattle.std.specs.Str.{byte}
-use Rattle.mips_instructions.specs.declared.instruction.Op.{Op}
-use Rattle.mips_instructions.specs.declared.instruction.Op.TheVariants.{Halt}
 use Rattle.task_descriptor.specs.declared.descriptor.Marked.{Marked}
 use Rattle.task_descriptor.specs.declared.descriptor.Stop.{Stop}
 use Rattle.task_descriptor.specs.declared.descriptor.Stop.TheVariants as stop
@@ -17,6 +15,7 @@ use Rattle.mark_subjects.specs.Subjects.{Judged, targets_of, is_entry, is_branch
 use Rattle.mark_subjects.specs.MarkPlaces.{mark_span}
 use Rattle.mark_subjects.specs.Parts.{in_words, take_out}
 use Rattle.mark_subjects.specs.Stops.{stop_put}
+use Rattle.exit_diagnostics.specs.Slots.{is_halt}
 
 -- where an edge of an instruction leads, whatever its stop
 abbrev pub way : Judged → (index : ℕ) → (taken : Bool) → Option ℕ
@@ -46,11 +45,6 @@ abbrev pub may_end : Judged → (task index : ℕ) → Bool
 may_end s task j =
     not (has_stop (stop_of s j)) && (is_some (to_target s task j false)
     && (not (is_some (way s j true)) || is_some (to_target s task j true)))
-
--- a halt, with which the task ends without a stop
-abbrev pub is_halt : Op → Bool
-is_halt Halt = true
-is_halt op = false
 
 abbrev pub halts_in : Option Marked → Bool
 halts_in None = false

@@ -8,6 +8,7 @@ ghost use Rattle.mark_subjects.specs.Targets.{entries_listed};
 ghost use Rattle.exit_diagnostics.specs.Exits.{begins_text, place_note, labelled_text, unlabelled_text, begin_by, task_to_begin, unlisted, edge_text, why_not, exit_text, exit_to, exits_text, exit_said, exit_message, lacking, exit_notes, targets_help, listed_too, begin_help, unlisted_help, exit_help, is_beyond, beyond, last_text, beyond_help, is_taken, wrong_number, wrong_target, wrong_but_taken, target_help};
 
 use crate::meant::{meant, meant_help};
+use crate::slot::slot_or;
 use diagnostics::diagnostic::{Help, Note};
 use diagnostics::words;
 use diagnostics::words::Words;
@@ -280,6 +281,7 @@ fn begin_help(subject: &Subject, finding: &Finding, to: u32) -> Made<Help>
     let message = target_to_begin(subject, finding.task, to)?;
     let stop = meant(subject, finding.task, finding.index, to);
     let help = meant_help(subject, finding.index, stop, message)?;
+    let help = slot_or(subject, finding.index, to, help)?;
     Ok(help)
 }
 

@@ -1,5 +1,5 @@
-//! What is said of a task's exits: where they lead, which stop is missing or on the wrong line, what a call returns to,
-//! and tasks that never run.
+//! What is said of a task's exits: where they lead, which stop is missing or on the wrong line, what may be meant as a
+//! delay slot, what a call returns to, and tasks that never run.
 #![tactic(auto)]
 
 pub mod call;
@@ -8,4 +8,5 @@ pub mod meant;
 pub mod meant_stop;
 pub mod remark;
 pub mod returning;
+pub mod slot;
 pub mod stop;

@@ -4,9 +4,10 @@ ghost use Rattle.std.specs.Prelude.{◌≡◌, ◌==◌, ◌&&◌, IfOk};
 ghost use Rattle.std.specs.List.{list_any};
 ghost use Rattle.exit_diagnostics.specs.declared.meant_stop.MeantStop.TheVariants.{Edge, Next, AtHalt};
 ghost use Rattle.mark_subjects.specs.Subjects.{targets_of, is_entry};
-ghost use Rattle.exit_diagnostics.specs.Meant.{way, target_in, to_target, edge_meant, has_stop, may_end, is_halt as is_halt_of, halts, later_meant, meant, edge_stop, edge_name, edge_advice, next_advice, halt_advice, meant_help};
+ghost use Rattle.exit_diagnostics.specs.Meant.{way, target_in, to_target, edge_meant, has_stop, may_end, halts, later_meant, meant, edge_stop, edge_name, edge_advice, next_advice, halt_advice, meant_help};
 
 use crate::meant_stop::MeantStop;
+use crate::slot::is_halt;
 use crate::stop::stops_always;
 use diagnostics::diagnostic::Help;
 use diagnostics::listed::Listed;
@@ -17,7 +18,6 @@ use mark_subjects::parts::{in_words, place_words, take_out};
 use mark_subjects::put_stop::stop_put;
 use mark_subjects::subject::{Made, Subject};
 use mark_subjects::targets::is_among;
-use mips_instructions::instruction::Op;
 use std::alloc::Global;
 use task_descriptor::descriptor::Stop;
 
@@ -88,13 +88,6 @@ fn may_end(subject: &Subject, task: u32, index: u32) -> bool
         && (to_target(subject, task, index, false).is_some()
             && (!way(subject, index, true).is_some()
                 || to_target(subject, task, index, true).is_some()))
-}
-
-/// Whether an instruction is a halt.
-fn is_halt(op: &Op) -> bool
-    ensures { result ≡ is_halt_of op.now }
-{
-    matches!(op, Op::Halt)
 }
 
 /// Whether a halt is at an index.

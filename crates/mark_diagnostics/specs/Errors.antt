@@ -1,6 +1,6 @@
 -- What is wrong with the marks of a program: what is said of each finding that is told, by its rule. (The rules 1 to 4
 -- find nothing with a least certificate.)
-use Rattle.std.specs.Prelude.{◌≡◌, ◌↔◌, ℕ, ◌-◌, List, [], ◌++◌, codes, map, take, length, slice_get, Option, Some, None}
+use Rattle.std.specs.Prelude.{◌≡◌, ◌↔◌, ℕ, ◌-◌, if◌then◌else◌, List, [], ◌++◌, codes, map, take, length, slice_get, Option, Some, None}
 use Rattle.std.specs.List.{All, AllZip}
 use Rattle.task_graph.specs.Soundness.{Sound}
 use Rattle.mark_checker.specs.declared.finding.Rule.{Rule}
@@ -19,8 +19,8 @@ use Rattle.diagnostics.specs.declared.diagnostic.Help.{Help}
 use Rattle.diagnostics.specs.declared.diagnostic.Diagnostic.{Diagnostic}
 use Rattle.mark_subjects.specs.Subjects.{Judged, IsJudged, register_text, registers_text, task_name, spot_text, place_text, instruction_span, create_span, target_span}
 use Rattle.mark_subjects.specs.Parts.{way_notes}
-use Rattle.mark_diagnostics.specs.Told.{all_told, most_shown, about, register_in}
-use Rattle.mark_subjects.specs.Steps.{path_in, first_entered, stop_note, stop_or}
+use Rattle.mark_diagnostics.specs.Told.{all_told, most_shown, about, register_in, is_first}
+use Rattle.mark_subjects.specs.Steps.{path_in, first_entered, stop_note, stop_or, is_end_first, end_help}
 use Rattle.mark_diagnostics.specs.Masks.{missing, mask_notes, mask_help}
 use Rattle.mark_diagnostics.specs.Sending.{later, forward_help, release_help, early_notes}
 use Rattle.exit_diagnostics.specs.Exits.{exit_message, exit_notes, exit_help, beyond, beyond_help, wrong_number, wrong_target, place_note, target_help}
@@ -96,8 +96,9 @@ abbrev pub first_path : Option ShownFinding → List ℕ
 first_path None = []
 first_path (Some shown) = path_in shown.path
 
-abbrev pub error_diagnostic : Judged → Finding → (about : List Finding) → (shown : List ShownFinding) → Diagnostic
-error_diagnostic s f about shown = record {
+-- An error is told whole: with the paths that show it, and what to do.
+unfoldable pub whole_error : Judged → Finding → (about : List Finding) → (shown : List ShownFinding) → Diagnostic
+whole_error s f about shown = record {
   severity = Error;
   code = code_of f.rule;
   source = Program;
@@ -106,6 +107,33 @@ error_diagnostic s f about shown = record {
   notes = stop_note s f.task (first_entered s shown) ++ notes_by f.rule s f (first_path (slice_get shown 0)) about shown;
   help = Some (stop_or s f.task (first_entered s shown) (help_by f.rule s f (first_path (slice_get shown 0)) about));
 }
+
+-- It is told in short where another error of its task is told before it, and a stop that may be forgotten on its path is the
+-- first thing to do: with that stop there may be no such error.
+unfoldable pub short_error : Judged → Finding → (about : List Finding) → (step : ℕ × ℕ) → Diagnostic
+short_error s f about step = record {
+  severity = Error;
+  code = code_of f.rule;
+  source = Program;
+  span = Some (span_by f.rule s f);
+  message = message_by f.rule s f about;
+  notes = [];
+  help = Some (end_help s f.task step.0 step.1);
+}
+
+unfoldable pub ends_first : Judged → Finding → (step : ℕ × ℕ) → Option (ℕ × ℕ)
+ends_first s f step = if is_end_first s f.task step then (if is_first s f then None else Some step) else None
+
+unfoldable pub short_step : Judged → Finding → Option (ℕ × ℕ) → Option (ℕ × ℕ)
+short_step s f None = None
+short_step s f (Some step) = ends_first s f step
+
+abbrev pub error_by : Judged → Finding → (about : List Finding) → (shown : List ShownFinding) → Option (ℕ × ℕ) → Diagnostic
+error_by s f about shown None = whole_error s f about shown
+error_by s f about shown (Some step) = short_error s f about step
+
+abbrev pub error_diagnostic : Judged → Finding → (about : List Finding) → (shown : List ShownFinding) → Diagnostic
+error_diagnostic s f about shown = error_by s f about shown (short_step s f (first_entered s shown))
 
 -- The diagnostic says what the finding is: the first five of those that are told with it are shown, each by a shortest
 -- path.

@@ -21,16 +21,17 @@ use Rattle.mark_diagnostics.specs.declared.later.Later.TheVariants.{Nowhere, Lef
 use Rattle.mark_subjects.specs.Subjects.{Judged, which, targets_text}
 use Rattle.mark_subjects.specs.MarkPlaces.{mark_from}
 use Rattle.mark_subjects.specs.Spellings.{spelled, first_spelling, names_in}
-use Rattle.mark_diagnostics.specs.Told.{told, leaders}
+use Rattle.mark_diagnostics.specs.Told.{told, leaders, begins_with}
 use Rattle.exit_diagnostics.specs.declared.meant_stop.MeantStop.TheVariants.{Edge, AtHalt}
 use Rattle.mark_subjects.specs.Stops.{missing_stop}
 use Rattle.mark_subjects.specs.Steps.{entered, stop_text, end_advice}
 use Rattle.mark_subjects.specs.Targets.{is_target, both}
-use Rattle.mark_subjects.specs.Parts.{steps_of}
+use Rattle.mark_subjects.specs.Parts.{in_words, steps_of}
 use Rattle.exit_diagnostics.specs.Meant.{meant, may_end, later_meant, edge_stop, edge_name, edge_advice, halt_advice}
 use Rattle.mark_diagnostics.specs.Masks.{widened}
 use Rattle.mark_diagnostics.specs.Releases.{names_no_index, release_text}
 use Rattle.mark_diagnostics.specs.Sending.{later, later_by, first_left, side, advice, whole_advice}
+use Rattle.exit_diagnostics.specs.Slots.{is_slot, slot_or}
 use Rattle.exit_diagnostics.specs.Exits.{exit_said}
 use Rattle.exit_diagnostics.specs.Remarks.{first_end}
 use Rattle.exit_diagnostics.specs.Returning.{returning, never_runs_help}
@@ -186,6 +187,30 @@ in_place_of_another = refl
 -- the loop goes on into its target, where it may end
 pub may_end_there : first_end (masked judged) 0 ≡ Some 3
 may_end_there = refl
+
+-- Of two findings of a task the second is not the first that is told.
+
+pub second_is_later : begins_with (finding 0 8 ∷ finding 0 9 ∷ []) (finding 0 9) ≡ false
+unfolding begins_with
+second_is_later = refl
+
+pub first_is_first : begins_with (finding 0 8 ∷ finding 0 9 ∷ []) (finding 0 8) ≡ true
+unfolding begins_with
+first_is_first = refl
+
+-- The `out` is alone between the branch and the task that begins at the `halt`; where that task begins at the `out`, two
+-- instructions come after the branch.
+
+pub alone_after_branch : is_slot ends_late 4 ≡ true
+alone_after_branch = refl
+
+pub two_after_branch : is_slot judged 4 ≡ false
+two_after_branch = refl
+
+pub slot_words : (slot_or ends_late 3 4 (in_words (codes "write !st"))).message
+    ≡ codes "is line 1 a delay slot? there are none here: move it before line 1; else write !st"
+unfolding digits
+slot_words = refl
 
 -- A task is called, and leaves through jr: it may return to the task after the call.
 

@@ -6,6 +6,7 @@ use Rattle.task_descriptor.specs.Listing.{Listing, registers}
 use Rattle.mark_checker.specs.declared.finding.Rule.{Rule}
 use Rattle.mark_checker.specs.declared.finding.Rule.TheVariants.{ExceedsCreate, SentNotCreated}
 use Rattle.mark_checker.specs.declared.finding.Finding.{Finding}
+use Rattle.mark_checker.specs.Numbers.{number_of}
 use Rattle.mark_checker.specs.Rules.{rules}
 use Rattle.mark_subjects.specs.Subjects.{Judged}
 
@@ -48,3 +49,15 @@ about s f = if is_of_mask f.rule then leaders (rules s.program s.least f.task) e
 abbrev pub register_in : Option ℕ → ℕ
 register_in None = 0
 register_in (Some r) = r
+
+-- two findings of one task are of the same instruction, rule and register
+abbrev pub is_same : Finding → Finding → Bool
+is_same f g = f.index == g.index && (number_of f.rule == number_of g.rule && register_in f.reg == register_in g.reg)
+
+unfoldable pub begins_with : List Finding → Finding → Bool
+begins_with [] f = false
+begins_with (first ∷ rest) f = is_same first f
+
+-- the finding is told before all others of its task
+unfoldable pub is_first : Judged → Finding → Bool
+is_first s f = begins_with (told_of s.program s.least f.task) f

@@ -26,6 +26,7 @@ use Rattle.mark_diagnostics.specs.Told.{most_shown}
 use Rattle.mark_diagnostics.specs.Masks.{create_help}
 use Rattle.mark_diagnostics.specs.Releases.{release_text, in_place, release_written}
 use Rattle.exit_diagnostics.specs.Calls.{back}
+use Rattle.exit_diagnostics.specs.Slots.{is_slot, slot_text}
 use Rattle.mark_diagnostics.specs.Together.{told_marks}
 use Rattle.mark_diagnostics.specs.Updates.{released_next, update_text, update_help}
 use Rattle.exit_diagnostics.specs.Remarks.{untaken, first_untaken, not_taken_help, no_exit_help, into_help, stop_remarks}
@@ -125,14 +126,17 @@ before_help s i registers = record {
   replacements = release_written s i (release_text s i registers) ∷ [];
 }
 
--- code that no task reaches: a call before it may come back to it
+-- code that no task reaches: a call before it may come back to it; one instruction may be meant as a delay slot
 abbrev pub called_text : (line : ℕ) → List ℕ
 called_text line = codes "let a task begin here, as a target: the call on line " ++ (decimal line ++ codes " may come back to it")
 
+abbrev pub stretch_text : Judged → (index : ℕ) → (others : List ℕ) → List ℕ
+stretch_text s i others = if is_end (back s (i - 1)) i then called_text (instruction_span s (i - 1)).line else others
+
 abbrev pub unreached_text : Judged → (index : ℕ) → List ℕ
 unreached_text s i =
-    if is_end (back s (i - 1)) i then called_text (instruction_span s (i - 1)).line
-    else codes "let a task go on to it; or remove it, up to the next instruction that a task reaches, if no label there is used"
+    if is_slot s i then slot_text (codes "it") (instruction_span s (i - 1)).line (stretch_text s i (codes "let a task go on to it, or remove it"))
+    else stretch_text s i (codes "let a task go on to it; or remove it, up to the next instruction that a task reaches, if no label there is used")
 
 abbrev pub help_of : Judged → List CostlyMark → Remark → Help
 help_of s list (Costly (NeverProduced task register)) = create_help s task (produced s list task)

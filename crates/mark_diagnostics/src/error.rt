@@ -7,11 +7,11 @@ ghost use Rattle.annotator.specs.Least.{IsLeast};
 ghost use Rattle.finding_paths.specs.Shown.{IsFinding, IsShown};
 ghost use Rattle.exit_diagnostics.specs.Exits.{place_note, beyond as beyond_of, wrong_target as wrong_target_of};
 ghost use Rattle.mark_subjects.specs.Subjects.{task_name, spot_text, place_text};
-ghost use Rattle.mark_diagnostics.specs.Errors.{code_of, span_by, early_text, beyond_text, indirect_text, target_text, mask_text, message_by, notes_by, help_by, first_path, error_diagnostic, Says, AreMarkErrors};
+ghost use Rattle.mark_diagnostics.specs.Errors.{code_of, span_by, early_text, beyond_text, indirect_text, target_text, mask_text, message_by, notes_by, help_by, first_path, whole_error, short_error, ends_first, short_step, error_diagnostic, Says, AreMarkErrors};
 
 use crate::mask::{mask_help, mask_notes, missing};
 use crate::sending::{early_notes, forward_help, later, release_help};
-use crate::told::{about, first_told, register_in};
+use crate::told::{about, first_told, is_first, register_in};
 use annotated_asm::laws::map_fits;
 use annotator::laws::least_decides;
 use diagnostics::code::Code;
@@ -30,7 +30,7 @@ use mark_checker::finding::{Finding, Rule};
 use mark_subjects::parts::{
     add_more, first_of, place_words, registers_words, spot_words, way_notes,
 };
-use mark_subjects::step::{first_entered, path_in, stop_note, stop_or};
+use mark_subjects::step::{end_help, first_entered, is_end_first, path_in, stop_note, stop_or};
 use mark_subjects::subject::{Made, Subject};
 use mask_certificate::certificate::Cert;
 use std::alloc::{AllocError, Global};
@@ -197,14 +197,15 @@ fn first_path(shown: &[ShownFinding]) -> &[u32]
     }
 }
 
-/// What is said of a finding, with what is told with it.
-fn error_diagnostic(
+/// What is said of a finding, with what is told with it: whole.
+#[tactic(auto, unfolding(crate::specs::Errors::whole_error))]
+fn whole_error(
     subject: &Subject,
     finding: &Finding,
     about: &[Finding],
     shown: &[ShownFinding],
 ) -> Made<Diagnostic>
-    ensures { IfOk result (λ said. said ≡ error_diagnostic subject.now finding.now about.now shown.now) }
+    ensures { IfOk result (λ said. said ≡ whole_error subject.now finding.now about.now shown.now) }
 {
     let path = first_path(shown);
     let step = first_entered(subject, shown);
@@ -223,6 +224,75 @@ fn error_diagnostic(
         notes: Listed::new(notes),
         help: Some(help),
     })
+}
+
+/// What is said of a finding in short, and to put a stop at this step of its path.
+#[tactic(auto, unfolding(crate::specs::Errors::short_error))]
+fn short_error(
+    subject: &Subject,
+    finding: &Finding,
+    about: &[Finding],
+    step: (u32, u32),
+) -> Made<Diagnostic>
+    ensures { IfOk result (λ said. said ≡ short_error subject.now finding.now about.now step) }
+{
+    let message = message(subject, finding, about)?;
+    let help = end_help(subject, finding.task, step.0, step.1)?;
+    Ok(Diagnostic {
+        severity: Severity::Error,
+        code: code_of(finding.rule),
+        source: Source::Program,
+        span: Some(span_of(subject, finding)),
+        message,
+        notes: Listed::new(Vec::new(subject.alloc())),
+        help: Some(help),
+    })
+}
+
+/// A step into a task, if a stop there is the first thing to do, and another finding of the task is told before this one.
+#[tactic(auto, unfolding(crate::specs::Errors::ends_first))]
+fn ends_first(subject: &Subject, finding: &Finding, step: (u32, u32)) -> Made<Option<(u32, u32)>>
+    ensures { IfOk result (λ found. found ≡ ends_first subject.now finding.now step) }
+{
+    if !is_end_first(subject, finding.task, step) {
+        return Ok(None);
+    }
+    if is_first(subject, finding)? {
+        Ok(None)
+    } else {
+        Ok(Some(step))
+    }
+}
+
+/// Such a step, if there is one on the path of a finding.
+#[tactic(auto, unfolding(crate::specs::Errors::short_step))]
+fn short_step(
+    subject: &Subject,
+    finding: &Finding,
+    step: Option<(u32, u32)>,
+) -> Made<Option<(u32, u32)>>
+    ensures { IfOk result (λ found. found ≡ short_step subject.now finding.now step) }
+{
+    match step {
+        Some(step) => ends_first(subject, finding, step),
+        None => Ok(None),
+    }
+}
+
+/// What is said of a finding, with what is told with it.
+fn error_diagnostic(
+    subject: &Subject,
+    finding: &Finding,
+    about: &[Finding],
+    shown: &[ShownFinding],
+) -> Made<Diagnostic>
+    ensures { IfOk result (λ said. said ≡ error_diagnostic subject.now finding.now about.now shown.now) }
+{
+    let entered = first_entered(subject, shown);
+    match short_step(subject, finding, entered)? {
+        Some(step) => short_error(subject, finding, about, step),
+        None => whole_error(subject, finding, about, shown),
+    }
 }
 
 /// Findings with the paths that show them.

@@ -4,7 +4,7 @@ ghost use Rattle.std.specs.Prelude.{◌≡◌, ◌<◌, ◌-◌, ◌++◌, ◌&&
 ghost use Rattle.std.specs.List.{find};
 ghost use Rattle.std.specs.Option.{option_copied, option_to_list};
 ghost use Rattle.annotator.specs.Least.{IsLeast};
-ghost use Rattle.mark_diagnostics.specs.Told.{is_of_mask, told, all_told, is_register, leader, leaders, about, register_in};
+ghost use Rattle.mark_diagnostics.specs.Told.{is_of_mask, told, all_told, is_register, leader, leaders, about, register_in, is_same, begins_with, is_first};
 
 use mark_checker::check::check_task;
 use mark_checker::finding::{Finding, Rule};
@@ -150,4 +150,35 @@ pub(crate) fn register_in(register: Option<Reg>) -> u8
         Some(register) => register.get(),
         None => 0,
     }
+}
+
+/// Whether two findings of a task are at one instruction, by one rule and about one register.
+fn is_same(finding: &Finding, other: &Finding) -> bool
+    ensures { result ≡ is_same finding.now other.now }
+{
+    finding.index == other.index
+        && (finding.rule.number() == other.rule.number()
+            && register_in(finding.reg) == register_in(other.reg))
+}
+
+/// Whether some findings begin with this one.
+#[tactic(auto, unfolding(crate::specs::Told::begins_with))]
+fn begins_with(findings: &[Finding], finding: &Finding) -> bool
+    ensures { result ≡ begins_with findings.now finding.now }
+{
+    match findings {
+        [first, ..] => is_same(first, finding),
+        [] => false,
+    }
+}
+
+/// Whether a finding is told before all others of its task.
+#[tactic(auto, unfolding(crate::specs::Told::is_first))]
+pub(crate) fn is_first(subject: &Subject, finding: &Finding) -> Made<bool>
+    ensures { IfOk result (λ first. first ≡ is_first subject.now finding.now) }
+{
+    let alloc = subject.alloc();
+    let found = check_task(alloc, subject.program(), subject.least(), finding.task)?;
+    let told = told(alloc, &found)?;
+    Ok(begins_with(&told, finding))
 }

@@ -6,7 +6,7 @@ ghost use Rattle.annotated_asm.specs.ProgramText.{parse};
 ghost use Rattle.annotator.specs.Least.{IsLeast};
 ghost use Rattle.mark_subjects.specs.Subjects.{targets_of, releases};
 ghost use Rattle.exit_diagnostics.specs.Remarks.{of_targets, of_start, of_step, of_task, stop_remarks};
-ghost use Rattle.mark_diagnostics.specs.Warnings.{code_of, span_of, never_text, was, sent_text, before_text, costly_text, goes_into_text, never_runs_text, not_taken_text, stop_text, message_of, is_never, created_in, produced, not_produced, is_before, still_released, sent_before, before_help, called_text, unreached_text, help_of, warning, warnings, AreMarkWarnings};
+ghost use Rattle.mark_diagnostics.specs.Warnings.{code_of, span_of, never_text, was, sent_text, before_text, costly_text, goes_into_text, never_runs_text, not_taken_text, stop_text, message_of, is_never, created_in, produced, not_produced, is_before, still_released, sent_before, before_help, called_text, stretch_text, unreached_text, help_of, warning, warnings, AreMarkWarnings};
 
 use crate::error::MOST_SHOWN;
 use crate::mask::create_help;
@@ -21,6 +21,7 @@ use diagnostics::words::Words;
 use exit_diagnostics::call::back;
 use exit_diagnostics::remark::{Remark, StopRemark};
 use exit_diagnostics::returning::never_runs_help;
+use exit_diagnostics::slot::{is_slot, slot_words};
 use exit_diagnostics::stop::{
     entered_task, first_step, first_untaken, has_exit, has_indirect_exit, has_untaken, into_help,
     is_asked, never_runs, no_exit_help, not_taken_help, untaken,
@@ -325,16 +326,29 @@ fn called_words(alloc: Global, line: u32) -> Made<Words>
     words!(in alloc; "let a task begin here, as a target: the call on line {line} may come back to it")
 }
 
-/// What to do about code that no task reaches.
-fn unreached_words(subject: &Subject, index: u32) -> Made<Words>
-    ensures { IfOk result (λ words. words ≡ unreached_text subject.now index) }
+/// What to do about code that no task reaches: for the call before it, or else.
+fn stretch_words(subject: &Subject, index: u32, others: &str) -> Made<Words>
+    ensures { IfOk result (λ words. words ≡ stretch_text subject.now index others.now) }
 {
     let before = index.saturating_sub(1);
     if is_end(back(subject, before), index) {
         return called_words(subject.alloc(), subject.span(before).line);
     }
-    Words::of(
-        subject.alloc(),
+    Words::of(subject.alloc(), others)
+}
+
+/// What to do about code that no task reaches.
+fn unreached_words(subject: &Subject, index: u32) -> Made<Words>
+    ensures { IfOk result (λ words. words ≡ unreached_text subject.now index) }
+{
+    if is_slot(subject, index) {
+        let line = subject.span(index.saturating_sub(1)).line;
+        let rest = stretch_words(subject, index, "let a task go on to it, or remove it")?;
+        return slot_words(subject.alloc(), "it", line, rest.as_str());
+    }
+    stretch_words(
+        subject,
+        index,
         "let a task go on to it; or remove it, up to the next instruction that a task reaches, if no label there is used",
     )
 }

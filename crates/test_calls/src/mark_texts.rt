@@ -114,7 +114,7 @@ p.s:6:7: help: remove it
 p.s:8:1: warning: no task reaches the code from here on
     8 | nop
       | ^~~
-p.s:8:1: help: let a task go on to it; or remove it, up to the next instruction that a task reaches, if no label there is used
+p.s:8:1: help: is it a delay slot? there are none here: move it before line 7; else let a task go on to it, or remove it
 ";
 
 const TIGHT: &str = ".task A create=$8,$9 targets=B
