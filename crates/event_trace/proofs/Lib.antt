@@ -3,3 +3,7 @@ pub mod Steps
 pub mod LostUnits
 pub mod Takings
 pub mod Executions
+pub mod Puts
+pub mod SeenUnits
+pub mod SeenExec
+pub mod SeenSteps

@@ -6,4 +6,6 @@ pub mod Entries
 pub mod Following
 pub mod Ending
 pub mod Trace
+pub mod Seen
+pub mod Laws
 pub mod Examples

@@ -7,6 +7,7 @@ pub mod ending;
 mod foreseen;
 mod foresight;
 mod instruction;
+pub mod laws;
 pub mod places;
 mod registers;
 pub mod ring;

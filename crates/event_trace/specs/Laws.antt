@@ -1,0 +1,20 @@
+-- The theorems about changes, as statements over every program, number of units and event.
+use Rattle.std.specs.Prelude.{◌≡◌, ℕ, List}
+use Rattle.std.specs.List.{fold}
+use Rattle.task_descriptor.specs.Listing.{Listing}
+use Rattle.machine_model.specs.Machine.{State}
+use Rattle.machine_model.specs.Replay.{ReplaysFrom}
+use Rattle.machine_model.specs.Step.{Next}
+use Rattle.machine_model.specs.declared.event.Event.{Event}
+use Rattle.event_trace.specs.Changes.{changes_of}
+use Rattle.event_trace.specs.Seen.{changes_through, seen, with_changes}
+
+-- what is seen before an event that is allowed is with its changes what is seen after it
+abbrev pub ChangesAreTheStep : Type 0
+ChangesAreTheStep =
+    (p : Listing) (units : ℕ) (s s' : State) (e : Event) → Next p units s e s' → seen s' ≡ with_changes (seen s) (changes_of p s e s')
+
+-- and so it is over all events of a history, or of a part of one
+abbrev pub ChangesAreTheRun : Type 0
+ChangesAreTheRun =
+    (p : Listing) (units : ℕ) (s s' : State) (events : List Event) → ReplaysFrom p units s events s' → seen s' ≡ fold with_changes (seen s) (changes_through p s events)
