@@ -10,7 +10,7 @@ ghost use Rattle.command_line.specs.CommandLine.{seq as seq_shape, print as prin
 
 use crate::help;
 use clap::{Arg, ArgAction, Command, value_parser};
-use jobs::ranges::{MOST_BUDGET, MOST_UNITS};
+use limits::ranges::{MOST_BUDGET, MOST_UNITS, MOST_WORKERS};
 use std::alloc::{AllocError, Global};
 
 /// The whole command line. A subcommand is there once it stands here and in `read_job`.
@@ -358,14 +358,14 @@ fn checkers<'a>(alloc: Global) -> Arg<'a>
     ensures local { result.global ≡ false }
 {
     let text = "How many threads share the check, 1 to 16";
-    number(alloc, "workers", text, MOST_UNITS, "1")
+    number(alloc, "workers", text, MOST_WORKERS, "1")
 }
 
 fn workers<'a>(alloc: Global) -> Arg<'a>
     ensures rule { rule_of result ≡ workers_rule }
     ensures local { result.global ≡ false }
 {
-    free_number(alloc, "workers", help::RUN_WORKERS, MOST_UNITS)
+    free_number(alloc, "workers", help::RUN_WORKERS, MOST_WORKERS)
 }
 
 // A subcommand with no arguments yet.

@@ -21,7 +21,8 @@ use jobs::job::{
     CertificateSource, Colors, CurveEmit, DemonstrateEmit, Emit, Format, Job, Paths, Prediction,
     ReplayEmit, RunEmit, Schedule,
 };
-use jobs::ranges::{Budget, GREATEST_PREDICTION, MOST_PREDICTIONS, PredictionList, Units, Workers};
+use jobs::ranges::{GREATEST_PREDICTION, MOST_PREDICTIONS, PredictionList};
+use limits::ranges::{Budget, Units, Workers};
 use std::alloc::{AllocError, Global};
 use thiserror::Error;
 

@@ -22,7 +22,7 @@ use event_script::writing::write_event;
 use event_trace::places::places;
 use finding_paths::shown::ShownFinding;
 use jobs::job::DemonstrateEmit;
-use jobs::ranges::{Budget, Units};
+use limits::ranges::{Budget, Units};
 use machine_model::event::Event;
 use mips_plain::outcome::OutOfMemory;
 use report_texts::report::{JobReport, refused_program};

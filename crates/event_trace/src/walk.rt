@@ -4,10 +4,11 @@ use crate::changes::changes;
 use crate::foresight::foresee;
 use crate::ring::Ring;
 use crate::told::Told;
+use limits::ranges::Units;
 use machine_model::event::{Event, Refused};
 use machine_model::laws::next_is_after;
 use mark_checker::accept::Accepted;
-use sequencer::machine::{Machine, MachineFault};
+use sequencer::machine::Machine;
 use std::alloc::{AllocError, Global};
 use std::marker::Model;
 use task_descriptor::program::Program;
@@ -49,14 +50,13 @@ impl<'a> Walk<'a> {
         ensures history { IfOk result (λ walk. walk.history ≡ []) }
         ensures opening { IfOk result (λ walk. state walk ≡ opening accepted.now.program) }
     {
-        match Machine::new(alloc, accepted, units) {
+        match Machine::with_units(alloc, accepted, Units::of(units)) {
             Ok(machine) => Ok(Walk {
                 accepted,
                 units,
                 machine,
             }),
-            Err(MachineFault::OutOfMemory) => Err(AllocError),
-            Err(MachineFault::Units) => unreachable!(),
+            Err(AllocError) => Err(AllocError),
         }
     }
 

@@ -1,6 +1,7 @@
 //! What the program is to do, and with which files.
 
-use crate::ranges::{Budget, PredictionList, Units, Workers};
+use crate::ranges::PredictionList;
+use limits::ranges::{Budget, Units, Workers};
 use text_pieces::text::Text;
 
 /// Where a job takes the certificate of its program from.

@@ -1,5 +1,5 @@
 -- What the numbers stand for that a caller passes.
-use Rattle.std.specs.Prelude.{◌≤◌, ◌==◌, ◌&&◌, nat_le, nat_lt, not, ℕ, Bool, true, false, List, [], ◌∷◌, length, Option, Some, None, if◌then◌else◌}
+use Rattle.std.specs.Prelude.{◌==◌, ◌&&◌, nat_le, nat_lt, not, ℕ, Bool, true, false, List, [], ◌∷◌, length, Option, Some, None, if◌then◌else◌}
 use Rattle.std.specs.List.{list_any}
 use Rattle.jobs.specs.declared.job.CertificateSource.{CertificateSource}
 use Rattle.jobs.specs.declared.job.CertificateSource.TheVariants.{File, Least}
@@ -41,13 +41,6 @@ replay_emits = replay.Answers ∷ replay.Summary ∷ replay.Picture ∷ replay.T
 -- what `curve` writes, from 0 on
 abbrev pub curve_emits : List CurveEmit
 curve_emits = curve.Table ∷ curve.Picture ∷ []
-
--- a budget, and a number of units
-abbrev pub IsBudget : ℕ → Type 0
-IsBudget budget = (1 ≤ budget) × (budget ≤ 1000000)
-
-abbrev pub IsUnits : ℕ → Type 0
-IsUnits units = (1 ≤ units) × (units ≤ 16)
 
 -- positions of targets that a prediction may have
 abbrev pub is_listed : List ℕ → Bool

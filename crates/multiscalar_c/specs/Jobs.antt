@@ -3,6 +3,7 @@ use Rattle.std.specs.Prelude.{◌≡◌, ℕ, Bool, List, [], Option, Some, None
 use Rattle.std.specs.Str.{IsUtf8}
 use Rattle.jobs.specs.declared.job.Colors.TheVariants.{Never}
 use Rattle.jobs.specs.declared.job.Schedule.TheVariants.{Steps}
+use Rattle.limits.specs.Limits.{IsBudget, IsUnits}
 use Rattle.report_texts.specs.OutputTexts.{Report}
 use Rattle.report_texts.specs.AnnotateText.{IsAnnotateReport}
 use Rattle.report_texts.specs.CertificateTexts.{OfCertificate}
@@ -12,7 +13,7 @@ use Rattle.verdict_report.specs.CurveText.{IsCurveText}
 use Rattle.strict_replay.specs.StrictReplay.{strict_text}
 use Rattle.verdict_report.specs.ReplayText.{replay_text}
 use Rattle.verdict_report.specs.RunText.{IsRunText}
-use Rattle.multiscalar_c.specs.Codes.{IsBudget, IsUnits, curve_emits, emits, formats, prediction_of, replay_emits, run_emits, source_of}
+use Rattle.multiscalar_c.specs.Codes.{curve_emits, emits, formats, prediction_of, replay_emits, run_emits, source_of}
 
 -- what `annotate` writes
 abbrev pub IsAnnotated : (emit : ℕ) → (program : List ℕ) → Report → Type 0

@@ -1,10 +1,11 @@
 //! The calls.
 ghost use Rattle.std.specs.Prelude.{◌≡◌, ⊤, IsSome, slice_get};
 ghost use Rattle.multiscalar_c.specs.Answers.{Answers, Made};
-ghost use Rattle.multiscalar_c.specs.Codes.{IsBudget, IsUnits, curve_emits, emits, run_emits};
+ghost use Rattle.multiscalar_c.specs.Codes.{curve_emits, emits, run_emits};
 ghost use Rattle.multiscalar_c.specs.Jobs.{ExplainTakes, IsAnnotated, IsChecked, IsCurve, IsExplained, IsReplayed, IsReplayedStrictly, IsRun, ReplayTakes, RunTakes, file_of};
 ghost use Rattle.demonstration.specs.DemonstrateText.{IsDemonstrateReport};
 ghost use Rattle.jobs.specs.declared.job.DemonstrateEmit.TheVariants.{Events};
+ghost use Rattle.limits.specs.Limits.{IsBudget, IsUnits};
 ghost use Rattle.report_texts.specs.PrintText.{print_text};
 ghost use Rattle.report_texts.specs.SeqText.{seq_text};
 
@@ -14,7 +15,7 @@ use crate::texts::{name, texts};
 use demonstration::report::demonstrate;
 use explain_report::explaining::explain;
 use jobs::job::{Colors, DemonstrateEmit};
-use jobs::ranges::{Budget, Units};
+use limits::ranges::{Budget, Units};
 use report_texts::annotating::annotate;
 use report_texts::printing::print;
 use report_texts::report::JobReport;

@@ -16,9 +16,9 @@ ghost use Rattle.processor_steps.specs.Processors.{state_of};
 ghost use Rattle.unit_core.specs.Units.{active_of};
 
 use crate::listing::{begins, created, is_listed, may_follow};
-use crate::machine::MOST_EVENTS;
 use crate::processor::Processor;
 use crate::unit::OpenUnit;
+use limits::ranges::MOST_EVENTS;
 use machine_model::event::{Refused, Spot};
 use mips_instructions::number::Reg;
 use register_ring::members::next_member;

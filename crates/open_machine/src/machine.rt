@@ -9,9 +9,6 @@ use std::alloc::Global;
 use std::marker::Model;
 use task_descriptor::program::Program;
 
-/// The most events of a machine: after that many, an event is refused.
-pub const MOST_EVENTS: usize = 1_000_000;
-
 /// A multiscalar machine over a well-formed program, whether its marks are sound or not.
 #[derive(Drop)]
 pub struct OpenMachine<'a> {

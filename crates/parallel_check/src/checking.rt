@@ -9,6 +9,7 @@ use crate::fault::ShareFault;
 use crate::found::{Found, Share, by_task, fill, in_order};
 use crate::gate::CheckGate;
 use crate::numbers::{End, Numbers};
+use limits::ranges::{MOST_WORKERS, Workers};
 use mark_checker::finding::{Finding, Findings, Verdict};
 use mark_checker::survey::{Survey, Surveyed};
 use mask_certificate::certificate::Cert;
@@ -16,9 +17,6 @@ use std::alloc::{AllocError, Global};
 use std::thread;
 use std::thread::Threads;
 use task_descriptor::program::Program;
-
-/// The most workers there may be.
-pub const MOST_WORKERS: u32 = 16;
 
 /// The findings of all tasks, one task after another, by several workers: for every number of workers and
 /// every gate those of `mark_checker::check::verdict`. One worker works without a thread of its own.
@@ -40,8 +38,27 @@ pub fn verdict_shared<G: CheckGate, R: Threads + Sync>(
     if workers == 0 || workers > MOST_WORKERS {
         return Err(ShareFault::Workers);
     }
+    let workers = Workers::of(workers);
+    Ok(verdict_by(rt, alloc, program, cert, workers, gate)?)
+}
+
+/// The findings of all tasks, as `verdict_shared` has them, by so many workers.
+///
+/// # Errors
+///
+/// `AllocError` where memory was refused.
+pub fn verdict_by<G: CheckGate, R: Threads + Sync>(
+    rt: &R,
+    alloc: Global,
+    program: &Program,
+    cert: &Cert,
+    workers: Workers,
+    gate: &G,
+) -> Result<Verdict, AllocError>
+    ensures { IfOk result (λ v. v.findings ≡ all_rules program.now cert.now) }
+{
     let surveyed = Surveyed::new(alloc, program)?;
-    let found = found_by(rt, alloc, &surveyed.survey(), cert, workers, gate)?;
+    let found = found_by(rt, alloc, &surveyed.survey(), cert, workers.get(), gate)?;
     Ok(Verdict {
         findings: Findings::new(found),
     })

@@ -16,9 +16,9 @@ ghost use Rattle.std.specs.declared.vec.Vec.{Vec};
 ghost use Rattle.text_pieces.specs.Pieces.{joined, AreCut};
 ghost use Rattle.parallel_check.specs.Shares.{AreFound, AreGroups, AreInOrder, IsLastFirst, count_in, share_start};
 
-use crate::checking::MOST_WORKERS;
 use crate::gate::ReadGate;
 use crate::numbers::{End, Numbers};
+use limits::ranges::MOST_WORKERS;
 use mask_certificate::block::Block;
 use mask_certificate::certificate::Cert;
 use mask_certificate::fault::{CertFault, MaskSpelling};

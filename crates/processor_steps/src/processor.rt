@@ -13,9 +13,6 @@ use unit_core::read_log::ReadLog;
 use unit_core::unit::Unit;
 use unit_core::world::World;
 
-/// The most events of a machine: after that many, an event is refused.
-pub const MOST_EVENTS: usize = 1_000_000;
-
 /// What the events of a machine change.
 #[derive(Debug, Drop)]
 pub struct Processor {

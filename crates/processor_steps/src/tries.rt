@@ -11,7 +11,8 @@ ghost use Rattle.processor_steps.specs.CallParts.{Does};
 
 use crate::allowed::room_behind;
 use crate::known::known;
-use crate::processor::{MOST_EVENTS, Processor};
+use crate::processor::Processor;
+use limits::ranges::MOST_EVENTS;
 use machine_model::event::{Event, Refused};
 use machine_model::laws::bursts_are_events;
 use mark_checker::accept::Accepted;

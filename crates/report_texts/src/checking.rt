@@ -16,11 +16,10 @@ use crate::verdict_text::{accepted_program, found_program, refused_certificate};
 use annotated_asm::assembler::assemble;
 use annotated_asm::fault::AsmFault;
 use jobs::job::{CertificateSource, Texts};
-use jobs::ranges::Workers;
+use limits::ranges::Workers;
 use mask_certificate::certificate::Cert;
 use mask_certificate::fault::CertFault;
-use parallel_check::checking::verdict_shared;
-use parallel_check::fault::ShareFault;
+use parallel_check::checking::verdict_by;
 use parallel_check::gate::Open;
 use parallel_check::reading::{ReadAhead, is_shared_out};
 use std::alloc::{AllocError, Global};
@@ -148,10 +147,9 @@ fn check_marks<R: Threads + Sync>(
     ensures { IfOk result (λ report.
         report ≡ goes_on program_accepted (findings_judged program.now (all_rules program.now cert.now))) }
 {
-    match verdict_shared(rt, alloc, program, cert, workers.get(), &Open) {
+    match verdict_by(rt, alloc, program, cert, workers, &Open) {
         Ok(verdict) if verdict.findings.as_slice().is_empty() => accepted_program(alloc, program),
         Ok(verdict) => found_program(alloc, program, verdict.findings.as_slice()),
-        Err(ShareFault::OutOfMemory) => Err(AllocError),
-        Err(ShareFault::Workers) => unreachable!(),
+        Err(AllocError) => Err(AllocError),
     }
 }

@@ -6,7 +6,7 @@ use crate::plain_text::{closing_status_of, write_closing, write_words};
 use crate::report::{JobReport, refused_program};
 use annotated_asm::assembler::assemble;
 use annotated_asm::fault::AsmFault;
-use jobs::ranges::Budget;
+use limits::ranges::Budget;
 use mips_plain::outcome::OutOfMemory;
 use std::alloc::{AllocError, Global};
 use task_descriptor::program::Program;

@@ -2,10 +2,10 @@
 //! shared machine.
 
 use crate::machine::{Machine, is_same};
+use limits::ranges::MOST_EVENTS;
 use machine_model::event::{Event, Refused, Spot};
 use machine_model::laws::bursts_are_events;
 use mips_plain::outcome::OutOfMemory;
-use processor_steps::processor::MOST_EVENTS;
 use unit_core::burst::{Burst, Lease};
 use unit_core::unit::Unit;
 

@@ -1,7 +1,7 @@
 //! The events of a machine so far, as runs of equal events, in room that is reserved once.
 
+use limits::ranges::MOST_EVENTS;
 use machine_model::event::{Event, EventRun};
-use processor_steps::processor::MOST_EVENTS;
 use std::alloc::{AllocError, Global};
 use std::marker::Model;
 

@@ -3,22 +3,17 @@
 use crate::accepted_laws::{accepted_headline, accepted_never_stuck};
 use crate::history::History;
 use crate::laws::accepted_replays;
+use limits::ranges::{MOST_EVENTS, MOST_UNITS, Units};
 use machine_model::event::{Commit, Event, EventRun, Refused, Standing};
 use mark_checker::accept::Accepted;
 use mips_instructions::number::{Place, Reg};
 use mips_plain::memory::Memory;
 use mips_plain::outcome::OutOfMemory;
-use processor_steps::processor::{MOST_EVENTS, Processor};
+use processor_steps::processor::Processor;
 use std::alloc::{AllocError, Global};
 use std::marker::Model;
 use thiserror::Error;
 use unit_core::read_log::ReadLog;
-
-/// The most units of a machine. `jobs`, which depends on no machine, has it too.
-pub const MOST_UNITS: u32 = 16;
-
-/// The most events that a run may ask for. `jobs` has it too.
-pub const MOST_BUDGET: u32 = 1_000_000;
 
 /// Why a machine isn't made.
 #[derive(Clone, Copy, Debug, PartialEq, Eq, Error)]
@@ -74,8 +69,7 @@ impl<'a> Machine<'a> {
     ghost use Rattle.sequencer.specs.Rings.{unit_for, AreDistinct, EventFits};
     ghost use Rattle.sequencer.specs.Histories.{AreCounted, executed_in};
 
-    /// A machine at the start of the program, with the given number of units, 1 to 16, none of them at work. It
-    /// reserves the room for its history, once.
+    /// A machine at the start of the program, as `with_units` makes it, with the given number of units, 1 to 16.
     ///
     /// # Errors
     ///
@@ -94,13 +88,35 @@ impl<'a> Machine<'a> {
         if units == 0 || units > MOST_UNITS {
             return Err(MachineFault::Units);
         }
-        let processor = match Processor::new(alloc, accepted.program(), units) {
+        match Machine::with_units(alloc, accepted, Units::of(units)) {
+            Ok(machine) => Ok(machine),
+            Err(AllocError) => Err(MachineFault::OutOfMemory),
+        }
+    }
+
+    /// A machine at the start of the program, with so many units, none of them at work. It reserves the
+    /// room of its history, once.
+    ///
+    /// # Errors
+    ///
+    /// `AllocError` where memory was refused.
+    pub fn with_units(
+        alloc: Global,
+        accepted: &'a Accepted,
+        units: Units,
+    ) -> Result<Machine<'a>, AllocError>
+        ensures accepted { IfOk result (λ machine. machine.accepted ≡ accepted.now) }
+        ensures capacity { IfOk result (λ machine. units_of machine ≡ units) }
+        ensures history { IfOk result (λ machine. machine.history ≡ []) }
+        ensures opening { IfOk result (λ machine. state machine ≡ opening accepted.now.program) }
+    {
+        let processor = match Processor::new(alloc, accepted.program(), units.get()) {
             Ok(processor) => processor,
-            Err(OutOfMemory) => return Err(MachineFault::OutOfMemory),
+            Err(OutOfMemory) => return Err(AllocError),
         };
         let history = match History::new(alloc) {
             Ok(history) => history,
-            Err(AllocError) => return Err(MachineFault::OutOfMemory),
+            Err(AllocError) => return Err(AllocError),
         };
         Ok(Machine {
             alloc,

@@ -5,6 +5,7 @@ ghost use Rattle.sequencer.specs.Machines.{state, units_of};
 ghost use Rattle.unit_turns.specs.Steps.{beginning, after_steps, Takes};
 ghost use Rattle.speed_curve.specs.Curve.{IsRowOf};
 
+use limits::ranges::{Budget, Units};
 use machine_model::event::Standing;
 use mark_checker::accept::Accepted;
 use std::alloc::{AllocError, Global};
@@ -12,8 +13,8 @@ use task_lives::laws::{histories_fit, lives_add_up};
 use task_lives::lives::lives_of_runs;
 use task_lives::tally::add_up;
 use unit_turns::predictor::Predictor;
-use unit_turns::report::{StepsFault, StepsReport};
-use unit_turns::runner::run_steps;
+use unit_turns::report::StepsReport;
+use unit_turns::runner::run_steps_on;
 
 /// The result of a run of a program in steps.
 #[derive(Clone, Copy, Debug, PartialEq, Eq)]
@@ -73,9 +74,14 @@ fn run<'a>(
     ensures state { IfOk result (λ report. state report.machine ≡ (after_steps accepted.now.program units budget report.steps (beginning accepted.now.program predictor)).state) }
     ensures events { IfOk result (λ report. report.machine.history ≡ (after_steps accepted.now.program units budget report.steps (beginning accepted.now.program predictor)).events) }
 {
-    match run_steps(alloc, accepted, units, budget, predictor) {
+    match run_steps_on(
+        alloc,
+        accepted,
+        Units::of(units),
+        Budget::of(budget),
+        predictor,
+    ) {
         Ok(report) => Ok(report),
-        Err(StepsFault::OutOfMemory) => Err(AllocError),
-        Err(StepsFault::Units | StepsFault::Budget) => unreachable!(),
+        Err(AllocError) => Err(AllocError),
     }
 }

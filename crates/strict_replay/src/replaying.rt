@@ -6,7 +6,7 @@ ghost use Rattle.strict_replay.specs.StrictReplay.{strict_text};
 
 use crate::judging::judge as judge_script;
 use jobs::job::{CertificateSource, Texts};
-use jobs::ranges::Units;
+use limits::ranges::Units;
 use report_texts::judging::{Judged, judge};
 use report_texts::report::JobReport;
 use std::alloc::{AllocError, Global};

@@ -9,6 +9,8 @@ mod annotate;
 #[cfg(test)]
 mod answers;
 #[cfg(test)]
+mod at_the_limits;
+#[cfg(test)]
 mod certificates;
 #[cfg(test)]
 mod check;
@@ -18,8 +20,6 @@ mod files;
 mod flushed_reports;
 #[cfg(test)]
 mod held_back;
-#[cfg(test)]
-mod limits;
 #[cfg(test)]
 mod print;
 #[cfg(test)]

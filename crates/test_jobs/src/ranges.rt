@@ -1,6 +1,7 @@
 //! The numbers that a job takes, each in its range.
 
-use jobs::ranges::{Budget, PredictionList, Units, Workers};
+use jobs::ranges::PredictionList;
+use limits::ranges::{Budget, Units, Workers};
 
 #[test]
 fn holds_a_budget(rt: HostRuntime) {

@@ -5,6 +5,7 @@ use crate::parts::{fetch_from, fetch_part, put_together};
 use crate::positioned::PositionedFile;
 use crate::serial::{FetchFault, fetch};
 use crate::text::Text;
+use limits::ranges::MOST_WORKERS;
 use std::alloc::Global;
 use std::marker::Sync;
 use std::thread;
@@ -13,9 +14,6 @@ use std::thread::Threads;
 /// The size in bytes from which a file is fetched by several threads. Fetching a shorter one takes less time than
 /// making the threads.
 const LEAST_SHARED: u64 = 262_144;
-
-/// The most threads that fetch.
-const MOST_WORKERS: u32 = 16;
 
 /// What `fetch` returns, as a text in pieces, fetched by the given number of workers. Any number will do: 0
 /// counts as 1, and more than 16 count as 16. A short file is fetched by one.

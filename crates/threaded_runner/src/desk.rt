@@ -4,7 +4,7 @@
 use crate::counts::{add, zeros};
 use crate::machine_laws::law_replay;
 use crate::naming::Naming;
-use crate::report::{How, Report, RunFault};
+use crate::report::{How, Report};
 use crate::share::Share;
 use crate::slots::put;
 use machine_model::event::{Event, Refused, Standing};
@@ -239,9 +239,8 @@ impl<'a, P: Predict, J: Naming> Desk<'a, P, J> {
     ///
     /// # Errors
     ///
-    /// `OutOfMemory` where the note is set.
-    pub(crate) fn report(mut self, budget: u32) -> Result<Report<'a>, RunFault>
-        ensures fault { IfErr result (λ fault. fault ≡ RunFault.OutOfMemory) }
+    /// `AllocError` where the note is set.
+    pub(crate) fn report(mut self, budget: u32) -> Result<Report<'a>, AllocError>
         ensures over { IfOk result (λ report. (report.machine.accepted ≡ J.accepted) × (units_of report.machine ≡ J.units)) }
         ensures replay { IfOk result (λ report. Replays report.machine.accepted.program (units_of report.machine) report.machine.history (state report.machine)) }
         ensures counts { IfOk result (λ report. (length report.counts.items ≡ J.workers) × IsCounted J.units report.machine.history report.counts.items) }
@@ -258,7 +257,7 @@ impl<'a, P: Predict, J: Naming> Desk<'a, P, J> {
             run: _,
         } = self;
         if is_stopped {
-            return Err(RunFault::OutOfMemory);
+            return Err(AllocError);
         }
         law_replay(&machine);
         let how = match machine.outcome() {

@@ -1,6 +1,6 @@
 //! The run of a program by threads.
 
-ghost use Rattle.std.specs.Prelude.{◌≡◌, ◌≢◌, ◌<◌, ◌≤◌, ◌⊎◌, ◌↔◌, length, IfOk, IfErr};
+ghost use Rattle.std.specs.Prelude.{◌≡◌, ◌≢◌, ◌<◌, ◌≤◌, ◌⊎◌, ◌↔◌, length, IfOk};
 ghost use Rattle.machine_model.specs.declared.event.Standing.TheVariants as standing;
 ghost use Rattle.machine_model.specs.Replay.{Replays};
 ghost use Rattle.sequencer.specs.Machines.{state, units_of};
@@ -15,8 +15,9 @@ use crate::naming::Naming;
 use crate::report::{How, Report, RunFault};
 use crate::share::Share;
 use crate::worker::{ring_and_let_go, serve};
+use limits::ranges::{Budget, MOST_BUDGET, MOST_UNITS, Units, Workers};
 use mark_checker::accept::Accepted;
-use sequencer::machine::{MOST_BUDGET, MOST_UNITS, Machine, MachineFault};
+use sequencer::machine::Machine;
 use sequencer::predict::Predict;
 use std::alloc::{AllocError, Global};
 use std::marker::Brand;
@@ -86,38 +87,75 @@ pub fn run_workers<'a, P: Predict, G: RunGate, R: Threads + Wait + Sync>(
     if budget == 0 || budget > MOST_BUDGET {
         return Err(RunFault::Budget);
     }
-    run_named::<P, Brand, G, R>(rt, alloc, accepted, units, workers, budget, predictor, gate)
+    let size = Units::of(units);
+    let threads = Workers::of(workers);
+    let most = Budget::of(budget);
+    match run_by(rt, alloc, accepted, size, threads, most, predictor, gate) {
+        Ok(report) => Ok(report),
+        Err(AllocError) => Err(RunFault::OutOfMemory),
+    }
 }
 
-/// The run, once the numbers are valid, over the program and certificate that its types name.
-fn run_named<'a, P: Predict, J: Naming + Send + Sync, G: RunGate, R: Threads + Wait + Sync>(
+/// Runs the accepted program, as `run_workers` does, on a machine with these units, by these threads, up to
+/// this budget.
+///
+/// # Errors
+///
+/// `AllocError` where memory was refused, or a thread could not be made. Then the predictor and the machine are gone.
+pub fn run_by<'a, P: Predict, G: RunGate, R: Threads + Wait + Sync>(
     rt: &R,
     alloc: Global,
     accepted: &'a Accepted,
-    units: u32,
-    workers: u32,
-    budget: u32,
+    units: Units,
+    workers: Workers,
+    budget: Budget,
     predictor: P,
     gate: &G,
-) -> Result<Report<'a>, RunFault>
-    requires named { accepted.now ≡ J.accepted }
-    requires units { (0 < units) × (units ≤ 16) × (units ≡ J.units) }
-    requires workers { (0 < workers) × (workers ≤ units) × (workers ≡ J.workers) }
-    requires budget { budget ≡ J.budget }
-    ensures fault { IfErr result (λ fault. fault ≡ RunFault.OutOfMemory) }
+) -> Result<Report<'a>, AllocError>
+    requires { workers ≤ units }
     ensures over { IfOk result (λ report. (report.machine.accepted ≡ accepted.now) × (units_of report.machine ≡ units)) }
     ensures replay { IfOk result (λ report. Replays report.machine.accepted.program (units_of report.machine) report.machine.history (state report.machine)) }
     ensures counts { IfOk result (λ report. (length report.counts.items ≡ workers) × IsCounted units report.machine.history report.counts.items) }
     ensures ended { IfOk result (λ report. (report.how ≡ How.Ended) ↔ ((state report.machine).outcome ≡ standing.Running → ⊥)) }
     ensures spent { IfOk result (λ report. report.how ≡ How.OutOfBudget → budget ≤ length report.machine.history) }
 {
+    let threads = workers.get();
+    let most = budget.get();
+    match run_named::<P, Brand, G, R>(rt, alloc, accepted, units, threads, most, predictor, gate) {
+        Ok(report) => Ok(report),
+        Err(AllocError) => Err(AllocError),
+    }
+}
+
+/// The run over the program and certificate that its types name.
+fn run_named<'a, P: Predict, J: Naming + Send + Sync, G: RunGate, R: Threads + Wait + Sync>(
+    rt: &R,
+    alloc: Global,
+    accepted: &'a Accepted,
+    units: Units,
+    workers: u32,
+    budget: u32,
+    predictor: P,
+    gate: &G,
+) -> Result<Report<'a>, AllocError>
+    requires named { accepted.now ≡ J.accepted }
+    requires units { units ≡ J.units }
+    requires workers { (0 < workers) × (workers ≤ units) × (workers ≡ J.workers) }
+    requires budget { budget ≡ J.budget }
+    ensures over { IfOk result (λ report. (report.machine.accepted ≡ accepted.now) × (units_of report.machine ≡ units)) }
+    ensures replay { IfOk result (λ report. Replays report.machine.accepted.program (units_of report.machine) report.machine.history (state report.machine)) }
+    ensures counts { IfOk result (λ report. (length report.counts.items ≡ workers) × IsCounted units report.machine.history report.counts.items) }
+    ensures ended { IfOk result (λ report. (report.how ≡ How.Ended) ↔ ((state report.machine).outcome ≡ standing.Running → ⊥)) }
+    ensures spent { IfOk result (λ report. report.how ≡ How.OutOfBudget → budget ≤ length report.machine.history) }
+{
+    let size = units.get();
     let bells = match new_bells(alloc, workers) {
         Ok(bells) => bells,
-        Err(AllocError) => return Err(RunFault::OutOfMemory),
+        Err(AllocError) => return Err(AllocError),
     };
     let desk: Desk<'a, P, J> = new_desk(alloc, accepted, units, workers, predictor)?;
     let shared = Mutex::new(desk);
-    work(rt, &shared, bells.as_slice(), gate, units, workers, budget);
+    work(rt, &shared, bells.as_slice(), gate, size, workers, budget);
     shared.into_inner().report(budget)
 }
 
@@ -125,24 +163,19 @@ fn run_named<'a, P: Predict, J: Naming + Send + Sync, G: RunGate, R: Threads + W
 fn new_desk<'a, P: Predict, J: Naming>(
     alloc: Global,
     accepted: &'a Accepted,
-    units: u32,
+    units: Units,
     workers: u32,
     predictor: P,
-) -> Result<Desk<'a, P, J>, RunFault>
+) -> Result<Desk<'a, P, J>, AllocError>
     requires named { accepted.now ≡ J.accepted }
-    requires units { (0 < units) × (units ≤ 16) × (units ≡ J.units) }
+    requires units { units ≡ J.units }
     requires workers { (0 < workers) × (workers ≡ J.workers) }
-    ensures { IfErr result (λ fault. fault ≡ RunFault.OutOfMemory) }
 {
-    let machine = match Machine::new(alloc, accepted, units) {
+    let machine = match Machine::with_units(alloc, accepted, units) {
         Ok(machine) => machine,
-        Err(MachineFault::OutOfMemory) => return Err(RunFault::OutOfMemory),
-        Err(MachineFault::Units) => unreachable!(),
+        Err(AllocError) => return Err(AllocError),
     };
-    match Desk::new(alloc, machine, predictor, workers) {
-        Ok(desk) => Ok(desk),
-        Err(AllocError) => Err(RunFault::OutOfMemory),
-    }
+    Desk::new(alloc, machine, predictor, workers)
 }
 
 /// A bell for each worker.

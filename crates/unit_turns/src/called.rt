@@ -1,10 +1,11 @@
 //! Workers that have waited and now have something to do.
 
 use crate::bell::Bell;
+use limits::ranges::MOST_WORKERS;
 use std::marker::Model;
 
-/// The most workers.
-const MOST_WORKERS: usize = 16;
+/// How many workers there is room for.
+const PLACES: usize = MOST_WORKERS as usize;
 
 /// The workers for whom a bell is to be rung once the lock is free, each by its number, 0..=15. It has no
 /// `Drop`, so nobody can forget to ring: `ring` alone takes it.
@@ -28,7 +29,7 @@ impl Called {
         ensures { result ≡ replicate 16 false }
     {
         Called {
-            is_called: [false; MOST_WORKERS],
+            is_called: [false; PLACES],
         }
     }
 

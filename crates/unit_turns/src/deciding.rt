@@ -14,8 +14,8 @@ ghost use Rattle.unit_turns.specs.Turns.{IsTurn, IsOwn, MayBurst, own_events, pa
 
 use crate::laws::{law_head_unit, law_own_event, law_ring};
 use crate::turn::Turn;
+use limits::ranges::MOST_EVENTS;
 use machine_model::event::{Event, Standing};
-use processor_steps::processor::MOST_EVENTS;
 use sequencer::machine::Machine;
 
 /// How many instructions beyond 2 h may have been executed besides h, h being those of the retired tasks and

@@ -13,11 +13,12 @@ ghost use Rattle.unit_turns.specs.Courses.{course};
 use crate::predictor::Predictor;
 use crate::report::{StepsEnd, StepsFault, StepsReport};
 use crate::turns::{goes_on, turn_behind, turn_of_head};
+use limits::ranges::{Budget, MOST_BUDGET, MOST_UNITS, Units};
 use machine_model::event::{Refused, Standing};
 use machine_model::laws::{next_is_after, replays_join};
 use mark_checker::accept::Accepted;
-use sequencer::machine::{MOST_BUDGET, MOST_UNITS, Machine, MachineFault};
-use std::alloc::Global;
+use sequencer::machine::Machine;
+use std::alloc::{AllocError, Global};
 
 /// Runs the accepted program on a machine with the given number of units, 1 to 16, in steps, until the run has ended or
 /// the history has `budget` events, 1 to 1,000,000. In a step each unit does at most one event, which the
@@ -32,7 +33,7 @@ pub fn run_steps<'a>(
     accepted: &'a Accepted,
     units: u32,
     budget: u32,
-    mut predictor: Predictor,
+    predictor: Predictor,
 ) -> Result<StepsReport<'a>, StepsFault>
     ensures units { (result ≡ Err StepsFault.Units) ↔ ((units ≡ 0) ⊎ (16 < units)) }
     ensures budget { (result ≡ Err StepsFault.Budget) ↔ ((0 < units) × (units ≤ 16) × ((budget ≡ 0) ⊎ (1000000 < budget))) }
@@ -52,14 +53,46 @@ pub fn run_steps<'a>(
     if budget == 0 || budget > MOST_BUDGET {
         return Err(StepsFault::Budget);
     }
-    let mut machine = match Machine::new(alloc, accepted, units) {
+    let size = Units::of(units);
+    let most = Budget::of(budget);
+    match run_steps_on(alloc, accepted, size, most, predictor) {
+        Ok(report) => Ok(report),
+        Err(AllocError) => Err(StepsFault::OutOfMemory),
+    }
+}
+
+/// Runs the accepted program in steps, as `run_steps` does, on a machine of so many units, up to this many
+/// events.
+///
+/// # Errors
+///
+/// `AllocError` where memory was refused. Then the predictor and the machine are gone.
+pub fn run_steps_on<'a>(
+    alloc: Global,
+    accepted: &'a Accepted,
+    units: Units,
+    budget: Budget,
+    mut predictor: Predictor,
+) -> Result<StepsReport<'a>, AllocError>
+    ensures over { IfOk result (λ report. (report.machine.accepted ≡ accepted.now) × (units_of report.machine ≡ units)) }
+    ensures replay { IfOk result (λ report. Replays report.machine.accepted.program (units_of report.machine) report.machine.history (state report.machine)) }
+    ensures steps { IfOk result (λ report. Takes accepted.now.program units budget (beginning accepted.now.program predictor) report.steps) }
+    ensures state { IfOk result (λ report. state report.machine ≡ (after_steps accepted.now.program units budget report.steps (beginning accepted.now.program predictor)).state) }
+    ensures events { IfOk result (λ report. report.machine.history ≡ (after_steps accepted.now.program units budget report.steps (beginning accepted.now.program predictor)).events) }
+    ensures lockstep { IfOk result (λ report. AreSteps accepted.now.program units budget predictor report.steps) }
+    ensures ended { IfOk result (λ report. (report.how ≡ StepsEnd.Ended) ↔ ((state report.machine).outcome ≡ standing.Running → ⊥)) }
+    ensures spent { IfOk result (λ report. report.how ≡ StepsEnd.OutOfBudget → budget ≤ length report.machine.history) }
+    ensures within { IfOk result (λ report. length report.machine.history ≤ budget) }
+{
+    let size = units.get();
+    let most = budget.get();
+    let mut machine = match Machine::with_units(alloc, accepted, units) {
         Ok(machine) => machine,
-        Err(MachineFault::OutOfMemory) => return Err(StepsFault::OutOfMemory),
-        Err(MachineFault::Units) => unreachable!(),
+        Err(AllocError) => return Err(AllocError),
     };
-    let steps = match run(&mut machine, &mut predictor, units, budget) {
+    let steps = match run(&mut machine, &mut predictor, size, most) {
         Ok(steps) => steps,
-        Err(Refused::OutOfMemory) => return Err(StepsFault::OutOfMemory),
+        Err(Refused::OutOfMemory) => return Err(AllocError),
         Err(_) => unreachable!(),
     };
     // Reading a machine's history gives that the machine is its replay.

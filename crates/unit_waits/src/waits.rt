@@ -10,9 +10,10 @@ ghost use Rattle.unit_waits.specs.Waits.{waits as waits_of};
 use crate::acting::{behind, last_of_step};
 use crate::steps::do_step;
 use crate::waiting::Waiting;
+use limits::ranges::Units;
 use machine_model::event::Event;
 use mark_checker::accept::Accepted;
-use sequencer::machine::{Machine, MachineFault};
+use sequencer::machine::Machine;
 use std::alloc::{AllocError, Global};
 
 /// A machine of `units` units, 1 to 16, at the start of an accepted program. An error means that memory was refused.
@@ -27,10 +28,9 @@ pub fn machine_at_start<'a>(
     ensures history { IfOk result (λ machine. machine.history ≡ []) }
     ensures opening { IfOk result (λ machine. state machine ≡ opening accepted.now.program) }
 {
-    match Machine::new(alloc, accepted, units) {
+    match Machine::with_units(alloc, accepted, Units::of(units)) {
         Ok(machine) => Ok(machine),
-        Err(MachineFault::OutOfMemory) => Err(AllocError),
-        Err(MachineFault::Units) => unreachable!(),
+        Err(AllocError) => Err(AllocError),
     }
 }
 

@@ -9,7 +9,7 @@ ghost use Rattle.verdict_report.specs.RunText.{IsRunReport, IsRunText};
 use crate::running::report_of_run;
 use crate::scheduled::run_in_steps;
 use jobs::job::{CertificateSource, Prediction, RunEmit, Texts};
-use jobs::ranges::{Budget, Units};
+use limits::ranges::{Budget, Units};
 use mark_checker::accept::Accepted;
 use report_texts::judging::{Judged, judge};
 use report_texts::report::JobReport;

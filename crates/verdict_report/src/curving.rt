@@ -12,7 +12,7 @@ ghost use Rattle.report_texts.specs.JudgedTexts.{judgement};
 use crate::scheduled::predictor_of;
 use crate::telling::tell;
 use jobs::job::{CertificateSource, CurveEmit, Prediction, Texts};
-use jobs::ranges::{Budget, Units};
+use limits::ranges::{Budget, Units};
 use machine_model::event::Standing;
 use mark_checker::accept::Accepted;
 use report_texts::judging::{Judged, judge};

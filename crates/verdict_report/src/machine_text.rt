@@ -17,7 +17,7 @@ use event_json::lines::lines;
 use event_json::source::EventSource;
 use event_json::timeline::timeline;
 use event_trace::trace::trace;
-use jobs::ranges::Units;
+use limits::ranges::Units;
 use machine_model::event::{Event, Standing};
 use mark_checker::accept::Accepted;
 use report_texts::plain_text::write_words;

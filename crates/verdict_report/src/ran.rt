@@ -1,7 +1,7 @@
 //! How a program is to be run, and what a run of it leaves.
 
 use jobs::job::Schedule;
-use jobs::ranges::{Budget, Units, Workers};
+use limits::ranges::{Budget, Units, Workers};
 use sequencer::machine::Machine;
 use threaded_runner::report::How;
 

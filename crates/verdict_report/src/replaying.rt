@@ -2,7 +2,6 @@
 ghost use Rattle.std.specs.Prelude.{◌≡◌, ◌++◌, List, [], ◌∷◌, Result, IfOk, take};
 ghost use Rattle.std.specs.String.{string_bytes};
 ghost use Rattle.machine_model.specs.Answer.{play, play_event};
-ghost use Rattle.machine_model.specs.Machine.{opening};
 ghost use Rattle.machine_model.specs.declared.event.Event.{Event};
 ghost use Rattle.machine_model.specs.declared.event.Refused.{Refused};
 ghost use Rattle.jobs.specs.declared.job.ReplayEmit.TheVariants as emit;
@@ -27,13 +26,13 @@ use event_script::reading::read;
 use event_trace::ring::Ring;
 use event_trace::trace::trace_and_standing;
 use jobs::job::{CertificateSource, ReplayEmit, Texts};
-use jobs::ranges::{Budget, Units};
+use limits::ranges::{Budget, Units};
 use machine_model::event::{Event, Refused};
 use machine_model::laws::next_is_after;
 use mark_checker::accept::Accepted;
 use report_texts::judging::{Judged, judge};
 use report_texts::report::JobReport;
-use sequencer::machine::{Machine, MachineFault};
+use sequencer::machine::Machine;
 use std::alloc::{AllocError, Global};
 use strict_replay::stand::stand;
 
@@ -181,7 +180,7 @@ fn machine_report(
 ) -> Result<JobReport, AllocError>
     ensures { IfOk result (λ report. report ≡ events_report (machine_emit form) units name.now text.now accepted.now.program events.now) }
 {
-    let mut machine = machine_of(alloc, units, accepted)?;
+    let mut machine = Machine::with_units(alloc, accepted, units)?;
     let answers = play_events(alloc, &mut machine, events)?;
     let bytes = bytes_of(alloc, units, form, name, text, accepted, &machine, &answers)?;
     Ok(JobReport::new(bytes, standing_status_of(machine.outcome())))
@@ -210,24 +209,6 @@ fn bytes_of(
         MachineForm::Picture => picture_of(alloc, units, name, machine, program),
         MachineForm::Timeline => timeline_of(alloc, units, Clock::Events, machine, program),
         MachineForm::State => state_of(alloc, units, text, accepted, machine),
-    }
-}
-
-// A machine of `units` units at the start of an accepted program.
-fn machine_of<'a>(
-    alloc: Global,
-    units: Units,
-    accepted: &'a Accepted,
-) -> Result<Machine<'a>, AllocError>
-    ensures accepted { IfOk result (λ machine. machine.accepted ≡ accepted.now) }
-    ensures capacity { IfOk result (λ machine. units_of machine ≡ units) }
-    ensures history { IfOk result (λ machine. machine.history ≡ []) }
-    ensures opening { IfOk result (λ machine. state machine ≡ opening accepted.now.program) }
-{
-    match Machine::new(alloc, accepted, units.get()) {
-        Ok(machine) => Ok(machine),
-        Err(MachineFault::OutOfMemory) => Err(AllocError),
-        Err(MachineFault::Units) => unreachable!(),
     }
 }
 

@@ -27,7 +27,7 @@ use event_json::last_line::LastLine;
 use event_json::source::EventSource;
 use event_script::writing::write;
 use jobs::job::{CertificateSource, Prediction, RunEmit, Texts};
-use jobs::ranges::Units;
+use limits::ranges::Units;
 use mark_checker::accept::Accepted;
 use report_texts::judging::{Judged, judge};
 use report_texts::plain_text::write_words;

@@ -7,18 +7,18 @@ ghost use Rattle.verdict_report.specs.Runs.{run_of, run_by_threads as run_by_thr
 use crate::fault::ServeFault;
 use crate::ran::{Extent, Ran};
 use jobs::job::{Prediction, Schedule};
-use jobs::ranges::{Budget, Units};
+use limits::ranges::{Budget, Units, Workers};
 use mark_checker::accept::Accepted;
 use sequencer::predict::Script;
 use std::alloc::{AllocError, Global};
 use std::sync::Wait;
 use std::thread::Threads;
 use threaded_runner::gate::Open;
-use threaded_runner::report::{How, Report, RunFault};
-use threaded_runner::runner::run_workers;
+use threaded_runner::report::{How, Report};
+use threaded_runner::runner::run_by;
 use unit_turns::predictor::Predictor;
-use unit_turns::report::{StepsEnd, StepsFault, StepsReport};
-use unit_turns::runner::run_steps;
+use unit_turns::report::{StepsEnd, StepsReport};
+use unit_turns::runner::run_steps_on;
 
 /// Runs an accepted program with the schedule and the predictor that are asked for.
 ///
@@ -85,42 +85,29 @@ fn run_with<'a, R: Threads + Wait + Sync>(
     ensures fault { result ≢ Err ServeFault.Write }
     ensures own { result ≢ Err ServeFault.Foreign }
 {
-    let Numbers {
-        units,
+    let threads = threads_of(extent.workers, extent.units);
+    match run_by(
+        rt,
+        alloc,
+        accepted,
+        extent.units,
         threads,
-        budget,
-    } = numbers_of(extent);
-    match run_workers(
-        rt, alloc, accepted, units, threads, budget, predictor, &Open,
+        extent.budget,
+        predictor,
+        &Open,
     ) {
         Ok(report) => Ok(report),
-        Err(RunFault::OutOfMemory) => Err(ServeFault::OutOfMemory),
-        Err(RunFault::Units | RunFault::Budget | RunFault::Foreign) => unreachable!(),
+        Err(AllocError) => Err(ServeFault::OutOfMemory),
     }
 }
 
-// The numbers of a run by threads.
-#[derive(Clone, Copy)]
-struct Numbers {
-    units: u32,
-    threads: u32,
-    budget: u32,
-}
-
-// The numbers that are asked for: where there are more workers than units, a thread for each unit.
-fn numbers_of(extent: Extent) -> Numbers
-    ensures units { result.units ≡ extent.units }
-    ensures threads { result.threads ≡ min extent.workers extent.units }
-    ensures budget { result.budget ≡ extent.budget }
-    ensures some { (1 ≤ result.threads) × (result.threads ≤ result.units) × (result.units ≤ 16) }
-    ensures range { (1 ≤ result.budget) × (result.budget ≤ 1000000) }
+// The threads of a run by so many workers: where there are more of them than units, one for each unit.
+fn threads_of(workers: Workers, units: Units) -> Workers
+    ensures threads { result ≡ min workers units }
+    ensures within { result ≤ units }
+    ensures few { units ≤ 16 }
 {
-    let units = extent.units.get();
-    Numbers {
-        units,
-        threads: extent.workers.get().min(units),
-        budget: extent.budget.get(),
-    }
+    Workers::of(workers.get().min(units.get()))
 }
 
 /// Runs an accepted program in steps, with the predictor that is asked for.
@@ -140,7 +127,9 @@ pub(crate) fn run_in_steps<'a>(
     ensures scheduled { IfOk result (λ ran. IsScheduled Schedule.Steps accepted.now.program units budget predict.now (run_of ran)) }
 {
     let predictor = predictor_of(alloc, predict)?;
-    match run_steps(alloc, accepted, units.get(), budget.get(), predictor) {
+    // That the units are at most 16 is known where they are read.
+    let _ = units.get();
+    match run_steps_on(alloc, accepted, units, budget, predictor) {
         Ok(
             StepsReport {
                 machine,
@@ -152,8 +141,7 @@ pub(crate) fn run_in_steps<'a>(
             how: ended_as(how),
             steps: Some(steps),
         }),
-        Err(StepsFault::OutOfMemory) => Err(AllocError),
-        Err(StepsFault::Units | StepsFault::Budget) => unreachable!(),
+        Err(AllocError) => Err(AllocError),
     }
 }
 
