@@ -17,7 +17,7 @@ import accepted as generator
 import explain
 from accepted import accepted
 from explain import MOST_SHOWN, Bench, changed, laid_out, lists, place_of, places, plant, region_of, spelled
-from model import Fault, assemble, certify, dests, exits, inner, print_program, verdict
+from model import Fault, assemble, certify, dests, edges, exits, inner, is_exit, print_program, verdict
 
 R = random.Random()
 
@@ -73,8 +73,8 @@ def warnings(program):
     return found
 
 
-OF_TASKS = ("runs", "untaken", "never", "stop")
-CODES = {"runs": "Unreached", "untaken": "TargetNotTaken", "stop": "NoExit", "never": "NeverProduced", "last": "NotForwarded", "sent": "SentBefore", "unreached": "Unreached"}
+OF_TASKS = ("runs", "untaken", "never", "stop", "step")
+CODES = {"runs": "Unreached", "untaken": "TargetNotTaken", "stop": "NoExit", "step": "GoesIntoTask", "never": "NeverProduced", "last": "NotForwarded", "sent": "SentBefore", "unreached": "Unreached"}
 
 
 def untaken(program, number):
@@ -83,8 +83,36 @@ def untaken(program, number):
     return [k for k, j in enumerate(program.tasks[number][3]) if j not in taken]
 
 
+def steps_into(program, i):
+    """The tasks into whose first instruction one goes on without a stop, when a branch is not taken and when it is."""
+    op, _, stop = program.code[i]
+    begins = {entry: k for k, (_, entry, _, _) in enumerate(program.tasks)}
+    ends = {taken: begins.get(j) for taken, j in edges(op, i) if not is_exit(stop, taken)}
+    return ends.get(False), ends.get(True)
+
+
+def step(program, number):
+    """A task's first instruction that goes on into a target without a stop, and where one can be put; with that target."""
+    _, entry, _, targets = program.tasks[number]
+    for i in sorted(walk(program, [entry])):
+        tasks = [k for k in steps_into(program, i) if k is not None]
+        listed = [k for k in tasks if program.tasks[k][1] in targets]
+        if listed and (len(listed) == len(tasks) or len(targets) < 15):
+            return i, listed[0]
+    return None
+
+
+def missing_stop(program, i):
+    """The stop for the edges that go on into tasks."""
+    onward, taken = steps_into(program, i)
+    if program.code[i][2] or not program.code[i][0][0].startswith("b") or None not in (onward, taken):
+        return "!s"
+    return "!sn" if taken is None else "!st"
+
+
 def forgotten(program):
-    """The tasks that never run; those that have targets, but come to no stop; and those with a target that no exit takes."""
+    """The tasks that never run; those that have targets, but come to no stop; those with a target that no exit takes; and
+    those that go on into a target without a stop."""
     for number, (_, entry, _, targets) in enumerate(program.tasks):
         if program.start != entry and not any(entry in it[3] for it in program.tasks if it[1] != entry):
             yield "runs", number, None
@@ -94,6 +122,8 @@ def forgotten(program):
             yield "stop", number, None
         elif not anywhere and untaken(program, number):
             yield "untaken", number, None
+        elif targets and step(program, number):
+            yield "step", number, None
 
 
 def released_next(program, i):
@@ -118,6 +148,9 @@ def sentence(program, text, warning):
     name = program.tasks[number][0] if kind in OF_TASKS else None
     if kind == "last":
         return last_sentence(program, text, number)
+    if kind == "step":
+        i, into = step(program, number)
+        return f"task {name} goes on into task {program.tasks[into][0]} without a stop; was {missing_stop(program, i)} meant here?"
     unled = ",".join(place_of(program, text, program.tasks[number][3][k]) for k in untaken(program, number)) if kind == "untaken" else ""
     return {
         "runs": f"task {name} never runs: no other task has it as a target, and the program starts at {place_of(program, text, program.start)}.",
@@ -135,6 +168,8 @@ def meant(program, text, warning):
     tasks, code = places(text)
     if kind == "runs":
         return *tasks[number], 5
+    if kind == "step":
+        return code[step(program, number)[0]]
     if kind == "untaken":
         return tasks[number][0], *lists(text)[number][2][untaken(program, number)[0]]
     return (tasks[number][0], *lists(text)[number][kind == "stop"]) if kind in ("never", "stop") else code[number]

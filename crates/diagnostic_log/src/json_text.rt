@@ -1,12 +1,13 @@
 //! A text of JSON that grows token by token. An error of a call means that memory was refused.
 
-ghost use Rattle.std.specs.Prelude.{◌≡◌, [], ◌∷◌, ◌++◌, codes, OnOk};
+ghost use Rattle.std.specs.Prelude.{◌≡◌, [], ◌∷◌, ◌++◌, codes, IfOk, OnOk};
+ghost use Rattle.std.specs.String.{string_bytes};
 ghost use Rattle.std.specs.Fmt.{decimal};
 ghost use Rattle.json.specs.Token.{begin_array, begin_object, end_array, end_object, key};
 ghost use Rattle.json.specs.Json.{boolean, null, number, string};
 ghost use Rattle.json.specs.Print.{print};
 ghost use Rattle.diagnostic_log.specs.Wrote.{added, wrote};
-ghost use Rattle.diagnostic_log.specs.Sentences.{message_json};
+ghost use Rattle.diagnostic_log.specs.Sentences.{is_question, ended, message_json};
 
 use json::Writer;
 use std::alloc::{AllocError, Global};
@@ -14,6 +15,27 @@ use std::marker::Model;
 
 /// What a call that writes returns: an error means that memory was refused.
 pub(crate) type Written = Result<(), AllocError>;
+
+/// Whether a sentence is a question.
+fn is_question(sentence: &str) -> bool
+    ensures { result ≡ is_question sentence.now }
+{
+    match sentence.as_bytes().last() {
+        Some(last) => *last == b'?',
+        None => false,
+    }
+}
+
+/// A sentence with its period; a question has its mark already.
+fn ended(alloc: Global, sentence: &str) -> Result<String, AllocError>
+    ensures { IfOk result (λ text. string_bytes text ≡ ended sentence.now) }
+{
+    if is_question(sentence) {
+        format!(in alloc; "{sentence}")
+    } else {
+        format!(in alloc; "{sentence}.")
+    }
+}
 
 /// The text, which a contract sees as its tokens.
 #[derive(Drop)]
@@ -125,11 +147,11 @@ impl JsonText {
         self.out.null()
     }
 
-    /// Adds a member that is a message: a sentence, which gets its period.
+    /// Adds a member that is a message: a sentence, which gets its period if it is no question.
     pub(crate) fn message(&mut self, name: &str, sentence: &str) -> Written
         ensures { OnOk result (self.new ≡ added name.now (message_json sentence.now) self.old) }
     {
-        let text = format!(in self.alloc; "{sentence}.")?;
+        let text = ended(self.alloc, sentence)?;
         self.key(name)?;
         self.begin()?;
         self.text("text", text.as_str())?;

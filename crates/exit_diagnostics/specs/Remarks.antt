@@ -1,20 +1,18 @@
 -- What may be forgotten: a way to a task; or a stop, where a task reaches no exit, a target is taken by no exit, or a
--- task goes on into the first instruction of a task.
+-- task goes on into a target.
 use Rattle.std.specs.Prelude.{ℕ, Bool, true, false, not, ◌&&◌, ◌||◌, ◌==◌, List, [], ◌∷◌, ◌++◌, codes, filter, flat_map, length, slice_get, is_some, position, unwrap_or, option_map, Option, Some, None, if◌then◌else◌}
 use Rattle.std.specs.List.{find, list_any, range_with_len}
 use Rattle.std.specs.Option.{option_or}
 use Rattle.task_descriptor.specs.declared.descriptor.Descriptor.{Descriptor}
 use Rattle.task_descriptor.specs.declared.descriptor.Marked.{Marked}
 use Rattle.task_graph.specs.Edges.{is_indirect}
-use Rattle.mark_checker.specs.Rules.{stops_always, rules}
-use Rattle.mark_checker.specs.declared.finding.Rule.{Rule}
-use Rattle.mark_checker.specs.declared.finding.Rule.TheVariants as rule
+use Rattle.mark_checker.specs.Rules.{stops_always}
 use Rattle.diagnostics.specs.declared.diagnostic.Help.{Help}
 use Rattle.exit_diagnostics.specs.declared.remark.StopRemark.{StopRemark}
 use Rattle.exit_diagnostics.specs.declared.remark.StopRemark.TheVariants.{NeverRuns, NoExit, NotTaken, GoesInto}
 use Rattle.mark_subjects.specs.Subjects.{Judged, targets_of, entries_of, targets_text, exit_end, targets_span}
 use Rattle.mark_subjects.specs.Parts.{in_words, by_text}
-use Rattle.mark_subjects.specs.Stops.{stop_put, into, missing_stop}
+use Rattle.mark_subjects.specs.Stops.{into}
 use Rattle.mark_subjects.specs.Steps.{end_help}
 use Rattle.mark_subjects.specs.Targets.{entries_listed, is_target, may_stop}
 use Rattle.exit_diagnostics.specs.Exits.{is_taken}
@@ -74,11 +72,25 @@ not_taken_help s task =
 abbrev pub has_untaken : Judged → (task : ℕ) → Bool
 has_untaken s task = list_any (λ j. not (is_taken s task j)) (targets_of s task)
 
+-- Where exits take all targets, an instruction that goes on into one without a stop.
+
+abbrev pub step_by : (task index : ℕ) → Option ℕ → List StopRemark
+step_by task i None = []
+step_by task i (Some b) = GoesInto task i b ∷ []
+
+-- the first instruction of a task that does so
+abbrev pub step_at : Judged → (task : ℕ) → Option ℕ → List StopRemark
+step_at s task None = []
+step_at s task (Some i) = step_by task i (target_at s task i)
+
+abbrev pub of_step : Judged → (task : ℕ) → List StopRemark
+of_step s task = step_at s task (first_end s task)
+
 -- what is remarked of the exits of a task that has targets
 abbrev pub of_exits : Judged → (task : ℕ) → List StopRemark
 of_exits s task =
     if not (list_any (λ e. exits s e.0) (entries_of s task)) then NoExit task ∷ []
-    else if list_any (λ e. exits_anywhere s e.0) (entries_of s task) || not (has_untaken s task) then []
+    else if list_any (λ e. exits_anywhere s e.0) (entries_of s task) || not (has_untaken s task) then of_step s task
     else NotTaken task ∷ []
 
 abbrev pub of_targets : List ℕ → Judged → (task : ℕ) → List StopRemark
@@ -103,50 +115,9 @@ never_runs s task = not (s.program.start == entry_of s task) && not (list_any (f
 abbrev pub of_start : Judged → (task : ℕ) → List StopRemark
 of_start s task = if never_runs s task then NeverRuns task ∷ [] else []
 
--- An instruction that goes on into the first instruction of a task.
+-- What is remarked of a program, one task after another; of each at most two things.
+abbrev pub of_task : Judged → (task : ℕ) → List StopRemark
+of_task s task = of_start s task ++ of_targets (targets_of s task) s task
 
-abbrev pub entered_task : Judged → (index : ℕ) → Option ℕ
-entered_task s i = option_or (into s i false) (into s i true)
-
--- of a task, its first instruction that does so
-abbrev pub step_by : (task index : ℕ) → Option ℕ → List StopRemark
-step_by task i None = []
-step_by task i (Some b) = GoesInto task i b ∷ []
-
-abbrev pub first_step : Judged → (task : ℕ) → Option ℕ
-first_step s task = option_map (λ e. e.0) (find (λ e. is_some (entered_task s e.0)) (entries_of s task))
-
-abbrev pub step_at : Judged → (task : ℕ) → Option ℕ → List StopRemark
-step_at s task None = []
-step_at s task (Some i) = step_by task i (entered_task s i)
-
-abbrev pub of_step : Judged → (task : ℕ) → List StopRemark
-of_step s task = step_at s task (first_step s task)
-
-abbrev pub into_help : Judged → (index : ℕ) → Help
-into_help s i = record {
-  message = codes "write " ++ (missing_stop s i ++ codes " here, if the task is to end");
-  replacements = stop_put s i (missing_stop s i) ∷ [];
-}
-
--- A step into a task is common in sound programs. So it is remarked where all remarks are wanted, else only of a task
--- of which a finding may come of a forgotten stop: one of the rules 5, 6 and 7.
-abbrev pub may_lack_stop : Rule → Bool
-may_lack_stop rule.ExceedsCreate = true
-may_lack_stop rule.ForwardedInNext = true
-may_lack_stop rule.ReleasedInNext = true
-may_lack_stop _ = false
-
-abbrev pub is_asked : Judged → (all : Bool) → (task : ℕ) → Bool
-is_asked s all task = all || list_any (λ f. may_lack_stop f.rule) (rules s.program s.least task)
-
-abbrev pub step_if : (asked : Bool) → Judged → (task : ℕ) → List StopRemark
-step_if false s task = []
-step_if true s task = of_step s task
-
--- What is remarked of a program, one task after another; of each at most three things.
-abbrev pub of_task : Judged → (all : Bool) → (task : ℕ) → List StopRemark
-of_task s all task = of_start s task ++ (of_targets (targets_of s task) s task ++ step_if (is_asked s all task) s task)
-
-abbrev pub stop_remarks : Judged → (all : Bool) → List StopRemark
-stop_remarks s all = flat_map (of_task s all) (range_with_len 0 (length s.program.tasks))
+abbrev pub stop_remarks : Judged → List StopRemark
+stop_remarks s = flat_map (of_task s) (range_with_len 0 (length s.program.tasks))

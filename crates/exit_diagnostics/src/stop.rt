@@ -8,17 +8,14 @@ ghost use Rattle.mark_checker.specs.Rules.{stops_always as stops_always_of};
 ghost use Rattle.mark_subjects.specs.Subjects.{targets_of, entries_of};
 ghost use Rattle.mark_subjects.specs.Targets.{entries_listed as entries_listed_of};
 ghost use Rattle.exit_diagnostics.specs.Exits.{is_taken as is_taken_of};
-ghost use Rattle.exit_diagnostics.specs.Remarks.{exits_anywhere, exits, target_into, target_at, may_end_at, first_end, end_at, no_exit_help, untaken, first_untaken, not_taken_help, has_untaken, entry_of, follows, never_runs, entered_task, first_step, into_help, may_lack_stop, is_asked};
+ghost use Rattle.exit_diagnostics.specs.Remarks.{exits_anywhere, exits, target_into, target_at, may_end_at, first_end, end_at, no_exit_help, untaken, first_untaken, not_taken_help, has_untaken, entry_of, follows, never_runs};
 
 use crate::exit::is_taken;
 use diagnostics::diagnostic::Help;
-use diagnostics::listed::Listed;
 use diagnostics::words;
 use diagnostics::words::Words;
-use mark_checker::check::check_task;
-use mark_checker::finding::{Finding, Rule};
 use mark_subjects::parts::{by_text, in_words, targets_words};
-use mark_subjects::put_stop::{into, missing_stop, stop_put};
+use mark_subjects::put_stop::into;
 use mark_subjects::step::end_help;
 use mark_subjects::subject::{Made, Subject};
 use mark_subjects::targets::{entries_listed, is_among, is_target, may_stop};
@@ -89,7 +86,7 @@ fn target_into(subject: &Subject, task: u32, place: Option<u32>) -> Option<u32>
 }
 
 /// The target into which an instruction goes on.
-fn target_at(subject: &Subject, task: u32, index: u32) -> Option<u32>
+pub fn target_at(subject: &Subject, task: u32, index: u32) -> Option<u32>
     ensures { result ≡ target_at subject.now task index }
 {
     let onward = target_into(subject, task, into(subject, index, false));
@@ -113,8 +110,8 @@ fn ending_entry<'a>(subject: &'a Subject, task: u32) -> Option<&'a (u32, RegSet)
         .find(|entry| may_end_at(subject, task, entry.0))
 }
 
-/// The index of that instruction.
-fn first_end(subject: &Subject, task: u32) -> Option<u32>
+/// The index of the first instruction of a task at which it may end.
+pub fn first_end(subject: &Subject, task: u32) -> Option<u32>
     ensures { result ≡ first_end subject.now task }
 {
     match ending_entry(subject, task) {
@@ -240,77 +237,4 @@ pub fn never_runs(subject: &Subject, task: u32) -> bool
 {
     let entry = entry_of(subject, task);
     subject.program().start().get() != entry && !is_followed(subject, entry)
-}
-
-/// The task into which an instruction goes on.
-pub fn entered_task(subject: &Subject, index: u32) -> Option<u32>
-    ensures { result ≡ entered_task subject.now index }
-{
-    into(subject, index, false).or(into(subject, index, true))
-}
-
-/// Whether an instruction goes on into a task.
-fn enters(subject: &Subject, index: u32) -> bool
-    ensures { result ≡ is_some (entered_task subject.now index) }
-{
-    entered_task(subject, index).is_some()
-}
-
-/// The first instruction of a task that goes on into a task.
-fn first_entry<'a>(subject: &'a Subject, task: u32) -> Option<&'a (u32, RegSet)>
-    ensures { option_copied result ≡ find (λ e. is_some (entered_task subject.now e.0)) (entries_of subject.now task) }
-{
-    let entries = subject.entries(task);
-    entries.iter().find(|entry| enters(subject, entry.0))
-}
-
-/// The index of the first instruction of a task that goes on into a task.
-pub fn first_step(subject: &Subject, task: u32) -> Option<u32>
-    ensures { result ≡ first_step subject.now task }
-{
-    match first_entry(subject, task) {
-        Some(entry) => Some(entry.0),
-        None => None,
-    }
-}
-
-/// What to do about an instruction that goes on into a task.
-pub fn into_help(subject: &Subject, index: u32) -> Made<Help>
-    ensures { IfOk result (λ help. help ≡ into_help subject.now index) }
-{
-    let word = missing_stop(subject, index);
-    let mut replacements = Vec::new(subject.alloc());
-    replacements.push(stop_put(subject, index, word)?)?;
-    Ok(Help {
-        message: words!(in subject.alloc(); "write {word} here, if the task is to end")?,
-        replacements: Listed::new(replacements),
-    })
-}
-
-/// Whether a finding of this rule may come of a forgotten stop.
-fn may_lack_stop(rule: Rule) -> bool
-    ensures { result ≡ may_lack_stop rule }
-{
-    matches!(
-        rule,
-        Rule::ExceedsCreate | Rule::ForwardedInNext | Rule::ReleasedInNext
-    )
-}
-
-/// Whether one of some findings may come of a forgotten stop.
-fn some_may_lack(findings: &[Finding]) -> bool
-    ensures { result ≡ list_any (λ f. may_lack_stop f.rule) findings.now }
-{
-    findings.iter().any(|finding| may_lack_stop(finding.rule))
-}
-
-/// Whether all is remarked of a task.
-pub fn is_asked(subject: &Subject, all: bool, task: u32) -> Made<bool>
-    ensures { IfOk result (λ asked. asked ≡ is_asked subject.now all task) }
-{
-    if all {
-        return Ok(true);
-    }
-    let found = check_task(subject.alloc(), subject.program(), subject.least(), task)?;
-    Ok(some_may_lack(&found))
 }

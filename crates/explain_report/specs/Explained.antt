@@ -24,7 +24,7 @@ said_status (d ∷ ds) = 1
 -- what could be better about marks, where that is asked for
 abbrev pub AreWarned : (asked : Bool) → (text : List ℕ) → Listing → List Diagnostic → Type 0
 AreWarned false text p said = said ≡ []
-AreWarned true text p said = (least : List (List (ℕ × ℕ))) × IsLeast p least × AreMarkWarnings text p least false said
+AreWarned true text p said = (least : List (List (ℕ × ℕ))) × IsLeast p least × AreMarkWarnings text p least said
 
 -- what is wrong with the text of an event script for a program, if a file of one is named
 abbrev pub script_said : (file : Option (List ℕ)) → Listing → (script : List ℕ) → List Diagnostic

@@ -187,7 +187,7 @@ fn all_warnings(
     requires least { IsLeast program.now least.now }
     ensures { IfOk result (λ list. AreWarned true text.now program.now list.items) }
 {
-    let list = mark_warnings(alloc, text, program, least, false)?;
+    let list = mark_warnings(alloc, text, program, least)?;
     Ok(list)
 }
 

@@ -22,14 +22,16 @@ use Rattle.exit_diagnostics.specs.declared.remark.StopRemark.{StopRemark}
 use Rattle.exit_diagnostics.specs.declared.remark.StopRemark.TheVariants.{NeverRuns, NoExit, NotTaken, GoesInto}
 use Rattle.mark_subjects.specs.Subjects.{Judged, IsJudged, registers_text, which, task_name, place_text, places_text, releases, is_end, instruction_span, task_span, create_span, targets_span, target_span}
 use Rattle.mark_subjects.specs.Parts.{in_words}
+use Rattle.mark_subjects.specs.Steps.{end_help}
+use Rattle.mark_subjects.specs.Stops.{missing_stop}
 use Rattle.mark_diagnostics.specs.Told.{most_shown}
 use Rattle.mark_diagnostics.specs.Masks.{create_help}
-use Rattle.mark_diagnostics.specs.Releases.{release_text, in_place, release_written}
+use Rattle.mark_diagnostics.specs.Releases.{names_no_index, release_text, in_place, release_written}
 use Rattle.exit_diagnostics.specs.Calls.{back}
 use Rattle.exit_diagnostics.specs.Slots.{is_slot, slot_text}
 use Rattle.mark_diagnostics.specs.Together.{told_marks}
 use Rattle.mark_diagnostics.specs.Updates.{released_next, update_text, update_help}
-use Rattle.exit_diagnostics.specs.Remarks.{untaken, first_untaken, not_taken_help, no_exit_help, into_help, stop_remarks}
+use Rattle.exit_diagnostics.specs.Remarks.{untaken, first_untaken, not_taken_help, no_exit_help, stop_remarks}
 use Rattle.exit_diagnostics.specs.Returning.{never_runs_help}
 use Rattle.mark_subjects.specs.More.{more_note}
 
@@ -98,9 +100,9 @@ costly_text s list (NotForwarded index) = update_text s index (released_next s i
 costly_text s list (SentBefore index register) = before_text s (sent_before s list index)
 costly_text s list (Unreached index) = codes "no task reaches the code from here on"
 
-abbrev pub goes_into_text : (task into : List ℕ) → List ℕ
-goes_into_text task into =
-    codes "task " ++ (task ++ (codes " goes on into task " ++ (into ++ codes " without a stop; was !s meant here?")))
+abbrev pub goes_into_text : (task into word : List ℕ) → List ℕ
+goes_into_text task into word =
+    codes "task " ++ (task ++ (codes " goes on into task " ++ (into ++ (codes " without a stop; was " ++ (word ++ codes " meant here?")))))
 
 abbrev pub not_taken_text : (task places : List ℕ) → List ℕ
 not_taken_text task places =
@@ -114,7 +116,7 @@ abbrev pub stop_text : Judged → StopRemark → List ℕ
 stop_text s (NeverRuns task) = never_runs_text (task_name s task) (place_text s s.program.start)
 stop_text s (NoExit task) = codes "task " ++ (task_name s task ++ codes " has targets, but never reaches a stop")
 stop_text s (NotTaken task) = not_taken_text (task_name s task) (places_text s (untaken s task))
-stop_text s (GoesInto task index into) = goes_into_text (task_name s task) (task_name s into)
+stop_text s (GoesInto task index into) = goes_into_text (task_name s task) (task_name s into) (missing_stop s index)
 
 abbrev pub message_of : Judged → List CostlyMark → Remark → List ℕ
 message_of s list (Stop remark) = stop_text s remark
@@ -133,10 +135,18 @@ called_text line = codes "let a task begin here, as a target: the call on line "
 abbrev pub stretch_text : Judged → (index : ℕ) → (others : List ℕ) → List ℕ
 stretch_text s i others = if is_end (back s (i - 1)) i then called_text (instruction_span s (i - 1)).line else others
 
+-- words that propose to remove it, unless a place is given as @n, which would then be another
+abbrev pub removal : Judged → (words : List ℕ) → List ℕ
+removal s words = if names_no_index s.rows then words else []
+
+abbrev pub slot_unreached_text : Judged → (index : ℕ) → List ℕ
+slot_unreached_text s i =
+    slot_text (codes "it") (instruction_span s (i - 1)).line (stretch_text s i (codes "let a task go on to it" ++ removal s (codes ", or remove it")))
+
 abbrev pub unreached_text : Judged → (index : ℕ) → List ℕ
 unreached_text s i =
-    if is_slot s i then slot_text (codes "it") (instruction_span s (i - 1)).line (stretch_text s i (codes "let a task go on to it, or remove it"))
-    else stretch_text s i (codes "let a task go on to it; or remove it, up to the next instruction that a task reaches, if no label there is used")
+    if is_slot s i then slot_unreached_text s i
+    else stretch_text s i (codes "let a task go on to it" ++ removal s (codes "; or remove it, up to the next instruction that a task reaches, if no label there is used"))
 
 abbrev pub help_of : Judged → List CostlyMark → Remark → Help
 help_of s list (Costly (NeverProduced task register)) = create_help s task (produced s list task)
@@ -146,7 +156,7 @@ help_of s list (Costly (Unreached index)) = in_words (unreached_text s index)
 help_of s list (Stop (NeverRuns task)) = never_runs_help s task
 help_of s list (Stop (NoExit task)) = no_exit_help s task
 help_of s list (Stop (NotTaken task)) = not_taken_help s task
-help_of s list (Stop (GoesInto task index into)) = into_help s index
+help_of s list (Stop (GoesInto task index into)) = end_help s task index into
 
 abbrev pub warning : Judged → List CostlyMark → Remark → Diagnostic
 warning s list remark = record {
@@ -164,11 +174,11 @@ warnings s list remarks =
     map (warning s list) (take most_shown remarks) ++ more_note (length remarks - most_shown) (codes "warning") (codes "warnings")
 
 -- The diagnostics say where a stop may be forgotten, and then which marks cost speed.
-pub record AreMarkWarnings (text : List ℕ) (p : Listing) (least : List (List (ℕ × ℕ))) (all : Bool) (said : List Diagnostic) : Type 0 where
+pub record AreMarkWarnings (text : List ℕ) (p : Listing) (least : List (List (ℕ × ℕ))) (said : List Diagnostic) : Type 0 where
   pub judged : Judged
   pub of_text : IsJudged text judged
   pub of_program : judged.program ≡ p
   pub of_least : judged.least ≡ least
   pub list : List CostlyMark
   pub costly : Picked (IsCostly p) (candidates p) list
-  pub is : said ≡ warnings judged list (map Stop (stop_remarks judged all) ++ map Costly (told_marks list))
+  pub is : said ≡ warnings judged list (map Stop (stop_remarks judged) ++ map Costly (told_marks list))

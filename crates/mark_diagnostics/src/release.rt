@@ -21,7 +21,7 @@ fn has_no_index(row: &[u8]) -> bool
 }
 
 /// Whether a text gives no place as @n.
-fn names_no_index(rows: &[&[u8]]) -> bool
+pub(crate) fn names_no_index(rows: &[&[u8]]) -> bool
     ensures { result ≡ names_no_index (each (λ row. row.now) rows.now) }
 {
     let mut rest = rows;

@@ -6,11 +6,11 @@ ghost use Rattle.annotated_asm.specs.ProgramText.{parse};
 ghost use Rattle.annotator.specs.Least.{IsLeast};
 ghost use Rattle.mark_subjects.specs.Subjects.{targets_of, releases};
 ghost use Rattle.exit_diagnostics.specs.Remarks.{of_targets, of_start, of_step, of_task, stop_remarks};
-ghost use Rattle.mark_diagnostics.specs.Warnings.{code_of, span_of, never_text, was, sent_text, before_text, costly_text, goes_into_text, never_runs_text, not_taken_text, stop_text, message_of, is_never, created_in, produced, not_produced, is_before, still_released, sent_before, before_help, called_text, stretch_text, unreached_text, help_of, warning, warnings, AreMarkWarnings};
+ghost use Rattle.mark_diagnostics.specs.Warnings.{code_of, span_of, never_text, was, sent_text, before_text, costly_text, goes_into_text, never_runs_text, not_taken_text, stop_text, message_of, is_never, created_in, produced, not_produced, is_before, still_released, sent_before, before_help, called_text, stretch_text, removal, slot_unreached_text, unreached_text, help_of, warning, warnings, AreMarkWarnings};
 
 use crate::error::MOST_SHOWN;
 use crate::mask::create_help;
-use crate::release::{in_place, release_words, release_written};
+use crate::release::{in_place, names_no_index, release_words, release_written};
 use crate::together::told_marks;
 use crate::update::{update_help, update_words};
 use diagnostics::code::Code;
@@ -23,14 +23,16 @@ use exit_diagnostics::remark::{Remark, StopRemark};
 use exit_diagnostics::returning::never_runs_help;
 use exit_diagnostics::slot::{is_slot, slot_words};
 use exit_diagnostics::stop::{
-    entered_task, first_step, first_untaken, has_exit, has_indirect_exit, has_untaken, into_help,
-    is_asked, never_runs, no_exit_help, not_taken_help, untaken,
+    first_end, first_untaken, has_exit, has_indirect_exit, has_untaken, never_runs, no_exit_help,
+    not_taken_help, target_at, untaken,
 };
 use finding_paths::mark::CostlyMark;
 use finding_paths::search::costly_marks;
 use mark_subjects::parts::{
     add_more, first_of, in_words, place_words, places_words, registers_where, registers_words,
 };
+use mark_subjects::put_stop::missing_stop;
+use mark_subjects::step::end_help;
 use mark_subjects::subject::{Made, Subject, has_number, is_end};
 use mask_certificate::certificate::Cert;
 use std::alloc::{AllocError, Global};
@@ -249,11 +251,11 @@ fn costly_words(subject: &Subject, list: &[CostlyMark], mark: &CostlyMark) -> Ma
     }
 }
 
-/// The message about a step into a task.
-fn goes_into_words(alloc: Global, task: &str, into: &str) -> Made<Words>
-    ensures { IfOk result (λ words. words ≡ goes_into_text task.now into.now) }
+/// The message about a step into a target.
+fn goes_into_words(alloc: Global, task: &str, into: &str, word: &str) -> Made<Words>
+    ensures { IfOk result (λ words. words ≡ goes_into_text task.now into.now word.now) }
 {
-    words!(in alloc; "task {task} goes on into task {into} without a stop; was !s meant here?")
+    words!(in alloc; "task {task} goes on into task {into} without a stop; was {word} meant here?")
 }
 
 /// The message about a task that never runs.
@@ -290,8 +292,9 @@ fn stop_words(subject: &Subject, remark: &StopRemark) -> Made<Words>
             let list = places_words(subject, &untaken)?;
             not_taken_words(alloc, name, list.as_str())
         }
-        StopRemark::GoesInto { task, into, .. } => {
-            goes_into_words(alloc, subject.task(*task), subject.task(*into))
+        StopRemark::GoesInto { task, index, into } => {
+            let word = missing_stop(subject, *index);
+            goes_into_words(alloc, subject.task(*task), subject.task(*into), word)
         }
     }
 }
@@ -337,20 +340,41 @@ fn stretch_words(subject: &Subject, index: u32, others: &str) -> Made<Words>
     Words::of(subject.alloc(), others)
 }
 
+/// Words that propose to remove an instruction, unless a place is given as @n, which would then be another.
+fn removal<'w>(subject: &Subject, words: &'w str) -> &'w str
+    ensures { result.now ≡ removal subject.now words.now }
+{
+    if names_no_index(subject.rows()) {
+        words
+    } else {
+        ""
+    }
+}
+
+/// What to do about one instruction that may be meant as a delay slot.
+fn slot_unreached(subject: &Subject, index: u32) -> Made<Words>
+    ensures { IfOk result (λ words. words ≡ slot_unreached_text subject.now index) }
+{
+    let rest = removal(subject, ", or remove it");
+    let others = words!(in subject.alloc(); "let a task go on to it{rest}")?;
+    let rest = stretch_words(subject, index, others.as_str())?;
+    let line = subject.span(index.saturating_sub(1)).line;
+    slot_words(subject.alloc(), "it", line, rest.as_str())
+}
+
 /// What to do about code that no task reaches.
 fn unreached_words(subject: &Subject, index: u32) -> Made<Words>
     ensures { IfOk result (λ words. words ≡ unreached_text subject.now index) }
 {
     if is_slot(subject, index) {
-        let line = subject.span(index.saturating_sub(1)).line;
-        let rest = stretch_words(subject, index, "let a task go on to it, or remove it")?;
-        return slot_words(subject.alloc(), "it", line, rest.as_str());
+        return slot_unreached(subject, index);
     }
-    stretch_words(
+    let rest = removal(
         subject,
-        index,
-        "let a task go on to it; or remove it, up to the next instruction that a task reaches, if no label there is used",
-    )
+        "; or remove it, up to the next instruction that a task reaches, if no label there is used",
+    );
+    let others = words!(in subject.alloc(); "let a task go on to it{rest}")?;
+    stretch_words(subject, index, others.as_str())
 }
 
 /// What to do about a remark. Of registers of one create mask, and of one release, each help mends all of the list.
@@ -374,7 +398,9 @@ fn help_of(subject: &Subject, list: &[CostlyMark], remark: &Remark) -> Made<Help
         Remark::Stop(StopRemark::NeverRuns(task)) => never_runs_help(subject, *task),
         Remark::Stop(StopRemark::NoExit(task)) => no_exit_help(subject, *task),
         Remark::Stop(StopRemark::NotTaken(task)) => not_taken_help(subject, *task),
-        Remark::Stop(StopRemark::GoesInto { index, .. }) => into_help(subject, *index),
+        Remark::Stop(StopRemark::GoesInto { task, index, into }) => {
+            end_help(subject, *task, *index, *into)
+        }
     }
 }
 
@@ -416,6 +442,20 @@ fn warnings(subject: &Subject, list: &[CostlyMark], remarks: &[Remark]) -> Made<
     Ok(said)
 }
 
+/// Adds what is remarked of a task's first instruction that goes on into a target.
+fn add_of_step(subject: &Subject, list: &mut Vec<StopRemark>, task: u32) -> Made<()>
+    ensures { OnOk result (list.new.items ≡ list.old.items ++ of_step subject.now task) }
+{
+    let Some(index) = first_end(subject, task) else {
+        return Ok(());
+    };
+    let Some(into) = target_at(subject, task, index) else {
+        return Ok(());
+    };
+    list.push(StopRemark::GoesInto { task, index, into })?;
+    Ok(())
+}
+
 /// Adds what is remarked of the exits of a task.
 fn add_of_exits(subject: &Subject, list: &mut Vec<StopRemark>, task: u32) -> Made<()>
     ensures { OnOk result (list.new.items ≡ list.old.items ++ of_targets (targets_of subject.now task) subject.now task) }
@@ -428,23 +468,9 @@ fn add_of_exits(subject: &Subject, list: &mut Vec<StopRemark>, task: u32) -> Mad
         return Ok(());
     }
     if has_indirect_exit(subject, task) || !has_untaken(subject, task) {
-        return Ok(());
+        return add_of_step(subject, list, task);
     }
     list.push(StopRemark::NotTaken(task))?;
-    Ok(())
-}
-
-/// Adds what is remarked of a task's first instruction that goes on into a task.
-fn add_of_step(subject: &Subject, list: &mut Vec<StopRemark>, task: u32) -> Made<()>
-    ensures { OnOk result (list.new.items ≡ list.old.items ++ of_step subject.now task) }
-{
-    let Some(index) = first_step(subject, task) else {
-        return Ok(());
-    };
-    let Some(into) = entered_task(subject, index) else {
-        return Ok(());
-    };
-    list.push(StopRemark::GoesInto { task, index, into })?;
     Ok(())
 }
 
@@ -459,26 +485,21 @@ fn add_of_start(subject: &Subject, list: &mut Vec<StopRemark>, task: u32) -> Mad
 }
 
 /// Adds what is remarked of a task.
-fn add_of_task(subject: &Subject, list: &mut Vec<StopRemark>, all: bool, task: u32) -> Made<()>
-    ensures { OnOk result (list.new.items ≡ list.old.items ++ of_task subject.now all task) }
+fn add_of_task(subject: &Subject, list: &mut Vec<StopRemark>, task: u32) -> Made<()>
+    ensures { OnOk result (list.new.items ≡ list.old.items ++ of_task subject.now task) }
 {
-    let asked = is_asked(subject, all, task)?;
     add_of_start(subject, list, task)?;
-    add_of_exits(subject, list, task)?;
-    if !asked {
-        return Ok(());
-    }
-    add_of_step(subject, list, task)
+    add_of_exits(subject, list, task)
 }
 
-/// What is remarked of a program, one task after another; of each at most three things.
-fn stop_remarks(subject: &Subject, all: bool) -> Made<Vec<StopRemark>>
-    ensures { IfOk result (λ list. list.items ≡ stop_remarks subject.now all) }
+/// What is remarked of a program, one task after another; of each at most two things.
+fn stop_remarks(subject: &Subject) -> Made<Vec<StopRemark>>
+    ensures { IfOk result (λ list. list.items ≡ stop_remarks subject.now) }
 {
     let mut list = Vec::new(subject.alloc());
     let program = subject.program();
     for task in 0..program.tasks().len() {
-        add_of_task(subject, &mut list, all, task as u32)?;
+        add_of_task(subject, &mut list, task as u32)?;
     }
     Ok(list)
 }
@@ -507,8 +528,7 @@ fn all_remarks(alloc: Global, stops: &[StopRemark], list: &[CostlyMark]) -> Made
 
 /// What could be better about the marks of the program that a text spells: where a stop or a way to a task may be
 /// forgotten, and which marks cost speed, of one create mask or one release all at once; of the first `MOST_SHOWN`,
-/// and how many more there are. `least` is the program's least certificate. Without `all`, a step into a task is
-/// reported only of a task that has a finding of rule 5, 6 or 7.
+/// and how many more there are. `least` is the program's least certificate.
 ///
 /// # Errors
 ///
@@ -518,15 +538,14 @@ pub fn mark_warnings(
     text: &[u8],
     program: &Program,
     least: &Cert,
-    all: bool,
 ) -> Result<Vec<Diagnostic>, AllocError>
     requires spelled { parse text.now ≡ Ok program.now }
     requires least { IsLeast program.now least.now }
-    ensures { IfOk result (λ said. AreMarkWarnings text.now program.now least.now all said.items) }
+    ensures { IfOk result (λ said. AreMarkWarnings text.now program.now least.now said.items) }
 {
     let list = costly_marks(alloc, program, least)?;
     let subject = Subject::read(alloc, text, program, least)?;
-    let stops = stop_remarks(&subject, all)?;
+    let stops = stop_remarks(&subject)?;
     let told = told_marks(alloc, &list)?;
     let remarks = all_remarks(alloc, &stops, &told)?;
     let said = warnings(&subject, &list, &remarks)?;

@@ -132,7 +132,7 @@ fn told(alloc: Global, warns: bool, text: &[u8]) -> Option<Vec<Diagnostic>> {
     let program = assemble(alloc, text).ok()?;
     let least = certify(alloc, &program).ok()?;
     if warns {
-        mark_warnings(alloc, text, &program, &least, false).ok()
+        mark_warnings(alloc, text, &program, &least).ok()
     } else {
         mark_errors(alloc, text, &program, &least).ok()
     }

@@ -14,10 +14,10 @@ returns c =
     let s = c.in_ok-subject.subject in
     let list = c.in_ok-list.list.items in
     let told : c.in_ok-told.told.items ≡ told_marks list = c.in_ok-told.ensures ∙ ap (λ (ms : List CostlyMark). told_marks ms) c.deref.ensures.value in
-    let remarks : c.in_ok-remarks.remarks.items ≡ map (λ (r : StopRemark). Stop r) (stop_remarks s c.args.all) ++ map (λ (m : CostlyMark). Costly m) (told_marks list) =
+    let remarks : c.in_ok-remarks.remarks.items ≡ map (λ (r : StopRemark). Stop r) (stop_remarks s) ++ map (λ (m : CostlyMark). Costly m) (told_marks list) =
     c.in_ok-remarks.ensures
     ∙ ap (λ (rs : List StopRemark). map (λ (r : StopRemark). Stop r) rs ++ map (λ (m : CostlyMark). Costly m) c.deref-3.result.now) (c.deref-2.ensures.value ∙ c.in_ok-stops.ensures)
-    ∙ ap (λ (ms : List CostlyMark). map (λ (r : StopRemark). Stop r) (stop_remarks s c.args.all) ++ map (λ (m : CostlyMark). Costly m) ms) (c.deref-3.ensures.value ∙ told) in
+    ∙ ap (λ (ms : List CostlyMark). map (λ (r : StopRemark). Stop r) (stop_remarks s) ++ map (λ (m : CostlyMark). Costly m) ms) (c.deref-3.ensures.value ∙ told) in
     record {
       judged = s;
       of_text = c.in_ok-subject.ensures.judged;
