@@ -11,7 +11,7 @@ text{fill:#1f2933;font-size:14px;pointer-events:none}line{pointer-events:none}
 .paper,.idle{fill:#fff}.idle{stroke:#cbd2d9}.lane{fill:#f4f6f9}.grid{stroke:#dde3e9}.axis{stroke:#7b8794;stroke-width:1.5}
 .retired,.halted{fill:#cfe8d5;stroke:#2f6b4a}.squashed{fill:url(#hatched);stroke:#b0402a}.dropped{fill:url(#dotted);stroke:#7d5f10}
 .unfinished{fill:#d8e4f5;stroke:#34588f;stroke-dasharray:5 3}.retired,.squashed,.dropped,.unfinished{stroke-width:1.5}.halted{stroke-width:4}
-.share{stroke:none}.share,.wait{shape-rendering:crispEdges}.needs{fill:#d9822b}.turn{fill:url(#upright)}.pass{fill:url(#level)}.squash{fill:#b0402a;stroke:#fff}
+.share{stroke-width:0}.share,.wait{shape-rendering:crispEdges}.needs{fill:#d9822b}.turn{fill:url(#upright)}.pass{fill:url(#level)}.squash{fill:#b0402a;stroke:#fff}
 .instruction{stroke:#1f2933;stroke-width:1.6}.transfer{stroke:#52606d;stroke-width:1.3;marker-end:url(#head);pointer-events:stroke}.head,.register{fill:#52606d}.register{font-size:12px}
 .rose{fill:#fae3dc}.red{stroke:#e09a86}.sand{fill:#f6edd0}.ochre{fill:#a98a35}.mist{fill:#e4e9ee}.slate{stroke:#52606d}.lilac{fill:#eadcf8}.violet{stroke:#7a4fb0}
 @media (prefers-color-scheme:dark){
