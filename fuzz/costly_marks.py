@@ -87,7 +87,7 @@ def steps_into(program, i):
     """The tasks into whose first instruction one goes on without a stop, when a branch is not taken and when it is."""
     op, _, stop = program.code[i]
     begins = {entry: k for k, (_, entry, _, _) in enumerate(program.tasks)}
-    ends = {taken: begins.get(j) for taken, j in edges(op, i) if not is_exit(stop, taken)}
+    ends = {bool(taken): begins.get(j) for taken, j in edges(op, i) if not is_exit(stop, taken)}
     return ends.get(False), ends.get(True)
 
 
@@ -237,12 +237,27 @@ def loosened(text):
     return text
 
 
+def forgotten_before(program, number):
+    """The target into which a task goes on first without a stop, if no exit takes it."""
+    found, unled = step(program, number), [program.tasks[number][3][k] for k in untaken(program, number)]
+    return found and next((j for j in [program.tasks[found[1]][1]] if j in unled), None)
+
+
+def is_left(program, new, warning):
+    """Whether a warning is there after a change. A stop before one target may leave another that no exit takes."""
+    kind, number, _ = warning
+    if kind == "untaken":
+        before = forgotten_before(program, number)
+        if before is not None:
+            return before in [new.tasks[number][3][k] for k in untaken(new, number)]
+    return warning[:2] in [it[:2] for it in [*warnings(new), *forgotten(new)]]
+
+
 def unmended(program, text, warning, after, was_right):
     """What is wrong after a change."""
     new = assemble(after.encode("latin-1"))
     is_shorter = len(new.code) < len(program.code)
-    left = [it[:2] for it in [*warnings(new), *forgotten(new)]]
-    if len(warnings(new)) >= len(warnings(program)) if is_shorter else warning[:2] in left:
+    if len(warnings(new)) >= len(warnings(program)) if is_shorter else is_left(program, new, warning):
         return f"{warning} is there after its change:\n{after}"
     if was_right and verdict(new, certify(new)):
         return f"wrong marks after the change of {warning}:\n{after}"

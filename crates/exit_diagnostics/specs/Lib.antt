@@ -3,4 +3,5 @@ pub mod Meant
 pub mod Exits
 pub mod Calls
 pub mod Remarks
+pub mod Entering
 pub mod Returning

@@ -17,6 +17,14 @@ use Rattle.mark_subjects.specs.Steps.{end_help}
 use Rattle.mark_subjects.specs.Targets.{entries_listed, is_target, may_stop}
 use Rattle.exit_diagnostics.specs.Exits.{is_taken}
 
+-- the index of a task's first instruction; 0 where there is no such task
+abbrev pub entry_in : Option Descriptor → ℕ
+entry_in None = 0
+entry_in (Some d) = d.entry
+
+abbrev pub entry_of : Judged → (task : ℕ) → ℕ
+entry_of s task = entry_in (slice_get s.program.tasks task)
+
 -- Exits of a task.
 
 -- a jump to an address in a register that ends the task may lead to any target
@@ -64,10 +72,23 @@ untaken s task = filter (λ j. not (is_taken s task j)) (targets_of s task)
 abbrev pub first_untaken : Judged → (task : ℕ) → ℕ
 first_untaken s task = unwrap_or (position (λ j. not (is_taken s task j)) (targets_of s task)) 0
 
-abbrev pub not_taken_help : Judged → (task : ℕ) → Help
-not_taken_help s task =
+-- the list of those that are taken
+abbrev pub fewer_help : Judged → (task : ℕ) → Help
+fewer_help s task =
     let text = targets_text s (filter (is_taken s task) (entries_listed s task)) in
     by_text (codes "is a stop missing? else write " ++ text) (targets_span s task) text
+
+-- first the stop where the task goes on into one that is not taken
+abbrev pub not_taken_at : Judged → (task index : ℕ) → Option ℕ → Help
+not_taken_at s task i None = fewer_help s task
+not_taken_at s task i (Some other) = if is_taken s task (entry_of s other) then fewer_help s task else end_help s task i other
+
+abbrev pub not_taken_by : Judged → (task : ℕ) → Option ℕ → Help
+not_taken_by s task None = fewer_help s task
+not_taken_by s task (Some i) = not_taken_at s task i (target_at s task i)
+
+abbrev pub not_taken_help : Judged → (task : ℕ) → Help
+not_taken_help s task = not_taken_by s task (first_end s task)
 
 abbrev pub has_untaken : Judged → (task : ℕ) → Bool
 has_untaken s task = list_any (λ j. not (is_taken s task j)) (targets_of s task)
@@ -98,13 +119,6 @@ of_targets [] s task = []
 of_targets (j ∷ js) s task = of_exits s task
 
 -- A task that never runs: the program starts elsewhere, and no other task has it as a target.
-
-abbrev pub entry_in : Option Descriptor → ℕ
-entry_in None = 0
-entry_in (Some d) = d.entry
-
-abbrev pub entry_of : Judged → (task : ℕ) → ℕ
-entry_of s task = entry_in (slice_get s.program.tasks task)
 
 abbrev pub follows : (entry : ℕ) → Descriptor → Bool
 follows entry d = not (d.entry == entry) && list_any (λ t. t == entry) d.targets

@@ -1,5 +1,5 @@
--- What to do about a task that never runs. Where a call returns to it, the task that is called may leave through jr, but not
--- list it as a target.
+-- What to do about a task that never runs. Where another goes on into it without a stop, that one may be meant to end there.
+-- Where a call returns to it, the task that is called may leave through jr, but not list it as a target.
 use Rattle.std.specs.Prelude.{ℕ, ◌-◌, Bool, true, false, not, ◌&&◌, ◌==◌, List, [], ◌∷◌, ◌++◌, codes, length, nat_lt, slice_get, Option, Some, None, if◌then◌else◌}
 use Rattle.std.specs.Fmt.{decimal}
 use Rattle.std.specs.List.{list_any}
@@ -11,9 +11,11 @@ use Rattle.diagnostics.specs.declared.diagnostic.Help.{Help}
 use Rattle.mark_subjects.specs.Subjects.{Judged, task_name, targets_of, entries_of, targets_text, is_end, instruction_span, targets_span}
 use Rattle.mark_subjects.specs.Parts.{in_words, by_text}
 use Rattle.mark_subjects.specs.Stops.{task_in}
+use Rattle.mark_subjects.specs.Steps.{end_help}
 use Rattle.mark_subjects.specs.Targets.{entries_listed}
 use Rattle.exit_diagnostics.specs.Calls.{back}
 use Rattle.exit_diagnostics.specs.Remarks.{entry_of}
+use Rattle.exit_diagnostics.specs.Entering.{step_into}
 
 abbrev pub is_return_op : Op → Bool
 is_return_op (JumpReg register) = true
@@ -80,9 +82,17 @@ abbrev pub returning_help : Judged → (task entry : ℕ) → (name : List ℕ) 
 returning_help s task entry name =
     let targets = returning_targets s task entry in by_text (returning_advice s task entry name targets) (targets_span s task) targets
 
-abbrev pub never_runs_by : Judged → (entry : ℕ) → (name : List ℕ) → Option ℕ → Help
-never_runs_by s entry name None = in_words (start_text name)
-never_runs_by s entry name (Some task) = returning_help s task entry name
+abbrev pub unlisted_by : Judged → (entry : ℕ) → (name : List ℕ) → Option ℕ → Help
+unlisted_by s entry name None = in_words (start_text name)
+unlisted_by s entry name (Some task) = returning_help s task entry name
+
+abbrev pub unlisted_help : Judged → (task : ℕ) → Help
+unlisted_help s task = unlisted_by s (entry_of s task) (task_name s task) (returning s (entry_of s task))
+
+-- first about a task that goes on into it
+abbrev pub never_runs_by : Judged → (task : ℕ) → Option (ℕ × ℕ) → Help
+never_runs_by s task None = unlisted_help s task
+never_runs_by s task (Some step) = end_help s step.0 step.1 task
 
 abbrev pub never_runs_help : Judged → (task : ℕ) → Help
-never_runs_help s task = never_runs_by s (entry_of s task) (task_name s task) (returning s (entry_of s task))
+never_runs_help s task = never_runs_by s task (step_into s task)

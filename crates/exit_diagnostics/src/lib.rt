@@ -3,6 +3,7 @@
 #![tactic(auto)]
 
 pub mod call;
+pub mod entering;
 pub mod exit;
 pub mod meant;
 pub mod meant_stop;

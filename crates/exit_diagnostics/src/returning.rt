@@ -1,15 +1,17 @@
-//! What to do about a task that never runs, to which a call may return.
+//! What to do about a task that never runs: another may be meant to end before it, or a call to return to it.
 
 ghost use Rattle.std.specs.Prelude.{◌≡◌, IfOk};
 ghost use Rattle.mark_subjects.specs.Stops.{task_in};
-ghost use Rattle.exit_diagnostics.specs.Returning.{is_return_op, is_return, callee_of, callee, leaves_by_jr, may_return, returning_by, returning, but_lists, leaves_text, returning_text, start_text, returning_targets, returning_advice, returning_help, never_runs_help};
+ghost use Rattle.exit_diagnostics.specs.Returning.{is_return_op, is_return, callee_of, callee, leaves_by_jr, may_return, returning_by, returning, but_lists, leaves_text, returning_text, start_text, returning_targets, returning_advice, returning_help, unlisted_help, never_runs_help};
 
 use crate::call::back;
+use crate::entering::step_into;
 use crate::stop::{entry_of, stops_always};
 use diagnostics::diagnostic::Help;
 use diagnostics::words;
 use diagnostics::words::Words;
 use mark_subjects::parts::{by_text, in_words, targets_words};
+use mark_subjects::step::end_help;
 use mark_subjects::subject::{Made, Subject, is_end};
 use mark_subjects::targets::entries_listed;
 use mips_instructions::instruction::Op;
@@ -178,9 +180,9 @@ fn returning_help(subject: &Subject, task: u32, entry: u32, name: &str) -> Made<
     )
 }
 
-/// What to do about a task that never runs: first about one that returns to it.
-pub fn never_runs_help(subject: &Subject, task: u32) -> Made<Help>
-    ensures { IfOk result (λ help. help ≡ never_runs_help subject.now task) }
+/// What to do about a task that no other lists: first about one that returns to it.
+fn unlisted_help(subject: &Subject, task: u32) -> Made<Help>
+    ensures { IfOk result (λ help. help ≡ unlisted_help subject.now task) }
 {
     let alloc = subject.alloc();
     let entry = entry_of(subject, task);
@@ -188,5 +190,15 @@ pub fn never_runs_help(subject: &Subject, task: u32) -> Made<Help>
     match returning(subject, entry) {
         Some(returns) => returning_help(subject, returns, entry, name),
         None => Ok(in_words(alloc, start_words(alloc, name)?)),
+    }
+}
+
+/// What to do about a task that never runs: first about one that goes on into it without a stop.
+pub fn never_runs_help(subject: &Subject, task: u32) -> Made<Help>
+    ensures { IfOk result (λ help. help ≡ never_runs_help subject.now task) }
+{
+    match step_into(subject, task) {
+        Some((other, index)) => end_help(subject, other, index, task),
+        None => unlisted_help(subject, task),
     }
 }

@@ -8,7 +8,7 @@ ghost use Rattle.mark_checker.specs.Rules.{stops_always as stops_always_of};
 ghost use Rattle.mark_subjects.specs.Subjects.{targets_of, entries_of};
 ghost use Rattle.mark_subjects.specs.Targets.{entries_listed as entries_listed_of};
 ghost use Rattle.exit_diagnostics.specs.Exits.{is_taken as is_taken_of};
-ghost use Rattle.exit_diagnostics.specs.Remarks.{exits_anywhere, exits, target_into, target_at, may_end_at, first_end, end_at, no_exit_help, untaken, first_untaken, not_taken_help, has_untaken, entry_of, follows, never_runs};
+ghost use Rattle.exit_diagnostics.specs.Remarks.{exits_anywhere, exits, target_into, target_at, may_end_at, first_end, end_at, no_exit_help, untaken, first_untaken, fewer_help, not_taken_at, not_taken_help, has_untaken, entry_of, follows, never_runs};
 
 use crate::exit::is_taken;
 use diagnostics::diagnostic::Help;
@@ -197,14 +197,36 @@ pub fn has_untaken(subject: &Subject, task: u32) -> bool
         .any(|target| !is_taken(subject, task, target.get()))
 }
 
-/// What to do about targets that no exit takes.
-pub fn not_taken_help(subject: &Subject, task: u32) -> Made<Help>
-    ensures { IfOk result (λ help. help ≡ not_taken_help subject.now task) }
+/// What to do about targets that no exit takes, where no stop to write is known.
+fn fewer_help(subject: &Subject, task: u32) -> Made<Help>
+    ensures { IfOk result (λ help. help ≡ fewer_help subject.now task) }
 {
     let taken = taken(subject, task)?;
     let text = targets_words(subject, &taken)?;
     let message = words!(in subject.alloc(); "is a stop missing? else write {text}")?;
     by_text(subject.alloc(), message, subject.targets_span(task), text)
+}
+
+/// What to do about such targets, if an instruction goes on into one of them.
+fn not_taken_at(subject: &Subject, task: u32, index: u32, place: Option<u32>) -> Made<Help>
+    ensures { IfOk result (λ help. help ≡ not_taken_at subject.now task index place) }
+{
+    match place {
+        Some(other) if !is_taken(subject, task, entry_of(subject, other)) => {
+            end_help(subject, task, index, other)
+        }
+        _ => fewer_help(subject, task),
+    }
+}
+
+/// What to do about targets that no exit takes: first about a stop before one of them.
+pub fn not_taken_help(subject: &Subject, task: u32) -> Made<Help>
+    ensures { IfOk result (λ help. help ≡ not_taken_help subject.now task) }
+{
+    match first_end(subject, task) {
+        Some(index) => not_taken_at(subject, task, index, target_at(subject, task, index)),
+        None => fewer_help(subject, task),
+    }
 }
 
 /// The index of a task's first instruction; 0 where there is no such task.

@@ -1,5 +1,5 @@
 -- A register that is sent too early, forwarded (rule 6) or released (rule 7): what to do, and where it is written again.
-use Rattle.std.specs.Prelude.{ℕ, Bool, true, false, not, ◌&&◌, ◌||◌, ◌==◌, nat_eq, nat_le, nat_lt, List, [], ◌∷◌, ◌++◌, codes, length, slice_get, Option, Some, None, if◌then◌else◌}
+use Rattle.std.specs.Prelude.{ℕ, Bool, true, false, not, ◌&&◌, ◌||◌, nat_eq, nat_le, nat_lt, List, [], ◌∷◌, ◌++◌, codes, length, slice_get, Option, Some, None, if◌then◌else◌}
 use Rattle.std.specs.Option.{option_or}
 use Rattle.std.specs.Fmt.{decimal}
 use Rattle.std.specs.Str.{byte}
@@ -27,10 +27,18 @@ abbrev pub written_from : Judged → (task : ℕ) → Option ℕ → (register :
 written_from s task None r = false
 written_from s task (Some j) r = nat_lt j (length s.program.code) && in_mask (mask_at (entries_of s task) j) r
 
+-- and after an instruction
+abbrev pub written_after : Judged → (task index register : ℕ) → Bool
+written_after s task i r = written_from s task (inner_end s i false) r || written_from s task (inner_end s i true) r
+
 -- a destination of the instruction that a forward bit must not send, since it may be written again (one that the create
 -- mask lacks is reported by itself)
 abbrev pub must_wait : Judged → (task : ℕ) → Marked → (index register : ℕ) → Bool
-must_wait s task m i r = dests m.op r && (written_from s task (inner_end s i false) r || written_from s task (inner_end s i true) r)
+must_wait s task m i r = dests m.op r && written_after s task i r
+
+-- a release that sends the register, which is not written after it
+abbrev pub releases_last : Judged → (task register index : ℕ) → Bool
+releases_last s task r i = releases s i r && not (written_after s task i r)
 
 abbrev pub is_none_left : List ℕ → Bool
 is_none_left [] = true
@@ -169,15 +177,15 @@ forward_help s f later = record {
   replacements = take_out (mark_span (byte "f") s.rows (instruction_span s f.index)) ++ put_bit s later;
 }
 
--- The register is taken out of the release.
+-- The register is taken out of the release, with all others that are released too early there.
 
--- the registers of a release without one
-abbrev pub kept : Judged → (index register : ℕ) → List ℕ
-kept s i r = which (λ q. releases s i q && not (q == r))
+-- the registers of a release that are not written after it
+abbrev pub kept : Judged → (task index : ℕ) → List ℕ
+kept s task i = which (λ r. releases s i r && not (written_after s task i r))
 
 abbrev pub release_help : Judged → Finding → Later → Help
 release_help s f later =
-    let text = release_text s f.index (kept s f.index (register_in f.reg)) in
+    let text = release_text s f.index (kept s f.task f.index) in
     record {
       message = whole_advice s f (in_place text (codes " here")) later;
       replacements = release_written s f.index text ∷ [] ++ put_bit s later;

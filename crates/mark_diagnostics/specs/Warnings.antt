@@ -139,14 +139,19 @@ stretch_text s i others = if is_end (back s (i - 1)) i then called_text (instruc
 abbrev pub removal : Judged → (words : List ℕ) → List ℕ
 removal s words = if names_no_index s.rows then words else []
 
+abbrev pub onward_text : Judged → (words : List ℕ) → List ℕ
+onward_text s words = codes "let a task go on to it" ++ removal s words
+
+abbrev pub slot_or_else : Judged → (index : ℕ) → (others : List ℕ) → List ℕ
+slot_or_else s i others = slot_text (codes "it") (instruction_span s (i - 1)).line (stretch_text s i others)
+
 abbrev pub slot_unreached_text : Judged → (index : ℕ) → List ℕ
-slot_unreached_text s i =
-    slot_text (codes "it") (instruction_span s (i - 1)).line (stretch_text s i (codes "let a task go on to it" ++ removal s (codes ", or remove it")))
+slot_unreached_text s i = slot_or_else s i (onward_text s (codes ", or remove it"))
 
 abbrev pub unreached_text : Judged → (index : ℕ) → List ℕ
 unreached_text s i =
     if is_slot s i then slot_unreached_text s i
-    else stretch_text s i (codes "let a task go on to it" ++ removal s (codes "; or remove it, up to the next instruction that a task reaches, if no label there is used"))
+    else stretch_text s i (onward_text s (codes "; or remove it, up to the next instruction that a task reaches, if no label there is used"))
 
 abbrev pub help_of : Judged → List CostlyMark → Remark → Help
 help_of s list (Costly (NeverProduced task register)) = create_help s task (produced s list task)

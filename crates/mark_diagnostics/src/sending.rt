@@ -2,7 +2,7 @@
 
 ghost use Rattle.std.specs.Prelude.{◌≡◌, ◌<◌, ◌++◌, IfOk, OnOk};
 ghost use Rattle.mark_subjects.specs.Subjects.{which};
-ghost use Rattle.mark_diagnostics.specs.Sending.{written_from, must_wait, is_none_left, may_forward, is_left, left_from, left_by, first_left, left_or, sent_by, put_or, later, put_bit, writes as writes_of, side_by, first_side, side, before_text, put_release, put_text, is_text, left_text, nowhere_text, advice, side_text, is_sent, beside, whole_advice, forward_help, kept, release_help, again_text, again_note, early_notes};
+ghost use Rattle.mark_diagnostics.specs.Sending.{written_from, written_after, releases_last, must_wait, is_none_left, may_forward, is_left, left_from, left_by, first_left, left_or, sent_by, put_or, later, put_bit, writes as writes_of, side_by, first_side, side, before_text, put_release, put_text, is_text, left_text, nowhere_text, advice, side_text, is_sent, beside, whole_advice, forward_help, kept, release_help, again_text, again_note, early_notes};
 
 use crate::later::Later;
 use crate::release::{in_place, release_words, release_written};
@@ -34,14 +34,29 @@ fn written_from(subject: &Subject, task: u32, end: Option<u32>, register: u8) ->
     }
 }
 
+/// Whether a register may be written by a task after an instruction.
+fn written_after(subject: &Subject, task: u32, index: u32, register: u8) -> bool
+    requires { register < 34 }
+    ensures { result ≡ written_after subject.now task index register }
+{
+    written_from(subject, task, subject.inner(index, false), register)
+        || written_from(subject, task, subject.inner(index, true), register)
+}
+
+/// Whether an instruction releases a register, and the task does not write it after that.
+fn releases_last(subject: &Subject, task: u32, register: u8, index: u32) -> bool
+    requires { register < 34 }
+    ensures { result ≡ releases_last subject.now task register index }
+{
+    subject.releases(index, register) && !written_after(subject, task, index, register)
+}
+
 /// Whether a register is a destination of an instruction that a forward bit must not send.
 fn must_wait(subject: &Subject, task: u32, marked: &Marked, index: u32, register: u8) -> bool
     requires { register < 34 }
     ensures { result ≡ must_wait subject.now task marked.now index register }
 {
-    has_number(marked.op.dests(), register)
-        && (written_from(subject, task, subject.inner(index, false), register)
-            || written_from(subject, task, subject.inner(index, true), register))
+    has_number(marked.op.dests(), register) && written_after(subject, task, index, register)
 }
 
 /// Whether there is no register.
@@ -370,12 +385,12 @@ pub(crate) fn forward_help(subject: &Subject, finding: &Finding, later: Later) -
     })
 }
 
-/// The registers of a release without one.
-fn kept(subject: &Subject, index: u32, register: u8) -> Made<Vec<u8>>
-    ensures { IfOk result (λ list. list.items ≡ kept subject.now index register) }
+/// The registers of a release that the task does not write after it.
+fn kept(subject: &Subject, task: u32, index: u32) -> Made<Vec<u8>>
+    ensures { IfOk result (λ list. list.items ≡ kept subject.now task index) }
 {
-    registers_where(subject.alloc(), |other| {
-        subject.releases(index, other) && other != register
+    registers_where(subject.alloc(), |register| {
+        releases_last(subject, task, register, index)
     })
 }
 
@@ -383,8 +398,7 @@ fn kept(subject: &Subject, index: u32, register: u8) -> Made<Vec<u8>>
 pub(crate) fn release_help(subject: &Subject, finding: &Finding, later: Later) -> Made<Help>
     ensures { IfOk result (λ help. help ≡ release_help subject.now finding.now later) }
 {
-    let register = register_in(finding.reg);
-    let kept = kept(subject, finding.index, register)?;
+    let kept = kept(subject, finding.task, finding.index)?;
     let text = release_words(subject, finding.index, &kept)?;
     let first = in_place(subject.alloc(), text.as_str(), " here")?;
     let mut replacements = Vec::new(subject.alloc());

@@ -6,7 +6,7 @@ ghost use Rattle.annotated_asm.specs.ProgramText.{parse};
 ghost use Rattle.annotator.specs.Least.{IsLeast};
 ghost use Rattle.mark_subjects.specs.Subjects.{targets_of, releases};
 ghost use Rattle.exit_diagnostics.specs.Remarks.{of_targets, of_start, of_step, of_task, stop_remarks};
-ghost use Rattle.mark_diagnostics.specs.Warnings.{code_of, span_of, never_text, was, sent_text, before_text, costly_text, goes_into_text, never_runs_text, not_taken_text, stop_text, message_of, is_never, created_in, produced, not_produced, is_before, still_released, sent_before, before_help, called_text, stretch_text, removal, slot_unreached_text, unreached_text, help_of, warning, warnings, AreMarkWarnings};
+ghost use Rattle.mark_diagnostics.specs.Warnings.{code_of, span_of, never_text, was, sent_text, before_text, costly_text, goes_into_text, never_runs_text, not_taken_text, stop_text, message_of, is_never, created_in, produced, not_produced, is_before, still_released, sent_before, before_help, called_text, stretch_text, removal, onward_text, slot_or_else, slot_unreached_text, unreached_text, help_of, warning, warnings, AreMarkWarnings};
 
 use crate::error::MOST_SHOWN;
 use crate::mask::create_help;
@@ -351,15 +351,29 @@ fn removal<'w>(subject: &Subject, words: &'w str) -> &'w str
     }
 }
 
-/// What to do about one instruction that may be meant as a delay slot.
+/// To let a task go on to code that no task reaches, with words that propose to remove it.
+fn onward_words(subject: &Subject, words: &str) -> Made<Words>
+    ensures { IfOk result (λ made. made ≡ onward_text subject.now words.now) }
+{
+    let rest = removal(subject, words);
+    words!(in subject.alloc(); "let a task go on to it{rest}")
+}
+
+/// To move an instruction that may be meant as a delay slot, or else.
+fn slot_or_else(subject: &Subject, index: u32, others: &str) -> Made<Words>
+    ensures { IfOk result (λ words. words ≡ slot_or_else subject.now index others.now) }
+{
+    let line = subject.span(index.saturating_sub(1)).line;
+    let rest = stretch_words(subject, index, others)?;
+    slot_words(subject.alloc(), "it", line, rest.as_str())
+}
+
+/// What to do about one instruction that no task reaches, and that may be meant as a delay slot.
 fn slot_unreached(subject: &Subject, index: u32) -> Made<Words>
     ensures { IfOk result (λ words. words ≡ slot_unreached_text subject.now index) }
 {
-    let rest = removal(subject, ", or remove it");
-    let others = words!(in subject.alloc(); "let a task go on to it{rest}")?;
-    let rest = stretch_words(subject, index, others.as_str())?;
-    let line = subject.span(index.saturating_sub(1)).line;
-    slot_words(subject.alloc(), "it", line, rest.as_str())
+    let others = onward_words(subject, ", or remove it")?;
+    slot_or_else(subject, index, others.as_str())
 }
 
 /// What to do about code that no task reaches.
@@ -369,11 +383,10 @@ fn unreached_words(subject: &Subject, index: u32) -> Made<Words>
     if is_slot(subject, index) {
         return slot_unreached(subject, index);
     }
-    let rest = removal(
+    let others = onward_words(
         subject,
         "; or remove it, up to the next instruction that a task reaches, if no label there is used",
-    );
-    let others = words!(in subject.alloc(); "let a task go on to it{rest}")?;
+    )?;
     stretch_words(subject, index, others.as_str())
 }
 
