@@ -7,3 +7,5 @@ pub mod Puts
 pub mod SeenUnits
 pub mod SeenExec
 pub mod SeenSteps
+pub mod UnitsTold
+pub mod LivesTold

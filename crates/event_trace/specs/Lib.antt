@@ -7,5 +7,6 @@ pub mod Following
 pub mod Ending
 pub mod Trace
 pub mod Seen
+pub mod LivesTold
 pub mod Laws
 pub mod Examples
