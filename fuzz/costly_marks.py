@@ -91,13 +91,20 @@ def steps_into(program, i):
     return ends.get(False), ends.get(True)
 
 
+def spares_others(program, number, i):
+    """Whether each other task that reaches an instruction lists the tasks into which it goes on there."""
+    entered = {program.tasks[k][1] for k in steps_into(program, i) if k is not None}
+    return all(entered <= set(targets) or i not in walk(program, [entry])
+               for k, (_, entry, _, targets) in enumerate(program.tasks) if k != number)
+
+
 def step(program, number):
     """A task's first instruction that goes on into a target without a stop, and where one can be put; with that target."""
     _, entry, _, targets = program.tasks[number]
     for i in sorted(walk(program, [entry])):
         tasks = [k for k in steps_into(program, i) if k is not None]
         listed = [k for k in tasks if program.tasks[k][1] in targets]
-        if listed and (len(listed) == len(tasks) or len(targets) < 15):
+        if listed and (len(listed) == len(tasks) or len(targets) < 15) and spares_others(program, number, i):
             return i, listed[0]
     return None
 

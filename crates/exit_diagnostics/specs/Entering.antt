@@ -1,15 +1,15 @@
--- Where a task goes on without a stop into another one: there it may be meant to end, if its targets are not too many.
+-- Where a task goes on without a stop into another one, and may be meant to end.
 use Rattle.std.specs.Prelude.{ℕ, Bool, true, false, not, ◌&&◌, ◌||◌, ◌==◌, length, is_some, option_map, Option, Some, None}
 use Rattle.std.specs.List.{find, range_with_len}
 use Rattle.mark_subjects.specs.Subjects.{Judged, entries_of, is_end}
 use Rattle.mark_subjects.specs.Stops.{into}
-use Rattle.mark_subjects.specs.Targets.{may_stop}
+use Rattle.exit_diagnostics.specs.StopFits.{stop_fits}
 
 abbrev pub goes_into : Judged → (index other : ℕ) → Bool
 goes_into s i other = is_end (into s i false) other || is_end (into s i true) other
 
 abbrev pub may_end_before : Judged → (task index other : ℕ) → Bool
-may_end_before s task i other = goes_into s i other && may_stop s task i
+may_end_before s task i other = goes_into s i other && stop_fits s task i
 
 -- the first instruction of a task that goes on into the other one
 abbrev pub first_before : Judged → (task other : ℕ) → Option ℕ

@@ -14,8 +14,9 @@ use Rattle.mark_subjects.specs.Subjects.{Judged, targets_of, entries_of, targets
 use Rattle.mark_subjects.specs.Parts.{in_words, by_text}
 use Rattle.mark_subjects.specs.Stops.{into}
 use Rattle.mark_subjects.specs.Steps.{end_help}
-use Rattle.mark_subjects.specs.Targets.{entries_listed, is_target, may_stop}
+use Rattle.mark_subjects.specs.Targets.{entries_listed, is_target}
 use Rattle.exit_diagnostics.specs.Exits.{is_taken}
+use Rattle.exit_diagnostics.specs.StopFits.{stop_fits}
 
 -- the index of a task's first instruction; 0 where there is no such task
 abbrev pub entry_in : Option Descriptor → ℕ
@@ -38,7 +39,7 @@ exits_anywhere s i = exits_anywhere_in (slice_get s.program.code i)
 abbrev pub exits : Judged → (index : ℕ) → Bool
 exits s i = is_some (exit_end s i false) || (is_some (exit_end s i true) || exits_anywhere s i)
 
--- Where a task that never reaches a stop goes on into a target: there it is to end, if its targets are not too many.
+-- Where a task that never reaches a stop goes on into a target: there it is to end, if it may.
 
 abbrev pub target_into : Judged → (task : ℕ) → Option ℕ → Option ℕ
 target_into s task None = None
@@ -48,7 +49,7 @@ abbrev pub target_at : Judged → (task index : ℕ) → Option ℕ
 target_at s task i = option_or (target_into s task (into s i false)) (target_into s task (into s i true))
 
 abbrev pub may_end_at : Judged → (task index : ℕ) → Bool
-may_end_at s task i = is_some (target_at s task i) && may_stop s task i
+may_end_at s task i = is_some (target_at s task i) && stop_fits s task i
 
 abbrev pub first_end : Judged → (task : ℕ) → Option ℕ
 first_end s task = option_map (λ e. e.0) (find (λ e. may_end_at s task e.0) (entries_of s task))

@@ -6,9 +6,9 @@ ghost use Rattle.std.specs.Option.{option_copied};
 ghost use Rattle.mark_subjects.specs.Subjects.{entries_of};
 ghost use Rattle.exit_diagnostics.specs.Entering.{goes_into, may_end_before, first_before, enters, step_by, step_into};
 
+use crate::stop_fits::stop_fits;
 use mark_subjects::put_stop::into;
 use mark_subjects::subject::{Subject, is_end};
-use mark_subjects::targets::may_stop;
 use mips_instructions::number::RegSet;
 
 /// Whether an instruction goes on into a task.
@@ -22,7 +22,7 @@ fn goes_into(subject: &Subject, index: u32, other: u32) -> bool
 fn may_end_before(subject: &Subject, task: u32, index: u32, other: u32) -> bool
     ensures { result ≡ may_end_before subject.now task index other }
 {
-    goes_into(subject, index, other) && may_stop(subject, task, index)
+    goes_into(subject, index, other) && stop_fits(subject, task, index)
 }
 
 /// The first instruction of a task at which it may end before another.

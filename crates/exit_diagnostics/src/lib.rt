@@ -11,3 +11,4 @@ pub mod remark;
 pub mod returning;
 pub mod slot;
 pub mod stop;
+pub mod stop_fits;

@@ -11,6 +11,7 @@ ghost use Rattle.exit_diagnostics.specs.Exits.{is_taken as is_taken_of};
 ghost use Rattle.exit_diagnostics.specs.Remarks.{exits_anywhere, exits, target_into, target_at, may_end_at, first_end, end_at, no_exit_help, untaken, first_untaken, fewer_help, not_taken_at, not_taken_help, has_untaken, entry_of, follows, never_runs};
 
 use crate::exit::is_taken;
+use crate::stop_fits::stop_fits;
 use diagnostics::diagnostic::Help;
 use diagnostics::words;
 use diagnostics::words::Words;
@@ -18,7 +19,7 @@ use mark_subjects::parts::{by_text, in_words, targets_words};
 use mark_subjects::put_stop::into;
 use mark_subjects::step::end_help;
 use mark_subjects::subject::{Made, Subject};
-use mark_subjects::targets::{entries_listed, is_among, is_target, may_stop};
+use mark_subjects::targets::{entries_listed, is_among, is_target};
 use mips_instructions::instruction::Op;
 use mips_instructions::number::RegSet;
 use task_descriptor::descriptor::{Descriptor, Stop};
@@ -97,7 +98,7 @@ pub fn target_at(subject: &Subject, task: u32, index: u32) -> Option<u32>
 fn may_end_at(subject: &Subject, task: u32, index: u32) -> bool
     ensures { result ≡ may_end_at subject.now task index }
 {
-    target_at(subject, task, index).is_some() && may_stop(subject, task, index)
+    target_at(subject, task, index).is_some() && stop_fits(subject, task, index)
 }
 
 /// The first instruction of a task at which it may end.

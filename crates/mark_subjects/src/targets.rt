@@ -101,7 +101,7 @@ pub fn targets_with(subject: &Subject, task: u32, places: &[u32]) -> Made<Vec<u3
 }
 
 /// Whether a task lacks a target if it ends at an instruction that goes on into tasks.
-fn lacks_some(subject: &Subject, task: u32, index: u32) -> bool
+pub fn lacks_some(subject: &Subject, task: u32, index: u32) -> bool
     ensures { result ≡ lacks_some subject.now task index }
 {
     new_by(subject, task, index, false).is_some() || new_by(subject, task, index, true).is_some()
