@@ -6,7 +6,7 @@ use Rattle.std.proofs.Common.{refl}
 use Rattle.mips_instructions.specs.declared.instruction.ThreeKind.TheVariants.{Addu}
 use Rattle.mips_instructions.specs.declared.instruction.ImmKind.TheVariants.{Addiu, Slti}
 use Rattle.mips_instructions.specs.declared.instruction.BranchTwoKind.TheVariants.{Bne}
-use Rattle.mips_instructions.specs.declared.instruction.Op.TheVariants.{Three, Imm, BranchTwo, JumpLink, JumpReg, Out, Halt}
+use Rattle.mips_instructions.specs.declared.instruction.Op.TheVariants.{Three, Imm, BranchTwo, JumpLink, JumpReg, Release, Out, Halt}
 use Rattle.task_descriptor.specs.Listing.{Listing}
 use Rattle.task_descriptor.specs.declared.descriptor.Stop.TheVariants as stop
 use Rattle.task_graph.specs.Examples.{bare, forwards}
@@ -30,7 +30,7 @@ use Rattle.mark_subjects.specs.Parts.{in_words, steps_of}
 use Rattle.exit_diagnostics.specs.Meant.{meant, may_end, later_meant, edge_stop, edge_name, edge_advice, halt_advice}
 use Rattle.mark_diagnostics.specs.Masks.{widened}
 use Rattle.mark_diagnostics.specs.Releases.{names_no_index, release_text}
-use Rattle.mark_diagnostics.specs.Sending.{later, later_by, first_left, side, advice, whole_advice}
+use Rattle.mark_diagnostics.specs.Sending.{later, later_by, elsewhere, first_left, side, advice, whole_advice, kept}
 use Rattle.exit_diagnostics.specs.Slots.{is_slot, slot_or}
 use Rattle.exit_diagnostics.specs.Exits.{exit_said}
 use Rattle.exit_diagnostics.specs.Remarks.{first_end}
@@ -101,8 +101,31 @@ pub both_ways : whole_advice ends_late released_early (codes "remove it") (Is 0)
 unfolding digits names_in
 both_ways = refl
 
+-- Where the instruction behind the loop releases $8, that release is left, and none is put there; and where one in the loop
+-- releases $8 and $9, it keeps $9 alone, which is not written after it.
+
+abbrev pub releasing : (inside behind : ℕ) → Judged
+releasing inside behind = record (masked judged) {
+  program = record unstopped {
+    code = forwards (Imm Addiu 8 8 (pos 1)) ∷ bare (Release inside) ∷ bare (Imm Slti 10 8 (pos 4))
+        ∷ bare (BranchTwo Bne 10 0 0) ∷ bare (Release behind) ∷ bare Halt ∷ [];
+    tasks = (record { name = 65 ∷ []; entry = 0; create = 0; targets = 0 ∷ [] })
+        ∷ (record { name = 66 ∷ []; entry = 5; create = 0; targets = [] }) ∷ [];
+  };
+}
+
+pub left_to_release : elsewhere (releasing 768 256) 0 8 ≡ Sent 4
+left_to_release = refl
+
+pub none_beside : side (releasing 768 256) released_early ≡ None
+none_beside = refl
+
+pub keeps_other : kept (releasing 768 256) 0 1 ≡ 9 ∷ []
+unfolding which
+keeps_other = refl
+
 -- `!f` is put where no release comes next that sends the register
-pub sent_next : later_by true false 5 (Some 6) None ≡ Sent 6
+pub sent_next : later_by true false 5 (Some 6) Nowhere ≡ Sent 6
 sent_next = refl
 
 -- The create mask lacks three registers: one message, and one mask that mends all.
@@ -187,6 +210,23 @@ in_place_of_another = refl
 -- the loop goes on into its target, where it may end
 pub may_end_there : first_end (masked judged) 0 ≡ Some 3
 may_end_there = refl
+
+-- Task B reaches the branch, too: a stop there fits only if A, to which it leads, is also a target of B.
+
+abbrev pub joined : (targets : List ℕ) → Judged
+joined targets = record (masked judged) {
+  program = record unstopped {
+    tasks = (record { name = 65 ∷ []; entry = 0; create = 0; targets = 0 ∷ [] })
+        ∷ (record { name = 66 ∷ []; entry = 2; create = 0; targets = targets }) ∷ [];
+  };
+  least = ((0, 256) ∷ (1, 256) ∷ (2, 256) ∷ (3, 256) ∷ (4, 0) ∷ []) ∷ ((2, 0) ∷ (3, 0) ∷ (4, 0) ∷ []) ∷ [];
+}
+
+pub not_for_both : first_end (joined []) 0 ≡ None
+not_for_both = refl
+
+pub for_both : first_end (joined (0 ∷ [])) 0 ≡ Some 3
+for_both = refl
 
 -- Of two findings of a task the second is not the first that is told.
 

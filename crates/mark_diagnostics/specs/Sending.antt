@@ -36,10 +36,6 @@ written_after s task i r = written_from s task (inner_end s i false) r || writte
 abbrev pub must_wait : Judged → (task : ℕ) → Marked → (index register : ℕ) → Bool
 must_wait s task m i r = dests m.op r && written_after s task i r
 
--- a release that sends the register, which is not written after it
-abbrev pub releases_last : Judged → (task register index : ℕ) → Bool
-releases_last s task r i = releases s i r && not (written_after s task i r)
-
 abbrev pub is_none_left : List ℕ → Bool
 is_none_left [] = true
 is_none_left (r ∷ rs) = false
@@ -52,8 +48,47 @@ may_forward_in None s task i = false
 abbrev pub may_forward : Judged → (task index : ℕ) → Bool
 may_forward s task i = may_forward_in (slice_get s.program.code i) s task i
 
+-- an instruction forwards the register
+abbrev pub written_in : Option Marked → (register : ℕ) → Bool
+written_in None r = false
+written_in (Some m) r = dests m.op r
+
+abbrev pub writes : Judged → (index register : ℕ) → Bool
+writes s i r = written_in (slice_get s.program.code i) r
+
+abbrev pub forwards_it : Judged → (index register : ℕ) → Bool
+forwards_it s i r = forwards s i && writes s i r
+
+-- Else the first instruction that releases or forwards it, and after which it is not written any more.
+abbrev pub releases_last : Judged → (task register index : ℕ) → Bool
+releases_last s task r i = releases s i r && not (written_after s task i r)
+
+abbrev pub release_by : Judged → (task register : ℕ) → ℕ × ℕ → Option ℕ
+release_by s task r entry = if releases_last s task r entry.0 then Some entry.0 else None
+
+abbrev pub first_release : Judged → (task register : ℕ) → List (ℕ × ℕ) → Option ℕ
+first_release s task r [] = None
+first_release s task r (entry ∷ entries) = option_or (release_by s task r entry) (first_release s task r entries)
+
+abbrev pub last_release : Judged → (task register : ℕ) → Option ℕ
+last_release s task r = first_release s task r (entries_of s task)
+
+abbrev pub forwards_last : Judged → (task register index : ℕ) → Bool
+forwards_last s task r i = forwards_it s i r && not (written_after s task i r)
+
+abbrev pub forward_by : Judged → (task register : ℕ) → ℕ × ℕ → Option ℕ
+forward_by s task r entry = if forwards_last s task r entry.0 then Some entry.0 else None
+
+abbrev pub first_forward : Judged → (task register : ℕ) → List (ℕ × ℕ) → Option ℕ
+first_forward s task r [] = None
+first_forward s task r (entry ∷ entries) = option_or (forward_by s task r entry) (first_forward s task r entries)
+
+abbrev pub last_forward : Judged → (task register : ℕ) → Option ℕ
+last_forward s task r = first_forward s task r (entries_of s task)
+
 -- Else where the register is not written any more, as after a loop: the first instruction to which the task goes on from
--- one from which on the register may be written, while from there on it may not; a task that begins there would send it, too.
+-- one that does not forward it and from which on it may be written, while from there on it may not; a task that begins
+-- there would send it, too.
 abbrev pub is_left : Judged → (task : ℕ) → Option ℕ → (register : ℕ) → Bool
 is_left s task None r = false
 is_left s task (Some j) r = nat_lt j (length s.program.code) && (not (is_entry s j) && not (in_mask (mask_at (entries_of s task) j) r))
@@ -64,37 +99,48 @@ left_from s task i r =
     else if is_left s task (inner_end s i true) r then inner_end s i true else None
 
 abbrev pub left_by : Judged → (task register : ℕ) → ℕ × ℕ → Option ℕ
-left_by s task r entry = if has entry.1 r then left_from s task entry.0 r else None
+left_by s task r entry = if has entry.1 r && not (forwards_it s entry.0 r) then left_from s task entry.0 r else None
 
 abbrev pub first_left : Judged → (task register : ℕ) → List (ℕ × ℕ) → Option ℕ
 first_left s task r [] = None
 first_left s task r (entry ∷ entries) = option_or (left_by s task r entry) (first_left s task r entries)
 
-abbrev pub left_or : Option ℕ → Later
-left_or None = Nowhere
-left_or (Some j) = Left j
+-- what to do elsewhere: leave the last release; or release it where it is not written any more; or leave the last `!f`
+abbrev pub is_or : (forward : Option ℕ) → Later
+is_or None = Nowhere
+is_or (Some i) = Is i
+
+abbrev pub left_or : (left forward : Option ℕ) → Later
+left_or None forward = is_or forward
+left_or (Some j) forward = Left j
+
+abbrev pub released_or : (release left forward : Option ℕ) → Later
+released_or None left forward = left_or left forward
+released_or (Some k) left forward = Sent k
+
+abbrev pub elsewhere : Judged → (task register : ℕ) → Later
+elsewhere s task r = released_or (last_release s task r) (first_left s task r (entries_of s task)) (last_forward s task r)
 
 -- the release that comes next sends the register
 abbrev pub sent_by : Judged → (register : ℕ) → Option ℕ → Option ℕ
 sent_by s r None = None
 sent_by s r (Some k) = if releases s k r then Some k else None
 
--- what to do: leave the `!f` at the end of the path, or the release after it; put an `!f` there; or release the register
--- elsewhere, if somewhere
+-- what to do: leave the `!f` at the end of the path, or the release after it; put an `!f` there; or what to do elsewhere
 abbrev pub put_or : (at : ℕ) → (sent : Option ℕ) → Later
 put_or at None = Put at
 put_or at (Some k) = Sent k
 
-abbrev pub later_by : (may has : Bool) → (at : ℕ) → (sent left : Option ℕ) → Later
-later_by false has at sent left = left_or left
-later_by true true at sent left = Is at
-later_by true false at sent left = put_or at sent
+abbrev pub later_by : (may has : Bool) → (at : ℕ) → (sent : Option ℕ) → (other : Later) → Later
+later_by false has at sent other = other
+later_by true true at sent other = Is at
+later_by true false at sent other = put_or at sent
 
 abbrev pub later : Judged → Finding → (path : List ℕ) → Later
 later s f path =
     let at = last_or f.index path in
     later_by (not (nat_eq at f.index) && may_forward s f.task at) (forwards s at) at
-    (sent_by s (register_in f.reg) (inner_end s at false)) (first_left s f.task (register_in f.reg) (entries_of s f.task))
+    (sent_by s (register_in f.reg) (inner_end s at false)) (elsewhere s f.task (register_in f.reg))
 
 -- the forward bit that is put there
 abbrev pub put_bit : Judged → Later → List Replacement
@@ -102,14 +148,8 @@ put_bit s (Put at) = record { span = after (instruction_span s at); text = codes
 put_bit s _ = []
 
 -- Another way, on which the register is not written: from the mark on, the first place to which the task goes on from an
--- instruction that does not write the register, and from which on it is not written any more.
-
-abbrev pub written_in : Option Marked → (register : ℕ) → Bool
-written_in None r = false
-written_in (Some m) r = dests m.op r
-
-abbrev pub writes : Judged → (index register : ℕ) → Bool
-writes s i r = written_in (slice_get s.program.code i) r
+-- instruction that does not write the register, and from which on it is not written any more; none if it is released there
+-- or elsewhere.
 
 abbrev pub side_by : Judged → (task from register : ℕ) → ℕ × ℕ → Option ℕ
 side_by s task from r entry =
@@ -119,8 +159,12 @@ abbrev pub first_side : Judged → (task from register : ℕ) → List (ℕ × �
 first_side s task from r [] = None
 first_side s task from r (entry ∷ entries) = option_or (side_by s task from r entry) (first_side s task from r entries)
 
+abbrev pub unless_released : (release side : Option ℕ) → Option ℕ
+unless_released None side = side
+unless_released (Some k) side = None
+
 abbrev pub side : Judged → Finding → Option ℕ
-side s f = first_side s f.task f.index (register_in f.reg) (entries_of s f.task)
+side s f = unless_released (last_release s f.task (register_in f.reg)) (first_side s f.task f.index (register_in f.reg) (entries_of s f.task))
 
 -- What to do: first at the mark itself, then where the register is written again.
 

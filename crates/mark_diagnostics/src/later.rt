@@ -9,7 +9,7 @@ pub enum Later {
     Left(u32),
     /// Nothing, since the instruction of this index forwards it.
     Is(u32),
-    /// Nothing, since the instruction of this index, which comes next, releases it.
+    /// Nothing, since the instruction of this index releases it.
     Sent(u32),
     /// To put a forward bit on the instruction of this index.
     Put(u32),

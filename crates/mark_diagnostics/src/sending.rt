@@ -2,7 +2,7 @@
 
 ghost use Rattle.std.specs.Prelude.{◌≡◌, ◌<◌, ◌++◌, IfOk, OnOk};
 ghost use Rattle.mark_subjects.specs.Subjects.{which};
-ghost use Rattle.mark_diagnostics.specs.Sending.{written_from, written_after, releases_last, must_wait, is_none_left, may_forward, is_left, left_from, left_by, first_left, left_or, sent_by, put_or, later, put_bit, writes as writes_of, side_by, first_side, side, before_text, put_release, put_text, is_text, left_text, nowhere_text, advice, side_text, is_sent, beside, whole_advice, forward_help, kept, release_help, again_text, again_note, early_notes};
+ghost use Rattle.mark_diagnostics.specs.Sending.{written_from, written_after, must_wait, is_none_left, may_forward, forwards_it, releases_last, release_by, first_release, last_release, forwards_last, forward_by, first_forward, last_forward, is_left, left_from, left_by, first_left, is_or, left_or, released_or, elsewhere, sent_by, put_or, later, put_bit, writes as writes_of, side_by, first_side, unless_released, side, before_text, put_release, put_text, is_text, left_text, nowhere_text, advice, side_text, is_sent, beside, whole_advice, forward_help, kept, release_help, again_text, again_note, early_notes};
 
 use crate::later::Later;
 use crate::release::{in_place, release_words, release_written};
@@ -21,7 +21,7 @@ use task_descriptor::descriptor::Marked;
 use task_descriptor::name::Name;
 
 /// Whether a register may be written by a task from the end of an edge on.
-fn written_from(subject: &Subject, task: u32, end: Option<u32>, register: u8) -> bool
+pub(crate) fn written_from(subject: &Subject, task: u32, end: Option<u32>, register: u8) -> bool
     requires { register < 34 }
     ensures { result ≡ written_from subject.now task end register }
 {
@@ -41,14 +41,6 @@ fn written_after(subject: &Subject, task: u32, index: u32, register: u8) -> bool
 {
     written_from(subject, task, subject.inner(index, false), register)
         || written_from(subject, task, subject.inner(index, true), register)
-}
-
-/// Whether an instruction releases a register, and the task does not write it after that.
-fn releases_last(subject: &Subject, task: u32, register: u8, index: u32) -> bool
-    requires { register < 34 }
-    ensures { result ≡ releases_last subject.now task register index }
-{
-    subject.releases(index, register) && !written_after(subject, task, index, register)
 }
 
 /// Whether a register is a destination of an instruction that a forward bit must not send.
@@ -77,6 +69,117 @@ fn may_forward(subject: &Subject, task: u32, index: u32) -> Made<bool>
         must_wait(subject, task, marked, index, register)
     })?;
     Ok(is_none_left(&waiting))
+}
+
+/// Whether an instruction writes a register.
+pub(crate) fn writes(subject: &Subject, index: u32, register: u8) -> bool
+    requires { register < 34 }
+    ensures { result ≡ writes_of subject.now index register }
+{
+    match subject.code().get(index as usize) {
+        Some(marked) => has_number(marked.op.dests(), register),
+        None => false,
+    }
+}
+
+/// Whether an instruction forwards a register.
+fn forwards_it(subject: &Subject, index: u32, register: u8) -> bool
+    requires { register < 34 }
+    ensures { result ≡ forwards_it subject.now index register }
+{
+    subject.forwards(index) && writes(subject, index, register)
+}
+
+/// Whether an instruction releases a register, and the task does not write it after that.
+fn releases_last(subject: &Subject, task: u32, register: u8, index: u32) -> bool
+    requires { register < 34 }
+    ensures { result ≡ releases_last subject.now task register index }
+{
+    subject.releases(index, register) && !written_after(subject, task, index, register)
+}
+
+/// An entry of a task that does so.
+fn release_by(subject: &Subject, task: u32, register: u8, entry: &(u32, RegSet)) -> Option<u32>
+    requires { register < 34 }
+    ensures { result ≡ release_by subject.now task register entry.now }
+{
+    if releases_last(subject, task, register, entry.0) {
+        Some(entry.0)
+    } else {
+        None
+    }
+}
+
+/// The first of these.
+fn first_release(
+    subject: &Subject,
+    task: u32,
+    register: u8,
+    entries: &[(u32, RegSet)],
+) -> Option<u32>
+    requires { register < 34 }
+    ensures { result ≡ first_release subject.now task register entries.now }
+{
+    for entry in entries {
+        if let Some(index) = release_by(subject, task, register, entry) {
+            return Some(index);
+        }
+    }
+    None
+}
+
+/// The first release of a register after which the task does not write it.
+fn last_release(subject: &Subject, task: u32, register: u8) -> Option<u32>
+    requires { register < 34 }
+    ensures { result ≡ last_release subject.now task register }
+{
+    first_release(subject, task, register, subject.entries(task))
+}
+
+/// Whether an instruction forwards a register, and the task does not write it after that.
+fn forwards_last(subject: &Subject, task: u32, register: u8, index: u32) -> bool
+    requires { register < 34 }
+    ensures { result ≡ forwards_last subject.now task register index }
+{
+    forwards_it(subject, index, register) && !written_after(subject, task, index, register)
+}
+
+/// An entry of a task that does so.
+fn forward_by(subject: &Subject, task: u32, register: u8, entry: &(u32, RegSet)) -> Option<u32>
+    requires { register < 34 }
+    ensures { result ≡ forward_by subject.now task register entry.now }
+{
+    if forwards_last(subject, task, register, entry.0) {
+        Some(entry.0)
+    } else {
+        None
+    }
+}
+
+/// The first of these.
+fn first_forward(
+    subject: &Subject,
+    task: u32,
+    register: u8,
+    entries: &[(u32, RegSet)],
+) -> Option<u32>
+    requires { register < 34 }
+    ensures { result ≡ first_forward subject.now task register entries.now }
+{
+    for entry in entries {
+        if let Some(index) = forward_by(subject, task, register, entry) {
+            return Some(index);
+        }
+    }
+    None
+}
+
+/// The first instruction that forwards a register, and after which the task does not write it.
+fn last_forward(subject: &Subject, task: u32, register: u8) -> Option<u32>
+    requires { register < 34 }
+    ensures { result ≡ last_forward subject.now task register }
+{
+    first_forward(subject, task, register, subject.entries(task))
 }
 
 /// Whether the end of an edge is an instruction from which on a task does not write a register any more.
@@ -109,12 +212,12 @@ fn left_from(subject: &Subject, task: u32, index: u32, register: u8) -> Option<u
     None
 }
 
-/// As `left_from`, from an entry of the task, if the register may be written from there on.
+/// As `left_from`, from an entry of the task, if the register may be written from there on, and is not forwarded there.
 fn left_by(subject: &Subject, task: u32, register: u8, entry: &(u32, RegSet)) -> Option<u32>
     requires { register < 34 }
     ensures { result ≡ left_by subject.now task register entry.now }
 {
-    if has_number(entry.1, register) {
+    if has_number(entry.1, register) && !forwards_it(subject, entry.0, register) {
         left_from(subject, task, entry.0, register)
     } else {
         None
@@ -134,14 +237,45 @@ fn first_left(subject: &Subject, task: u32, register: u8, entries: &[(u32, RegSe
     None
 }
 
-/// A release at this place, if there is one.
-fn left_or(place: Option<u32>) -> Later
-    ensures { result ≡ left_or place }
+/// The forward bit of this instruction, if there is one.
+fn is_or(forward: Option<u32>) -> Later
+    ensures { result ≡ is_or forward }
+{
+    match forward {
+        Some(index) => Later::Is(index),
+        None => Later::Nowhere,
+    }
+}
+
+/// A release at this place, or the forward bit of this instruction, if there is one.
+fn left_or(place: Option<u32>, forward: Option<u32>) -> Later
+    ensures { result ≡ left_or place forward }
 {
     match place {
         Some(index) => Later::Left(index),
-        None => Later::Nowhere,
+        None => is_or(forward),
     }
+}
+
+/// This release, or a release at this place, or the forward bit of this instruction, if there is one.
+fn released_or(release: Option<u32>, place: Option<u32>, forward: Option<u32>) -> Later
+    ensures { result ≡ released_or release place forward }
+{
+    match release {
+        Some(index) => Later::Sent(index),
+        None => left_or(place, forward),
+    }
+}
+
+/// What to do where the register is not sent at the end of the path.
+fn elsewhere(subject: &Subject, task: u32, register: u8) -> Later
+    requires { register < 34 }
+    ensures { result ≡ elsewhere subject.now task register }
+{
+    let release = last_release(subject, task, register);
+    let left = first_left(subject, task, register, subject.entries(task));
+    let forward = last_forward(subject, task, register);
+    released_or(release, left, forward)
 }
 
 /// The release that comes next, if it sends a register.
@@ -176,12 +310,12 @@ pub(crate) fn later(subject: &Subject, finding: &Finding, path: &[u32]) -> Made<
     let at = last_or(finding.index, path);
     let task = finding.task;
     let register = register_in(finding.reg);
-    let left = first_left(subject, task, register, subject.entries(task));
+    let other = elsewhere(subject, task, register);
     if at == finding.index {
-        return Ok(left_or(left));
+        return Ok(other);
     }
     if !may_forward(subject, task, at)? {
-        return Ok(left_or(left));
+        return Ok(other);
     }
     if subject.forwards(at) {
         Ok(Later::Is(at))
@@ -201,17 +335,6 @@ fn add_bit(subject: &Subject, list: &mut Vec<Replacement>, later: Later) -> Made
         list.push(Replacement { span, text })?;
     }
     Ok(())
-}
-
-/// Whether an instruction writes a register.
-pub(crate) fn writes(subject: &Subject, index: u32, register: u8) -> bool
-    requires { register < 34 }
-    ensures { result ≡ writes_of subject.now index register }
-{
-    match subject.code().get(index as usize) {
-        Some(marked) => has_number(marked.op.dests(), register),
-        None => false,
-    }
 }
 
 /// Where a task goes on to from an entry after a mark that does not write a register, which is not written any more from
@@ -252,19 +375,25 @@ fn first_side(
     None
 }
 
-/// The place on another path, which does not write the register of a finding.
+/// A place, unless there is a release.
+fn unless_released(release: Option<u32>, place: Option<u32>) -> Option<u32>
+    ensures { result ≡ unless_released release place }
+{
+    match release {
+        Some(_) => None,
+        None => place,
+    }
+}
+
+/// The place on another path, which does not write the register of a finding, unless it is released somewhere.
 fn side(subject: &Subject, finding: &Finding) -> Option<u32>
     ensures { result ≡ side subject.now finding.now }
 {
     let task = finding.task;
     let register = register_in(finding.reg);
-    first_side(
-        subject,
-        task,
-        finding.index,
-        register,
-        subject.entries(task),
-    )
+    let entries = subject.entries(task);
+    let place = first_side(subject, task, finding.index, register, entries);
+    unless_released(last_release(subject, task, register), place)
 }
 
 /// The place before an instruction, and after its label.

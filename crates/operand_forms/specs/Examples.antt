@@ -47,12 +47,12 @@ a_word = refl
 pub no_byte : shape_fault (Some shape.Bytes) (Number (Small (pos 1)) ∷ Comma ∷ Number (Small (pos 256)) ∷ []) ≡ Some fault.Number
 no_byte = refl
 
--- an index after the name of a table
+-- an index after the name of a table; the mark goes to the last instruction
 abbrev pub indexed : List ℕ
 indexed = codes "lw $t0,a($t1) !f"
 
-pub an_index : line_words indexed (line_spans indexed) ≡ Some (codes "write la $1,a and addu $1,$1,$t1 and lw $t0,0($1)")
-unfolding line_words address_row operand_row shape_of spans_after kind_of as_shown is_readable is_utf8 chars encode
+pub an_index : line_words indexed (line_spans indexed) ≡ Some (codes "write la $1,a and addu $1,$1,$t1 and lw $t0,0($1) !f")
+unfolding line_words address_row operand_row shape_of spans_after kind_of whole_word as_shown is_readable is_utf8 chars encode
 an_index = refl
 
 -- `.asciiz "hi\n"`: 34 is a quotation mark, 92 is \

@@ -3,9 +3,9 @@
 ghost use Rattle.std.specs.Prelude.{◌≡◌, ◌++◌, IfOk, OnOk};
 ghost use Rattle.std.specs.List.{flat_map, list_any};
 ghost use Rattle.std.specs.Option.{option_map, option_or};
-ghost use Rattle.operand_forms.specs.OwnWords.{sign_of, signs, word_for, in_its_words, is_register_one, address_row, place_row, kind_row, foreign_row, line_instead, line_words, own_words};
+ghost use Rattle.operand_forms.specs.OwnWords.{sign_of, signs, mark_text, marks_text, word_for, in_its_words, is_register_one, address_row, place_row, kind_row, foreign_row, begins_name, is_constant, constant_row, line_instead, line_words, own_words};
 
-use crate::bytes::{byte_at, bytes_at};
+use crate::bytes::{byte_at, bytes_at, whole_word};
 use crate::foreign_words::operand_row;
 use crate::line_place::{after_labels, shape_named};
 use crate::meant::span_at;
@@ -20,74 +20,76 @@ use std::alloc::{AllocError, Global};
 
 // The tables: lines by the statement, or by all with these operands, or by any, and by the signs after the word: a number is
 // one of 0, a name one of a, and any other word one of its first byte. In a text A stands for the line's first word, B for
-// what comes next, and so on, and $1 for a register that is free.
+// what comes next, and so on, ! for the line's marks, and $1 for a register that is free.
 
 /// Of addresses.
-const ADDRESSES: [((&str, &str), &str); 32] = [
-    ((" $8,4($9)", "$,$"), "write A B,0(D)"),
-    ((" $8,4($9)", "$,($)"), "write A B,0(E)"),
-    ((" $8,4($9)", "$,[$]"), "write A B,0(E)"),
-    ((" $8,4($9)", "$,0[$]"), "write A B,D(F)"),
-    ((" $8,4($9)", "$,-[$]"), "write A B,D(F)"),
-    ((" $8,4($9)", "$,+0($)"), "write A B,E(G)"),
+const ADDRESSES: [((&str, &str), &str); 34] = [
+    ((" $8,4($9)", "$,$"), "write A B,0(D)!"),
+    ((" $8,4($9)", "$,($)"), "write A B,0(E)!"),
+    ((" $8,4($9)", "$,0($"), "write A B,D(F)!"),
+    ((" $8,4($9)", "$,-($"), "write A B,D(F)!"),
+    ((" $8,4($9)", "$,[$]"), "write A B,0(E)!"),
+    ((" $8,4($9)", "$,0[$]"), "write A B,D(F)!"),
+    ((" $8,4($9)", "$,-[$]"), "write A B,D(F)!"),
+    ((" $8,4($9)", "$,+0($)"), "write A B,E(G)!"),
     (
         (" $8,4($9)", "$,0+0($)"),
         "write the sum of D and F as one number",
     ),
-    ((" $8,4($9)", "$,$($)"), "write addu $1,D,F and A B,0($1)"),
-    ((" $8,4($9)", "$,a"), "write la $1,D and A B,0($1)"),
-    ((" $8,4($9)", "$,(a)"), "write la $1,E and A B,0($1)"),
-    ((" $8,4($9)", "$,a+0"), "write la $1,D and A B,F($1)"),
-    ((" $8,4($9)", "$,a-"), "write la $1,D and A B,E($1)"),
+    ((" $8,4($9)", "$,$($)"), "write addu $1,D,F and A B,0($1)!"),
+    ((" $8,4($9)", "$,a"), "write la $1,D and A B,0($1)!"),
+    ((" $8,4($9)", "$,(a)"), "write la $1,E and A B,0($1)!"),
+    ((" $8,4($9)", "$,a+0"), "write la $1,D and A B,F($1)!"),
+    ((" $8,4($9)", "$,a-"), "write la $1,D and A B,E($1)!"),
     (
         (" $8,4($9)", "$,a($)"),
-        "write la $1,D and addu $1,$1,F and A B,0($1)",
+        "write la $1,D and addu $1,$1,F and A B,0($1)!",
     ),
     (
         (" $8,4($9)", "$,a[$]"),
-        "write la $1,D and addu $1,$1,F and A B,0($1)",
+        "write la $1,D and addu $1,$1,F and A B,0($1)!",
     ),
     (
         (" $8,4($9)", "$,a+0($)"),
-        "write la $1,D and addu $1,$1,H and A B,F($1)",
+        "write la $1,D and addu $1,$1,H and A B,F($1)!",
     ),
     (
         (" $8,4($9)", "$,a-($)"),
-        "write la $1,D and addu $1,$1,G and A B,E($1)",
+        "write la $1,D and addu $1,$1,G and A B,E($1)!",
     ),
     (
         (" $8,4($9)", "$,%a(a)($)"),
-        "write A B,0(J), after la J,G in place of the lui",
+        "write A B,0(J)!, after la J,G in place of the lui",
     ),
     (
         ("lui", "$,%a(a)"),
-        "write la B,G, which loads the whole address",
+        "write la B,G!, which loads the whole address",
     ),
     (
         ("addiu", "$,$,%a(a)"),
-        "write move B,D, after la D,I in place of the lui",
+        "write move B,D!, after la D,I in place of the lui",
     ),
     (
         ("ori", "$,$,%a(a)"),
-        "write move B,D, after la D,I in place of the lui",
+        "write move B,D!, after la D,I in place of the lui",
     ),
-    (("la", "$,$"), "write move B,D"),
-    (("la", "$,($)"), "write move B,E"),
-    (("la", "$,0"), "write li B,D"),
-    (("la", "$,-"), "write li B,D"),
-    (("la", "$,0($)"), "write addiu B,F,D"),
-    (("la", "$,-($)"), "write addiu B,F,D"),
-    (("la", "$,a+0"), "write la B,D and addiu B,B,F"),
-    (("la", "$,a-"), "write la B,D and addiu B,B,E"),
-    (("la", "$,a($)"), "write la $1,D and addu B,$1,F"),
-    (("la", "$,a[$]"), "write la $1,D and addu B,$1,F"),
+    (("la", "$,$"), "write move B,D!"),
+    (("la", "$,($)"), "write move B,E!"),
+    (("la", "$,0"), "write li B,D!"),
+    (("la", "$,-"), "write li B,D!"),
+    (("la", "$,0($)"), "write addiu B,F,D!"),
+    (("la", "$,-($)"), "write addiu B,F,D!"),
+    (("la", "$,a+0"), "write la B,D and addiu B,B,F!"),
+    (("la", "$,a-"), "write la B,D and addiu B,B,E!"),
+    (("la", "$,a($)"), "write la $1,D and addu B,$1,F!"),
+    (("la", "$,a[$]"), "write la $1,D and addu B,$1,F!"),
     (
         ("la", "$,a+0($)"),
-        "write la $1,D and addu B,$1,H and addiu B,B,F",
+        "write la $1,D and addu B,$1,H and addiu B,B,F!",
     ),
     (
         ("la", "$,a-($)"),
-        "write la $1,D and addu B,$1,G and addiu B,B,E",
+        "write la $1,D and addu B,$1,G and addiu B,B,E!",
     ),
 ];
 
@@ -131,16 +133,16 @@ const PLACES_AND_NUMBERS: [((&str, &str), &str); 30] = [
     ),
     (
         (" $8,$9,LABEL", "$,0,a"),
-        "for 0 write A B,$0,F; for another number write li $1,D and A B,$1,F",
+        "for 0 write A B,$0,F!; for another number write li $1,D and A B,$1,F!",
     ),
-    ((" $8,$9,LABEL", "$,-,a"), "write li $1,D and A B,$1,F"),
+    ((" $8,$9,LABEL", "$,-,a"), "write li $1,D and A B,$1,F!"),
     (
         (".word", "a+0"),
         "a word is a number: an address is loaded with la",
     ),
     (("", "+0"), "write A C"),
-    (("", "$,+0"), "write A B,E"),
-    (("", "$,$,+0"), "write A B,D,G"),
+    (("", "$,+0"), "write A B,E!"),
+    (("", "$,$,+0"), "write A B,D,G!"),
     (
         ("", "0.0"),
         "there is no floating point: write a whole number",
@@ -174,96 +176,102 @@ const PLACES_AND_NUMBERS: [((&str, &str), &str); 30] = [
 ];
 
 /// Of operands of another kind.
-const KINDS: [((&str, &str), &str); 33] = [
-    (("addu", "$,$,0"), "write addiu B,D,F"),
-    (("addu", "$,$,-"), "write addiu B,D,F"),
-    (("subu", "$,$,0"), "write addiu B,D,-F"),
+const KINDS: [((&str, &str), &str); 36] = [
+    (("addu", "$,$,0"), "write addiu B,D,F!"),
+    (("addu", "$,$,-"), "write addiu B,D,F!"),
+    (("subu", "$,$,0"), "write addiu B,D,-F!"),
     (
         ("subu", "$,$,-"),
-        "write addiu B,D,n, where n is F without its -",
+        "write addiu B,D,n!, where n is F without its -",
     ),
-    (("addiu", "$,$,$"), "write addu B,D,F"),
-    (("andi", "$,$,$"), "write and B,D,F"),
-    (("ori", "$,$,$"), "write or B,D,F"),
-    (("xori", "$,$,$"), "write xor B,D,F"),
-    (("slti", "$,$,$"), "write slt B,D,F"),
-    (("sltiu", "$,$,$"), "write sltu B,D,F"),
-    (("sll", "$,$,$"), "write sllv B,D,F"),
-    (("srl", "$,$,$"), "write srlv B,D,F"),
-    (("sra", "$,$,$"), "write srav B,D,F"),
-    (("and", "$,$,0"), "write andi B,D,F"),
-    (("or", "$,$,0"), "write ori B,D,F"),
-    (("xor", "$,$,0"), "write xori B,D,F"),
-    (("slt", "$,$,0"), "write slti B,D,F"),
-    (("sltu", "$,$,0"), "write sltiu B,D,F"),
-    (("sllv", "$,$,0"), "write sll B,D,F"),
-    (("srlv", "$,$,0"), "write srl B,D,F"),
-    (("srav", "$,$,0"), "write sra B,D,F"),
-    (("slt", "$,$,-"), "write slti B,D,F"),
-    (("move", "$,0"), "write li B,D"),
-    (("move", "$,-"), "write li B,D"),
-    (("move", "$,a"), "write la B,D"),
-    (("li", "$,$"), "write move B,D"),
-    (("li", "$,a"), "write la B,D"),
-    (("j", "$"), "write jr B"),
-    (("jal", "$"), "write jalr B"),
-    (("jr", "a"), "write j B"),
-    (("jalr", "a"), "write jal B"),
-    (("mult", "$,$,$"), "write mult D,F and mflo B"),
-    (("multu", "$,$,$"), "write multu D,F and mflo B"),
+    (("addiu", "$,$,$"), "write addu B,D,F!"),
+    (("andi", "$,$,$"), "write and B,D,F!"),
+    (("ori", "$,$,$"), "write or B,D,F!"),
+    (("xori", "$,$,$"), "write xor B,D,F!"),
+    (("andi", "$,$,-"), "write li $1,F and and B,D,$1!"),
+    (("ori", "$,$,-"), "write li $1,F and or B,D,$1!"),
+    (("xori", "$,$,-"), "write li $1,F and xor B,D,$1!"),
+    (("slti", "$,$,$"), "write slt B,D,F!"),
+    (("sltiu", "$,$,$"), "write sltu B,D,F!"),
+    (("sll", "$,$,$"), "write sllv B,D,F!"),
+    (("srl", "$,$,$"), "write srlv B,D,F!"),
+    (("sra", "$,$,$"), "write srav B,D,F!"),
+    (("and", "$,$,0"), "write andi B,D,F!"),
+    (("or", "$,$,0"), "write ori B,D,F!"),
+    (("xor", "$,$,0"), "write xori B,D,F!"),
+    (("slt", "$,$,0"), "write slti B,D,F!"),
+    (("sltu", "$,$,0"), "write sltiu B,D,F!"),
+    (("sllv", "$,$,0"), "write sll B,D,F!"),
+    (("srlv", "$,$,0"), "write srl B,D,F!"),
+    (("srav", "$,$,0"), "write sra B,D,F!"),
+    (("slt", "$,$,-"), "write slti B,D,F!"),
+    (("move", "$,0"), "write li B,D!"),
+    (("move", "$,-"), "write li B,D!"),
+    (("move", "$,a"), "write la B,D!"),
+    (("li", "$,$"), "write move B,D!"),
+    (("li", "$,a"), "write la B,D!"),
+    (("j", "$"), "write jr B!"),
+    (("jal", "$"), "write jalr B!"),
+    (("jr", "a"), "write j B!"),
+    (("jalr", "a"), "write jal B!"),
+    (("mult", "$,$,$"), "write mult D,F and mflo B!"),
+    (("multu", "$,$,$"), "write multu D,F and mflo B!"),
 ];
 
 /// Of words of other assemblers.
-const OF_OTHERS: [((&str, &str), &str); 40] = [
+const OF_OTHERS: [((&str, &str), &str); 43] = [
     (
         ("sub", "$,$,-"),
-        "write addiu B,D,n, where n is F without its -",
+        "write addiu B,D,n!, where n is F without its -",
     ),
     (
         ("subi", "$,$,-"),
-        "write addiu B,D,n, where n is F without its -",
+        "write addiu B,D,n!, where n is F without its -",
     ),
     (
         ("subiu", "$,$,-"),
-        "write addiu B,D,n, where n is F without its -",
+        "write addiu B,D,n!, where n is F without its -",
     ),
-    (("add", "$,$,$"), "write addu B,D,F"),
-    (("add", "$,$,0"), "write addiu B,D,F"),
-    (("add", "$,$,-"), "write addiu B,D,F"),
-    (("sub", "$,$,$"), "write subu B,D,F"),
-    (("sub", "$,$,0"), "write addiu B,D,-F"),
-    (("addi", "$,$,0"), "write addiu B,D,F"),
-    (("addi", "$,$,-"), "write addiu B,D,F"),
-    (("subi", "$,$,0"), "write addiu B,D,-F"),
-    (("subiu", "$,$,0"), "write addiu B,D,-F"),
-    (("mul", "$,$,$"), "write mult D,F and mflo B"),
-    (("mulo", "$,$,$"), "write mult D,F and mflo B"),
-    (("mulu", "$,$,$"), "write multu D,F and mflo B"),
-    (("mulou", "$,$,$"), "write multu D,F and mflo B"),
-    (("sgt", "$,$,$"), "write slt B,F,D"),
-    (("seq", "$,$,$"), "write xor B,D,F and sltiu B,B,1"),
-    (("sne", "$,$,$"), "write xor B,D,F and sltu B,$0,B"),
-    (("mv", "$,$"), "write move B,D"),
-    (("mov", "$,$"), "write move B,D"),
-    (("mov", "$,0"), "write li B,D"),
-    (("mov", "$,-"), "write li B,D"),
-    (("neg", "$,$"), "write subu B,$0,D"),
-    (("not", "$,$"), "write nor B,D,$0"),
-    (("b", "a"), "write j B"),
-    (("br", "a"), "write j B"),
-    (("jmp", "a"), "write j B"),
-    (("goto", "a"), "write j B"),
-    (("bl", "a"), "write jal B"),
-    (("bal", "a"), "write jal B"),
-    (("call", "a"), "write jal B"),
-    (("beqz", "$,a"), "write beq B,$0,D"),
-    (("bnez", "$,a"), "write bne B,$0,D"),
-    (("blt", "$,$,a"), "write slt $1,B,D and bne $1,$0,F"),
-    (("blt", "$,0,a"), "write slti $1,B,D and bne $1,$0,F"),
-    (("bge", "$,$,a"), "write slt $1,B,D and beq $1,$0,F"),
-    (("bge", "$,0,a"), "write slti $1,B,D and beq $1,$0,F"),
-    (("bgt", "$,$,a"), "write slt $1,D,B and bne $1,$0,F"),
-    (("ble", "$,$,a"), "write slt $1,D,B and beq $1,$0,F"),
+    (("add", "$,$,$"), "write addu B,D,F!"),
+    (("add", "$,$,0"), "write addiu B,D,F!"),
+    (("add", "$,$,-"), "write addiu B,D,F!"),
+    (("sub", "$,$,$"), "write subu B,D,F!"),
+    (("sub", "$,$,0"), "write addiu B,D,-F!"),
+    (("addi", "$,$,0"), "write addiu B,D,F!"),
+    (("addi", "$,$,-"), "write addiu B,D,F!"),
+    (("addi", "$,$,$"), "write addu B,D,F!"),
+    (("subi", "$,$,0"), "write addiu B,D,-F!"),
+    (("subiu", "$,$,0"), "write addiu B,D,-F!"),
+    (("subi", "$,$,$"), "write subu B,D,F!"),
+    (("subiu", "$,$,$"), "write subu B,D,F!"),
+    (("mul", "$,$,$"), "write mult D,F and mflo B!"),
+    (("mulo", "$,$,$"), "write mult D,F and mflo B!"),
+    (("mulu", "$,$,$"), "write multu D,F and mflo B!"),
+    (("mulou", "$,$,$"), "write multu D,F and mflo B!"),
+    (("sgt", "$,$,$"), "write slt B,F,D!"),
+    (("seq", "$,$,$"), "write xor B,D,F and sltiu B,B,1!"),
+    (("sne", "$,$,$"), "write xor B,D,F and sltu B,$0,B!"),
+    (("mv", "$,$"), "write move B,D!"),
+    (("mov", "$,$"), "write move B,D!"),
+    (("mov", "$,0"), "write li B,D!"),
+    (("mov", "$,-"), "write li B,D!"),
+    (("neg", "$,$"), "write subu B,$0,D!"),
+    (("not", "$,$"), "write nor B,D,$0!"),
+    (("b", "a"), "write j B!"),
+    (("br", "a"), "write j B!"),
+    (("jmp", "a"), "write j B!"),
+    (("goto", "a"), "write j B!"),
+    (("bl", "a"), "write jal B!"),
+    (("bal", "a"), "write jal B!"),
+    (("call", "a"), "write jal B!"),
+    (("beqz", "$,a"), "write beq B,$0,D!"),
+    (("bnez", "$,a"), "write bne B,$0,D!"),
+    (("blt", "$,$,a"), "write slt $1,B,D and bne $1,$0,F!"),
+    (("blt", "$,0,a"), "write slti $1,B,D and bne $1,$0,F!"),
+    (("bge", "$,$,a"), "write slt $1,B,D and beq $1,$0,F!"),
+    (("bge", "$,0,a"), "write slti $1,B,D and beq $1,$0,F!"),
+    (("bgt", "$,$,a"), "write slt $1,D,B and bne $1,$0,F!"),
+    (("ble", "$,$,a"), "write slt $1,D,B and beq $1,$0,F!"),
 ];
 
 /// The sign of a word by its first byte.
@@ -295,6 +303,27 @@ fn signs(alloc: Global, line: &[u8], places: &[TokenSpan]) -> Result<Vec<u8>, Al
     Ok(list)
 }
 
+/// Adds the mark of a place after a blank, if it is one.
+fn add_mark(bytes: &mut Vec<u8>, line: &[u8], place: TokenSpan) -> Result<(), AllocError>
+    ensures { OnOk result (bytes.new.items ≡ bytes.old.items ++ mark_text line.now place) }
+{
+    if byte_at(line, place) == b'!' {
+        bytes.push(b' ')?;
+        bytes.extend_from_slice(bytes_at(line, whole_word(line, place)))?;
+    }
+    Ok(())
+}
+
+/// Adds the marks of a line, each after a blank.
+fn add_marks(bytes: &mut Vec<u8>, line: &[u8], places: &[TokenSpan]) -> Result<(), AllocError>
+    ensures { OnOk result (bytes.new.items ≡ bytes.old.items ++ marks_text line.now places.now) }
+{
+    for place in places {
+        add_mark(bytes, line, *place)?;
+    }
+    Ok(())
+}
+
 /// Adds what a letter of a text stands for.
 fn add_word_for(
     bytes: &mut Vec<u8>,
@@ -305,6 +334,7 @@ fn add_word_for(
     ensures { OnOk result (bytes.new.items ≡ bytes.old.items ++ word_for line.now places.now letter) }
 {
     match letter {
+        b'!' => add_marks(bytes, line, places)?,
         b'A'..=b'Z' => {
             let place = span_at(places, usize::from(letter - b'A'));
             bytes.extend_from_slice(bytes_at(line, place))?;
@@ -388,13 +418,37 @@ fn first_of(first: Option<&'static str>, second: Option<&'static str>) -> Option
     }
 }
 
+/// Whether a word begins as a name does.
+fn begins_name(word: &[u8]) -> bool
+    ensures { result ≡ begins_name word.now }
+{
+    matches!(word, [b'_' | b'a'..=b'z' | b'A'..=b'Z', ..])
+}
+
+/// Whether a line with this word and these signs is a constant: a name, `=` and a number.
+fn is_constant(word: &[u8], signs: &[u8]) -> bool
+    ensures { result ≡ is_constant word.now signs.now }
+{
+    begins_name(word) && (signs == "=0".as_bytes() || signs == "=-".as_bytes())
+}
+
+/// What is written instead of a constant, if the line is one.
+fn constant_row(word: &[u8], signs: &[u8]) -> Option<&'static str>
+    ensures { option_map (λ text. text.now) result ≡ constant_row word.now signs.now }
+{
+    if is_constant(word, signs) {
+        return Some("there are no constants: write C where A is used");
+    }
+    None
+}
+
 /// What is written instead of a line with this word and these signs, if it is known.
 fn line_instead(word: &[u8], form: &str, signs: &[u8]) -> Option<&'static str>
     ensures { option_map (λ text. text.now) result ≡ line_instead word.now form.now signs.now }
 {
     let of_lists = first_of(address_row(word, form, signs), place_row(word, form, signs));
     let of_words = first_of(kind_row(word, form, signs), foreign_row(word, form, signs));
-    first_of(of_lists, of_words)
+    first_of(constant_row(word, signs), first_of(of_lists, of_words))
 }
 
 /// What is written instead of a line whose statement stands at these places, in its own words.

@@ -67,7 +67,7 @@ const SAID_OF_NAMED: &str = "p.s:1:9: error: the create mask of task A lacks $ra
 p.s:4:1: note: $ra is sent here, on the path 3 -> 4
     4 | release $17,$ra
       | ^~~~~~~~~~~~~~~
-p.s:1:9: help: write create=$t0,$s1,$ra
+p.s:1:9: help: take $ra out of the release on line 4, since no instruction of task A writes it; or write create=$t0,$s1,$ra
 p.s:3:4: error: task A forwards $t0 here and may write it again [rule 6]
     3 | A: addiu $8,$8,1 !f
       |    ^~~~~~~~~~~~~~~~

@@ -130,9 +130,11 @@ general_words kind.Mark here line r at =
     let found = slice_get r.tokens (mark_index r.tokens) in
     mark_words (is_directive r.tokens) (is_no_mark found) (instead (bytes_at line at)) found
 
--- of operands, of what is no token, and of a word that is of no section: in the line's own words, where they are known
+-- of operands, of numbers, of what is no token, and of a word that is of no section: in the line's own words, where they
+-- are known
 abbrev pub words_of_line : LineFaultKind → Section → (line : List ℕ) → Reading → Place → Option (List ℕ)
 words_of_line kind.Token here line r at = own_words line r
+words_of_line kind.Number here line r at = own_words line r
 words_of_line kind.Operand here line r at = option_or (comment_words here line at) (own_words line r)
 words_of_line kind.Mnemonic here line r at = if is_some (shape_of (bytes_at line at)) then None else own_words line r
 words_of_line _ here line r at = None

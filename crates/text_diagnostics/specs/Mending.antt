@@ -47,3 +47,7 @@ mended k here line at = map as_shown (filter (mends k here line at) (candidates 
 -- a word may be a label that lacks its colon
 unfoldable pub may_be_label : Section → (line : List ℕ) → TokenSpan → Bool
 may_be_label here line at = reads here (replaced line at (bytes_at line at ++ codes ":"))
+
+-- a line lacks a ) alone
+unfoldable pub is_unclosed : Section → (line : List ℕ) → TokenSpan → Bool
+is_unclosed here line at = reads here (replaced line at (codes ")"))

@@ -20,6 +20,7 @@ use Rattle.text_diagnostics.specs.declared.mistake.Kind.{Kind}
 use Rattle.text_diagnostics.specs.declared.mistake.Kind.TheVariants.{LabelTwice, TaskTwice, StartTwice, NoLabel, DataLabel, Passes, CreatesZero, UnfitForward, StopOnHalt, OneSidedStop, ReleasesZero, NoInstruction, SameEntry, NoTaskThere}
 use Rattle.operand_forms.specs.declared.rows.Reading.{Reading}
 use Rattle.operand_forms.specs.LinePlaces.{word_in}
+use Rattle.text_diagnostics.specs.Mending.{is_unclosed}
 
 -- Of a line that cannot be read.
 
@@ -37,9 +38,11 @@ token_message first meant =
     else if first == byte "!" then codes "there is no mark " ++ meant
     else codes "this is not a name, a register or a number: " ++ meant
 
-abbrev pub operand_message : (is_early : Bool) → (word meant : List ℕ) → List ℕ
-operand_message true word meant = word ++ codes " needs more operands"
-operand_message false word meant = word ++ (codes " cannot take " ++ (meant ++ codes " here"))
+-- operands that end too early, if only by a ), and any others
+abbrev pub operand_message : (is_early is_unclosed : Bool) → (word meant : List ℕ) → List ℕ
+operand_message true true word meant = codes "`)` is missing"
+operand_message true false word meant = word ++ codes " needs more operands"
+operand_message false unclosed word meant = word ++ (codes " cannot take " ++ (meant ++ codes " here"))
 
 abbrev pub is_no_mark : Option Token → Bool
 is_no_mark (Some (token.Mark mark.Unknown)) = true
@@ -59,7 +62,8 @@ line_message kind.NotAscii here line r at = codes "a program text cannot have th
 line_message kind.Token here line r at = token_message (byte_at line at) (quoted (bytes_at line at))
 line_message kind.Mnemonic here line r at =
     mnemonic_message here (is_some (shape_of (bytes_at line at))) (quoted (bytes_at line at))
-line_message kind.Operand here line r at = operand_message (nat_eq at.len 0) (quoted (word_in line r)) (quoted (bytes_at line at))
+line_message kind.Operand here line r at =
+    operand_message (nat_eq at.len 0) (is_unclosed here line at) (quoted (word_in line r)) (quoted (bytes_at line at))
 line_message kind.Number here line r at = quoted (bytes_at line at) ++ codes " is out of its range"
 line_message kind.Mark here line r at =
     let found = slice_get r.tokens (mark_index r.tokens) in

@@ -286,7 +286,7 @@ fn words_of_line(
     ensures { IfOk result (λ words. words ≡ words_of_line kind section line.now reading.now place) }
 {
     match kind {
-        LineFaultKind::Token => own_words(alloc, line, reading),
+        LineFaultKind::Token | LineFaultKind::Number => own_words(alloc, line, reading),
         LineFaultKind::Operand => words_of_operands(alloc, section, line, reading, place),
         LineFaultKind::Mnemonic if shape_of(bytes_at(line, place)).is_none() => {
             own_words(alloc, line, reading)

@@ -2,7 +2,7 @@
 
 ghost use Rattle.std.specs.Prelude.{◌≡◌, filter, map as each, IfOk};
 ghost use Rattle.diagnostics.specs.Quotations.{as_shown};
-ghost use Rattle.text_diagnostics.specs.Mending.{replaced, goes_further, taken_by, mends, mended, may_be_label};
+ghost use Rattle.text_diagnostics.specs.Mending.{replaced, goes_further, taken_by, mends, mended, may_be_label, is_unclosed};
 
 use crate::section::reads;
 use diagnostics::quotation::as_shown;
@@ -127,4 +127,17 @@ pub(crate) fn may_be_label(
     let mut label = bytes_at(line, place).to_vec(alloc)?;
     label.push(b':')?;
     reads(alloc, section, &replaced(alloc, line, place, &label)?)
+}
+
+/// Whether a line lacks a `)` alone.
+#[tactic(auto, unfolding(crate::specs::Mending::is_unclosed))]
+pub(crate) fn is_unclosed(
+    alloc: Global,
+    section: Section,
+    line: &[u8],
+    place: TokenSpan,
+) -> Result<bool, AllocError>
+    ensures { IfOk result (λ yes. yes ≡ is_unclosed section line.now place) }
+{
+    reads(alloc, section, &replaced(alloc, line, place, b")")?)
 }

@@ -5,6 +5,7 @@ ghost use Rattle.std.specs.Option.{option_copied};
 ghost use Rattle.diagnostics.specs.Quotations.{quoted};
 ghost use Rattle.text_diagnostics.specs.Messages.{mnemonic_message, token_message, operand_message, is_no_mark, second_message, mark_message, line_message, nameless_message, item_message};
 
+use crate::mending::is_unclosed;
 use crate::mistake::Kind;
 use diagnostics::quotation::quoted;
 use diagnostics::words;
@@ -54,15 +55,19 @@ fn token_message(alloc: Global, first: u8, meant: &Words) -> Result<Words, Alloc
     words!(in alloc; "this is not a name, a register or a number: {meant}")
 }
 
-/// That a word needs more operands, or that it cannot take this one.
+/// That a word needs more operands, or a `)` alone, or that it cannot take this one.
 fn operand_message(
     alloc: Global,
     is_early: bool,
+    is_unclosed: bool,
     word: &Words,
     meant: &Words,
 ) -> Result<Words, AllocError>
-    ensures { IfOk result (λ words. words ≡ operand_message is_early word.now meant.now) }
+    ensures { IfOk result (λ words. words ≡ operand_message is_early is_unclosed word.now meant.now) }
 {
+    if is_early && is_unclosed {
+        return Words::of(alloc, "`)` is missing");
+    }
     if is_early {
         return words!(in alloc; "{word} needs more operands");
     }
@@ -131,8 +136,9 @@ pub(crate) fn line_message(
             mnemonic_message(alloc, section, shape_of(bytes).is_some(), &meant)
         }
         LineFaultKind::Operand => {
+            let unclosed = is_unclosed(alloc, section, line, place)?;
             let word = quoted(alloc, word_in(line, reading))?;
-            operand_message(alloc, place.len == 0, &word, &meant)
+            operand_message(alloc, place.len == 0, unclosed, &word, &meant)
         }
         LineFaultKind::Number => words!(in alloc; "{meant} is out of its range"),
         LineFaultKind::Mark => {
