@@ -30,7 +30,7 @@ TOP = pathlib.Path(__file__).resolve().parent.parent
 SHEET = (TOP / "crates/speed_curve/src/sheet.rt").read_text().split('"', 1)[1].rsplit('"', 1)[0]
 SVG = "{http://www.w3.org/2000/svg}"
 LEFT, WIDTH = 88, 1160
-ZERO, SPACE = 488, 88
+ZERO, HIGH = 496, 360
 FOOT, MOST = 630, 80
 
 
@@ -40,21 +40,33 @@ def ratio(part, whole):
     return quotient.quantize(Decimal("0.01"), ROUND_HALF_UP)
 
 
-def picture(rows):
-    """The file of some rows: units, steps, retired and wasted instructions, and the end in words."""
+def caption(name, budget, predict):
+    """The line above the title, of a program that may have no name; of a long list the first 24 numbers."""
+    numbers = predict.split(",")
+    named = ",".join(numbers[:24]) + (",&#8230;" if len(numbers) > 24 else "")
+    program = f"program: {name}; " if name else ""
+    return f"<text class='quiet' x='88' y='18'>{program}budget: {budget} events; predictor: {named}</text>\n"
+
+
+def picture(rows, said=""):
+    """The file of some rows: units, steps, retired and wasted instructions, and the end in words; after a line."""
     rates = [ratio(retired, steps) for _, steps, retired, _, _ in rows]
     speeds = [speed_up(rows[0], row) for row in rows]
-    # the top of the scale is a multiple of a fifth
-    fifths = [(number * 5).to_integral_value(ROUND_CEILING) for number in rates + speeds if number is not None]
-    top = max(fifths + [Decimal(1)]) / 5
+    most = max([number for number in rates + speeds if number is not None] + [Decimal("0.2")])
+    # the least step of which at most five make the top of the scale
+    step = next(step for power in range(-2, 9) for step in (Decimal(1).scaleb(power) * k for k in (1, 2, 5)) if 5 * step >= most)
+    lines = int((most / step).to_integral_value(ROUND_CEILING))
+    top = lines * step
     middles = [LEFT + (2 * row[0] - 1) * WIDTH // (2 * len(rows)) for row in rows]
-    text = SHEET
-    for quarter in range(5):
-        text += label("scale", 78, ZERO + 4 - quarter * SPACE, cut(top * quarter / 4))
+    text = SHEET + said
+    text += label("scale", 78, ZERO + 4, cut(Decimal(0)))
+    for line in range(1, lines + 1):
+        y = ZERO - line * HIGH // lines
+        text += f"<path class='grid' d='M88 {y}H1248'/>\n" + label("scale", 78, y + 4, cut(line * step))
     for style, numbers in (("curve", rates), ("speed", speeds)):
         points = (f"{x},{height(number, top)} " for x, number in zip(middles, numbers) if number is not None)
         text += f"<polyline class='{style}' points='{''.join(points)}'/>\n"
-    return text + "".join(column(*of_run, top) for of_run in zip(rows, middles, rates, speeds)) + "</svg>\n"
+    return text + "".join(column(*of_run, top, HIGH // lines) for of_run in zip(rows, middles, rates, speeds)) + "</svg>\n"
 
 
 def speed_up(one, row):
@@ -64,7 +76,7 @@ def speed_up(one, row):
 
 
 def height(number, top):
-    return ZERO - int(SPACE * 4 * number / top)
+    return ZERO - int(HIGH * number / top)
 
 
 def cut(number):
@@ -76,20 +88,20 @@ def label(style, x, y, words):
     return f"<text class='{style}' x='{x}' y='{y}'>{words}</text>\n"
 
 
-def free(y, step):
+def free(y, step, gap):
     """The first foot of a number, from this one on, that no line of the upper scale comes near."""
-    while any(y - 12 <= line <= y + 3 for line in range(ZERO, 0, -SPACE)):
+    while any(y - 12 <= line <= y + 3 for line in range(ZERO, 0, -gap)):
         y += step
     return y
 
 
-def column(row, x, rate, speed, top):
+def column(row, x, rate, speed, top, gap):
     """A run: what is said of it, its bar, its points, and its numbers."""
     units, steps, retired, wasted, end = row
     share = ratio(100 * wasted, retired + wasted)
     high = max(int(share * MOST / 100), 1 if wasted else 0)
     y = height(rate, top)
-    under = free(y + 22, 1)
+    under = free(y + 22, 1, gap)
     mark = f"<circle class='halted' cx='0' cy='{y}' r='7'/>" if end == "halted" else f"<path class='other' d='M-9 {y}l9-9 9 9-9 9z'/>"
     text = (
         f"<g transform='translate({x} 0)'><title>units: {units}, steps: {steps}, speed-up: {'-' if speed is None else speed}"
@@ -98,7 +110,7 @@ def column(row, x, rate, speed, top):
     )
     if speed is not None:
         above = height(speed, top)
-        text += f"<path class='faster' d='M-4 {above}v-4h8v8h-8z'/>\n{label('value', 0, free(above - 12, -1), speed)}"
+        text += f"<path class='faster' d='M-4 {above}v-4h8v8h-8z'/>\n{label('value', 0, free(above - 12, -1, gap), speed)}"
     return text + label("value", 0, under, rate) + label("value", 0, 648, f"{share}%") + f"<text class='number' x='0' y='672'>{units}</text></g>\n"
 
 
@@ -125,8 +137,9 @@ def faults(program, path, units, budget, predict):
     wanted = next((curve.STATUS[row[4]] for row in rows if row[4] != "halted"), 0)
     if status != wanted or said:
         yield f"status {status}, wanted {wanted}; {said}"
-    if text != picture(rows):
-        pairs = zip(text.splitlines(), picture(rows).splitlines())
+    model_text = picture(rows, caption(pathlib.Path(path).name, budget, predict))
+    if text != model_text:
+        pairs = zip(text.splitlines(), model_text.splitlines())
         yield next((f"wrote {one}\nwanted {two}" for one, two in pairs if one != two), "another length")
     yield from foreign(text)
 
@@ -170,7 +183,8 @@ def main():
         sys.stdout.write(picture(given.rows))
     elif given.model:
         program = model.assemble(given.model.read_bytes())
-        sys.stdout.write(picture(drawn_rows(program, given.units, given.budget, given.predict)))
+        said = caption(given.model.name, given.budget, given.predict)
+        sys.stdout.write(picture(drawn_rows(program, given.units, given.budget, given.predict), said))
     elif given.program:
         sys.exit(1 if compare(str(pathlib.Path(given.program).resolve()), given.seconds, given.seed) else 0)
     else:

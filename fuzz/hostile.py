@@ -237,9 +237,9 @@ def wanted(words, texts):
     if name == "explain":
         wanted = wanted_log if options.get("format") == "sarif" else wanted_explanation
         return wanted(files, given, "no-warnings" in options)
-    if name == "curve":
-        return wanted_curve(options, given)
     called = "" if files[0] == "-" else files[0]
+    if name == "curve":
+        return wanted_curve(options, given, called)
     if name == "replay":
         return wanted_replay(options, given, called)
     return wanted_run(options, given, called)
@@ -270,7 +270,7 @@ def wanted_marks(text):
     return (marked, 0) if len(marked) <= marks.LONGEST else ("marks refused: 1 TooLong\n", 1)
 
 
-def wanted_curve(options, given):
+def wanted_curve(options, given, name):
     """The table of the steps that curve.py makes, unless one of its runs is too long for the model."""
     program, said = accepted_program(*given)
     if not program:
@@ -283,14 +283,15 @@ def wanted_curve(options, given):
             return lambda out, status: status in (0, 1, 3) and out.startswith((curve.HEADING, "<svg "))
     rows = [row.row() for row in rows]
     text, status = curve.table(rows)
-    return (picture_of(rows), status) if options.get("emit") == "svg" else (text, status)
+    return (picture_of(rows, name, budget, predict), status) if options.get("emit") == "svg" else (text, status)
 
 
-def picture_of(rows):
-    """The picture of the rows of `curve`."""
+def picture_of(rows, name, budget, predict):
+    """The picture of the rows of `curve`, of a program of this name."""
     import curve_picture
 
-    return curve_picture.picture([(units, *row) for units, row in enumerate(rows, 1)])
+    said = curve_picture.caption(name, budget, predict)
+    return curve_picture.picture([(units, *row) for units, row in enumerate(rows, 1)], said)
 
 
 def wanted_results(files, given, no_warnings):

@@ -63,7 +63,7 @@ class Comparison:
                     words = ["run", "--least", "--schedule", "steps", "--units", units, "--predict", word, "--budget", 2000, "--emit", *name.split(), "-"]
                     self.compare(words, multiscalar.run_in_steps(text, units=units, budget=2000, prediction=prediction, emit=emit), text)
         for emit, name in emits("curve"):
-            self.compare(["curve", "--least", "--units", 6, "--budget", 2000, "--emit", name, file], multiscalar.curve(text, units=6, budget=2000, emit=emit))
+            self.compare(["curve", "--least", "--units", 6, "--budget", 2000, "--emit", name, "-"], multiscalar.curve(text, units=6, budget=2000, emit=emit), text)
 
     def replay(self, file, certificate, script):
         """By a certificate, or by the least one."""

@@ -1,12 +1,17 @@
--- The bars of lives, and the names of their tasks.
-use Rattle.std.specs.Prelude.{ℕ, ◌+◌, ◌-◌, List, [], ◌∷◌, map, flat_map, length, slice_get, nat_eq, nat_lt, if◌then◌else◌, codes, Option, Some, None}
+-- The bars of lives, and the names of their tasks. The task that halted is not called unfinished.
+use Rattle.std.specs.Prelude.{ℕ, ◌+◌, ◌-◌, ◌%◌, Bool, false, List, [], ◌∷◌, map, flat_map, length, slice_get, nat_eq, nat_lt, if◌then◌else◌, codes, Option, Some, None}
+use Rattle.machine_model.specs.declared.event.Standing.{Standing}
+use Rattle.machine_model.specs.declared.event.Standing.TheVariants as standing
 use Rattle.task_descriptor.specs.declared.descriptor.Descriptor.{Descriptor}
 use Rattle.task_lives.specs.declared.life.Life.{Life}
+use Rattle.task_lives.specs.Sums.{is_unfinished}
 use Rattle.run_picture.specs.declared.shape.Shape.{Shape}
-use Rattle.run_picture.specs.declared.shape.Style.TheVariants.{Bar, TaskName}
+use Rattle.run_picture.specs.declared.shape.Style.{Style}
+use Rattle.run_picture.specs.declared.shape.Style.TheVariants.{Bar, Halted, TaskName}
 use Rattle.run_picture.specs.declared.shape.Geometry.TheVariants.{Rectangle}
 use Rattle.run_picture.specs.declared.shape.LabelText.TheVariants.{Task}
-use Rattle.run_picture.specs.declared.shape.Hover.TheVariants.{OfLife}
+use Rattle.run_picture.specs.declared.shape.Hover.{Hover}
+use Rattle.run_picture.specs.declared.shape.Hover.TheVariants.{OfLife, OfHalted}
 use Rattle.run_picture.specs.Scales.{left_edge_of, top_of, fitting_of}
 use Rattle.run_picture.specs.Shapes.{label}
 
@@ -14,17 +19,38 @@ use Rattle.run_picture.specs.Shapes.{label}
 abbrev pub width_of : (events : ℕ) → Life → ℕ
 width_of events life = left_edge_of events (life.last + 1) - left_edge_of events life.first
 
+-- the unit that halted: the head's, whose number round the ring is that of the retired tasks; if none did, a number
+-- that no unit has
+abbrev pub halted_unit : (units retired : ℕ) → Standing → ℕ
+halted_unit units retired standing.Halted = retired % units
+halted_unit units retired _ = units
+
+-- of a run of which it is known how it stands
+abbrev pub halted_unit_if : (units retired : ℕ) → Option Standing → ℕ
+halted_unit_if units retired None = units
+halted_unit_if units retired (Some stands) = halted_unit units retired stands
+
+-- the life is that of the task that halted
+abbrev pub is_halted : (halted : ℕ) → Life → Bool
+is_halted halted life = if nat_eq life.unit halted then is_unfinished life.ending else false
+
+abbrev pub bar_style : (halted : ℕ) → Life → Style
+bar_style halted life = if is_halted halted life then Halted else Bar life.ending
+
+abbrev pub bar_hover : (halted : ℕ) → Life → Hover
+bar_hover halted life = if is_halted halted life then OfHalted life else OfLife life
+
 -- the bar of a life, in its unit's lane
-abbrev pub bar_of : (events : ℕ) → Life → Shape
-bar_of events life = record {
-  style = Bar life.ending;
+abbrev pub bar_of : (events halted : ℕ) → Life → Shape
+bar_of events halted life = record {
+  style = bar_style halted life;
   form = Rectangle (left_edge_of events life.first) (top_of life.unit) (width_of events life) 4000;
-  hover = OfLife life;
+  hover = bar_hover halted life;
 }
 
 -- one bar for each life, in the order of the lives
-abbrev pub bars_of : (events : ℕ) → List Life → List Shape
-bars_of events lives = map (bar_of events) lives
+abbrev pub bars_of : (events halted : ℕ) → List Life → List Shape
+bars_of events halted lives = map (bar_of events halted) lives
 
 -- the name of a task of a program
 abbrev pub name_in : Option Descriptor → List ℕ

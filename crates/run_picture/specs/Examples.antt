@@ -1,17 +1,18 @@
 -- Worked examples, computed by the checker: lengths, titles, a bar, marks, a stretch and its title.
-use Rattle.std.specs.Prelude.{◌≡◌, ℕ, ◌+◌, ◌*◌, [], ◌∷◌, ◌++◌, codes, replicate}
+use Rattle.std.specs.Prelude.{◌≡◌, ℕ, ◌+◌, ◌*◌, [], ◌∷◌, ◌++◌, Some, None, codes, replicate}
 use Rattle.std.specs.Fmt.{digits}
 use Rattle.std.proofs.Common.{refl}
 use Rattle.machine_model.specs.declared.event.Event.TheVariants.{Assign, Exec, Retire}
+use Rattle.machine_model.specs.declared.event.Standing.TheVariants as standing
 use Rattle.task_lives.specs.declared.life.Ending.{Ending}
-use Rattle.task_lives.specs.declared.life.Ending.TheVariants.{Retired, Squashed, Dropped}
+use Rattle.task_lives.specs.declared.life.Ending.TheVariants.{Retired, Squashed, Dropped, Unfinished}
 use Rattle.task_lives.specs.declared.life.Life.{Life}
-use Rattle.run_picture.specs.declared.shape.Style.TheVariants.{Bar, Instruction}
+use Rattle.run_picture.specs.declared.shape.Style.TheVariants.{Bar, Halted, Instruction}
 use Rattle.run_picture.specs.declared.shape.Geometry.TheVariants.{Rectangle, Line}
-use Rattle.run_picture.specs.declared.shape.Hover.TheVariants.{Nothing, OfLife}
+use Rattle.run_picture.specs.declared.shape.Hover.TheVariants.{Nothing, OfLife, OfHalted}
 use Rattle.run_picture.specs.declared.shape.Counted.TheVariants.{Events, Steps}
 use Rattle.run_picture.specs.Scales.{pixels_text, step_of, fitting_of}
-use Rattle.run_picture.specs.Bars.{bar_of}
+use Rattle.run_picture.specs.Bars.{bar_of, halted_unit_if}
 use Rattle.run_picture.specs.Marks.{marks_of}
 use Rattle.run_picture.specs.Stretches.{hover_of, overlap, share_of}
 use Rattle.run_picture.specs.StretchTallies.{executed_from}
@@ -58,8 +59,25 @@ long_name = refl
 abbrev squashed : Life
 squashed = life 1 1 1 9 0 Squashed
 
-pub bar_of_squashed : bar_of 16 squashed ≡ record { style = Bar Squashed; form = Rectangle 16050 23400 65250 4000; hover = OfLife squashed }
+pub bar_of_squashed : bar_of 16 2 squashed ≡ record { style = Bar Squashed; form = Rectangle 16050 23400 65250 4000; hover = OfLife squashed }
 bar_of_squashed = refl
+
+-- after five tasks retired on four units the head is unit 1; where it is not known that the run halted, no unit did
+pub unit_of_head : halted_unit_if 4 5 (Some standing.Halted) ≡ 1
+unit_of_head = refl
+
+pub no_unit : halted_unit_if 4 5 None ≡ 4
+no_unit = refl
+
+abbrev halted : Life
+halted = life 1 1 1 9 3 Unfinished
+
+pub bar_of_halted : bar_of 16 1 halted ≡ record { style = Halted; form = Rectangle 16050 23400 65250 4000; hover = OfHalted halted }
+bar_of_halted = refl
+
+pub said_of_halted : hover_text [] (OfHalted halted) ≡ codes "<title>task ?, unit 1, events 2 to 10, instructions: 3, halted</title>"
+unfolding digits
+said_of_halted = refl
 
 -- after a Retire the instruction at position 0 is one of unit 1
 pub marks_behind_retire : marks_of 2 4 (Assign 0 ∷ Retire ∷ Assign 0 ∷ Exec 0 ∷ []) ≡ record { style = Instruction; form = Line 110300 26100 110300 27000; hover = Nothing } ∷ []
@@ -81,10 +99,10 @@ executed_places = refl
 
 -- of 291 events a stretch has two; the last one has one
 pub said_of_a_stretch : hover_text [] (hover_of Events 291 (2 ∷ 3 ∷ 9 ∷ []) (life 0 0 0 2 1 Retired ∷ life 1 1 1 3 0 Squashed ∷ life 1 1 2 3 0 Squashed ∷ life 0 1 2 9 1 Dropped ∷ []) 1)
-    ≡ codes "<title>events 3 to 4: instructions: 2, tasks retired: 1, squashed: 2, dropped: 0</title>"
+    ≡ codes "<title>events 3 to 4. On all units: instructions: 2; tasks that end here: retired: 1, squashed: 2, dropped: 0. The column is of this unit alone.</title>"
 unfolding digits
 said_of_a_stretch = refl
 
-pub said_of_one_step : hover_text [] (hover_of Steps 291 [] [] 145) ≡ codes "<title>step 291: instructions: 0, tasks retired: 0, squashed: 0, dropped: 0</title>"
+pub said_of_one_step : hover_text [] (hover_of Steps 291 [] [] 145) ≡ codes "<title>step 291. On all units: instructions: 0; tasks that end here: retired: 0, squashed: 0, dropped: 0. The column is of this unit alone.</title>"
 unfolding digits
 said_of_one_step = refl

@@ -1,16 +1,22 @@
--- What stands round the bars: the line below the title, a lane for each unit, the axis of events, and a note below.
-use Rattle.std.specs.Prelude.{ℕ, ◌+◌, ◌-◌, ◌*◌, ◌/◌, ◌%◌, List, [], ◌∷◌, flat_map, max, nat_eq, if◌then◌else◌}
+-- What stands round the bars: the line below the title, the one below the legend, a lane for each unit, the axis of events, and a note below.
+use Rattle.std.specs.Prelude.{ℕ, ◌+◌, ◌-◌, ◌*◌, ◌/◌, ◌%◌, List, [], ◌∷◌, flat_map, max, nat_eq, if◌then◌else◌, Option, Some, None}
 use Rattle.std.specs.List.{range_with_len}
+use Rattle.machine_model.specs.declared.event.Standing.{Standing}
 use Rattle.task_lives.specs.declared.tally.Tally.{Tally}
 use Rattle.run_picture.specs.declared.shape.Shape.{Shape}
 use Rattle.run_picture.specs.declared.shape.Style.TheVariants.{Quiet, Ground, UnitName, Grid, Axis, AxisNumber, Caption}
 use Rattle.run_picture.specs.declared.shape.LabelText.{LabelText}
-use Rattle.run_picture.specs.declared.shape.LabelText.TheVariants.{Sums, OfUnit, EventNumber, Events}
+use Rattle.run_picture.specs.declared.shape.LabelText.TheVariants.{Sums, HowItStands, OfUnit, EventNumber, Events}
 use Rattle.run_picture.specs.Scales.{bottom_of, middle_of, step_of}
 use Rattle.run_picture.specs.Shapes.{rectangle, line, label}
 
 abbrev pub sums_of : Tally → List Shape
 sums_of tally = label Quiet 8800 7200 (Sums tally) ∷ []
+
+-- how the run stands, if that is known
+abbrev pub standing_of : Option Standing → List Shape
+standing_of None = []
+standing_of (Some stands) = label Quiet 8800 13300 (HowItStands stands) ∷ []
 
 -- every other lane has a ground; the others have one of no height
 abbrev pub lane_of : (unit : ℕ) → List Shape

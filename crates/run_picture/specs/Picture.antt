@@ -1,7 +1,8 @@
 -- The picture of a run: its shapes, and its text.
 use Rattle.std.specs.Fmt.{decimal}
-use Rattle.std.specs.Prelude.{ℕ, ◌+◌, ◌/◌, List, [], ◌∷◌, ◌++◌, length, codes, nat_le, if◌then◌else◌}
+use Rattle.std.specs.Prelude.{ℕ, ◌+◌, ◌/◌, List, [], ◌∷◌, ◌++◌, length, codes, nat_le, if◌then◌else◌, Option, None}
 use Rattle.machine_model.specs.declared.event.Event.{Event}
+use Rattle.machine_model.specs.declared.event.Standing.{Standing}
 use Rattle.task_descriptor.specs.declared.descriptor.Descriptor.{Descriptor}
 use Rattle.task_descriptor.specs.Listing.{Listing}
 use Rattle.task_lives.specs.declared.life.Life.{Life}
@@ -11,8 +12,8 @@ use Rattle.run_picture.specs.declared.shape.Shape.{Shape}
 use Rattle.run_picture.specs.declared.shape.LabelText.TheVariants.{Ring, Stretch}
 use Rattle.run_picture.specs.Scales.{bottom_of}
 use Rattle.run_picture.specs.declared.shape.Counted.TheVariants.{Events}
-use Rattle.run_picture.specs.Frame.{sums_of, lanes_of, axis_of, note_of}
-use Rattle.run_picture.specs.Bars.{bars_of, names_of}
+use Rattle.run_picture.specs.Frame.{sums_of, standing_of, lanes_of, axis_of, note_of}
+use Rattle.run_picture.specs.Bars.{bars_of, halted_unit_if, names_of}
 use Rattle.run_picture.specs.Marks.{marks_of}
 use Rattle.run_picture.specs.StretchTallies.{executed_from}
 use Rattle.run_picture.specs.Stretches.{length_of, stretches_of}
@@ -21,9 +22,9 @@ use Rattle.run_picture.specs.Titles.{called_text, title_text}
 use Rattle.run_picture.specs.FixedText.{style_sheet, marks_legend, stretches_legend}
 
 -- a run of some events, drawn singly: a bar for each life, then the marks of the events, and the names
-abbrev pub single_shapes : List Descriptor → (units : ℕ) → List Event → List Life → List Shape
-single_shapes tasks units history lives =
-    bars_of (length history) lives ++ (marks_of units (length history) history
+abbrev pub single_shapes : List Descriptor → (units halted : ℕ) → List Event → List Life → List Shape
+single_shapes tasks units halted history lives =
+    bars_of (length history) halted lives ++ (marks_of units (length history) history
     ++ (names_of tasks (length history) lives ++ note_of units Ring))
 
 -- a long run, summed
@@ -32,14 +33,17 @@ summed_shapes units history lives =
     stretches_of Events units (length history) (executed_from 0 history) lives ++ note_of units (Stretch (length_of (length history)))
 
 -- up to 2,000 events are drawn singly
-abbrev pub inner_shapes : List Descriptor → (units : ℕ) → List Event → List Life → List Shape
-inner_shapes tasks units history lives =
-    if nat_le (length history) 2000 then single_shapes tasks units history lives else summed_shapes units history lives
+abbrev pub inner_shapes : List Descriptor → (units halted : ℕ) → List Event → List Life → List Shape
+inner_shapes tasks units halted history lives =
+    if nat_le (length history) 2000 then single_shapes tasks units halted history lives else summed_shapes units history lives
 
-abbrev pub shapes_of : List Descriptor → (units : ℕ) → List Event → List Life → List Shape
-shapes_of tasks units history lives =
+abbrev pub shapes_of : List Descriptor → (units : ℕ) → Option Standing → List Event → List Life → List Shape
+shapes_of tasks units stands history lives =
     sums_of (tally_of lives)
-    ++ (lanes_of units ++ (axis_of units (length history) ++ inner_shapes tasks units history lives))
+    ++ (standing_of stands
+    ++ (lanes_of units
+    ++ (axis_of units (length history)
+    ++ inner_shapes tasks units (halted_unit_if units (tally_of lives).retired stands) history lives)))
 
 -- the beginning of the file: its size, what it is called, the style sheet, and the legend; and the title
 abbrev pub height_of : (units : ℕ) → ℕ
@@ -71,7 +75,12 @@ abbrev pub file_text : (name : List ℕ) → List Descriptor → (units events :
 file_text name tasks units events shapes =
     opening_text name units events ++ (shapes_text tasks shapes ++ (codes "</svg>" ++ 10 ∷ []))
 
--- the whole text, of a history of a program of this name, which may be empty, on the given number of units
+-- the whole text, of a history of a program of this name, which may be empty, on the given number of units, after which
+-- the run stands so, if that is known
+unfoldable pub ended_picture_text : (name : List ℕ) → Listing → (units : ℕ) → Option Standing → List Event → List ℕ
+ended_picture_text name p units stands history =
+    file_text name p.tasks units (length history) (shapes_of p.tasks units stands history (lives_of units history))
+
+-- where it is not known
 unfoldable pub picture_text : (name : List ℕ) → Listing → (units : ℕ) → List Event → List ℕ
-picture_text name p units history =
-    file_text name p.tasks units (length history) (shapes_of p.tasks units history (lives_of units history))
+picture_text name p units history = ended_picture_text name p units None history

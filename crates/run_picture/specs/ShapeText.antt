@@ -14,7 +14,7 @@ use Rattle.run_picture.specs.declared.shape.StretchTally.{StretchTally}
 use Rattle.run_picture.specs.declared.shape.Counted.{Counted}
 use Rattle.run_picture.specs.declared.shape.Counted.TheVariants as counted
 use Rattle.run_picture.specs.declared.shape.Hover.{Hover}
-use Rattle.run_picture.specs.declared.shape.Hover.TheVariants.{Nothing, OfLife, OfTransfer, OfSquash, OfStretch}
+use Rattle.run_picture.specs.declared.shape.Hover.TheVariants.{Nothing, OfLife, OfHalted, OfTransfer, OfSquash, OfStretch}
 use Rattle.run_picture.specs.Scales.{pixels_text}
 use Rattle.run_picture.specs.Bars.{name_of}
 use Rattle.run_picture.specs.WordsText.{words_text}
@@ -67,7 +67,7 @@ beginning_text class (Wedge left top) =
 beginning_text class (Label left base words) =
     codes "<text class='" ++ (class ++ (codes "' x='" ++ (pixels_text left ++ (codes "' y='" ++ (pixels_text base ++ codes "'>")))))
 
--- the title of a life; its events are numbered from 1
+-- the title of a life, with the word for its ending; its events are numbered from 1
 abbrev pub place_text : (name : List ℕ) (unit : ℕ) → List ℕ
 place_text name unit = codes "<title>task " ++ (name ++ (codes ", unit " ++ decimal unit))
 
@@ -78,9 +78,9 @@ span_text first last =
 abbrev pub course_text : (executed : ℕ) (ending : List ℕ) → List ℕ
 course_text executed ending = codes ", instructions: " ++ (decimal executed ++ (codes ", " ++ (ending ++ codes "</title>")))
 
-abbrev pub life_text : (name : List ℕ) → Life → List ℕ
-life_text name life =
-    place_text name life.unit ++ (span_text (life.first + 1) (life.last + 1) ++ course_text life.executed (ending_text life.ending))
+abbrev pub life_text : (name : List ℕ) → Life → (ending : List ℕ) → List ℕ
+life_text name life ending =
+    place_text name life.unit ++ (span_text (life.first + 1) (life.last + 1) ++ course_text life.executed ending)
 
 -- the event or the step in which something comes
 abbrev pub counted_text : Counted → List ℕ
@@ -90,7 +90,7 @@ counted_text counted.Steps = codes "step"
 abbrev pub when_text : Counted → (number : ℕ) → List ℕ
 when_text counts number = codes "<title>" ++ (counted_text counts ++ (codes " " ++ (decimal number ++ codes ": ")))
 
--- a stretch from one event or step to another, and what happens in it
+-- a stretch from one event or step to another, and what happens in it, on all units
 abbrev pub stretch_text : Counted → (first last : ℕ) → List ℕ
 stretch_text counts first last =
     if nat_eq first last then codes "<title>" ++ (counted_text counts ++ (codes " " ++ decimal first))
@@ -98,12 +98,13 @@ stretch_text counts first last =
 
 abbrev pub tally_text : StretchTally → List ℕ
 tally_text t =
-    codes ": instructions: " ++ (decimal t.executed ++ (codes ", tasks retired: " ++ (decimal t.retired ++ (codes ", squashed: " ++ (decimal t.squashed
-    ++ (codes ", dropped: " ++ (decimal t.dropped ++ codes "</title>")))))))
+    codes ". On all units: instructions: " ++ (decimal t.executed ++ (codes "; tasks that end here: retired: " ++ (decimal t.retired ++ (codes ", squashed: " ++ (decimal t.squashed
+    ++ (codes ", dropped: " ++ (decimal t.dropped ++ codes ". The column is of this unit alone.</title>")))))))
 
 abbrev pub hover_text : List Descriptor → Hover → List ℕ
 hover_text tasks Nothing = []
-hover_text tasks (OfLife life) = life_text (name_of tasks life.task) life
+hover_text tasks (OfLife life) = life_text (name_of tasks life.task) life (ending_text life.ending)
+hover_text tasks (OfHalted life) = life_text (name_of tasks life.task) life (codes "halted")
 hover_text tasks (OfTransfer counts number register from unit) =
     when_text counts number
     ++ (codes "$" ++ (decimal register ++ (codes " goes from unit " ++ (decimal from ++ (codes " to unit " ++ (decimal unit ++ codes "</title>"))))))

@@ -1,10 +1,12 @@
 -- What labels say.
 use Rattle.std.specs.Fmt.{decimal}
 use Rattle.std.specs.Prelude.{ℕ, List, [], ◌++◌, codes, length, take, flat_map, encode_utf8, nat_eq, nat_le, if◌then◌else◌}
+use Rattle.machine_model.specs.declared.event.Standing.{Standing}
+use Rattle.machine_model.specs.declared.event.Standing.TheVariants as standing
 use Rattle.task_descriptor.specs.declared.descriptor.Descriptor.{Descriptor}
 use Rattle.task_lives.specs.declared.tally.Tally.{Tally}
 use Rattle.run_picture.specs.declared.shape.LabelText.{LabelText}
-use Rattle.run_picture.specs.declared.shape.LabelText.TheVariants.{Sums, OfUnit, EventNumber, Events, Task, Register, Ring, Stretch, Steps, OneEvent, StretchOfSteps}
+use Rattle.run_picture.specs.declared.shape.LabelText.TheVariants.{Sums, HowItStands, OfUnit, EventNumber, Events, Task, Register, Ring, Stretch, Steps, OneEvent, StretchOfSteps}
 use Rattle.run_picture.specs.Bars.{name_of}
 
 -- what follows a word for a number of things
@@ -20,6 +22,13 @@ abbrev pub work_text : Tally → List ℕ
 work_text t =
     codes "; instructions of retired tasks: " ++ (decimal t.useful ++ (codes ", of squashed or dropped ones: " ++ decimal t.wasted))
 
+-- how a run stands
+abbrev pub standing_text : Standing → List ℕ
+standing_text standing.Running = codes "The run has not ended."
+standing_text standing.Halted = codes "The run halted; the task that did so is counted as unfinished."
+standing_text (standing.Trapped trap) = codes "The run trapped."
+standing_text (standing.Unlisted at) = codes "The run is unlisted."
+
 -- a name if it has at most `letters` letters, else its first `letters` letters and three points; letters are ASCII
 abbrev pub name_text : (name : List ℕ) (letters : ℕ) → List ℕ
 name_text name letters =
@@ -27,6 +36,7 @@ name_text name letters =
 
 abbrev pub words_text : List Descriptor → LabelText → List ℕ
 words_text tasks (Sums tally) = lives_text tally ++ work_text tally
+words_text tasks (HowItStands stands) = standing_text stands
 words_text tasks (OfUnit unit) = codes "unit " ++ decimal unit
 words_text tasks (EventNumber number) = decimal number
 words_text tasks Events = codes "events that were allowed, numbered from 1"

@@ -1,37 +1,107 @@
 //! The bars of a picture: one for the life of each task, and its name.
 
-ghost use Rattle.std.specs.Prelude.{◌≡◌, ◌++◌, OnOk};
-ghost use Rattle.run_picture.specs.Bars.{bar_of as bar_of_life, bars_of, letters_in as letters_in_width, name_label, name_of as name_of_task, name_on, names_of, width_of};
+ghost use Rattle.std.specs.Prelude.{◌≡◌, ◌<◌, ◌++◌, OnOk};
+ghost use Rattle.task_lives.specs.Sums.{is_unfinished as is_unfinished_ending};
+ghost use Rattle.run_picture.specs.Bars.{bar_hover as bar_hover_of, bar_of as bar_of_life, bar_style as bar_style_of, bars_of, halted_unit as halted_unit_of, halted_unit_if as halted_unit_if_of, is_halted as is_halted_life, letters_in as letters_in_width, name_label, name_of as name_of_task, name_on, names_of, width_of};
 
 use crate::scale::{BAR_HEIGHT, fitting, left_edge, top};
 use crate::shape::{Geometry, Hover, LabelText, Shape, Style};
+use machine_model::event::Standing;
 use std::alloc::AllocError;
 use task_descriptor::descriptor::Descriptor;
-use task_lives::life::Life;
+use task_lives::life::{Ending, Life};
 
-/// Adds a bar for each life in a history of `events` events, in the order of the lives.
+/// The unit that halted in a run with this final state in which `retired` tasks retired; if none did, a number that
+/// no unit has.
+pub fn halted_unit(units: u32, retired: u32, standing: Standing) -> u32
+    requires { 0 < units }
+    ensures { result ≡ halted_unit_of units retired standing }
+{
+    match standing {
+        Standing::Halted => retired % units,
+        Standing::Running => units,
+        Standing::Trapped(_) => units,
+        Standing::Unlisted(_) => units,
+    }
+}
+
+/// The unit that halted, as `halted_unit` says, in a run that stands so; where that is not known, a number that no unit
+/// has.
+pub(crate) fn halted_unit_if(units: u32, retired: u32, standing: Option<Standing>) -> u32
+    requires { 0 < units }
+    ensures { result ≡ halted_unit_if_of units retired standing }
+{
+    match standing {
+        Some(standing) => halted_unit(units, retired, standing),
+        None => units,
+    }
+}
+
+/// Whether a life has not ended.
+fn is_unfinished(ending: Ending) -> bool
+    ensures { result ≡ is_unfinished_ending ending }
+{
+    matches!(ending, Ending::Unfinished)
+}
+
+/// Whether a life is that of the task that halted.
+pub fn is_halted(halted: u32, life: Life) -> bool
+    ensures { result ≡ is_halted_life halted life }
+{
+    if life.unit == halted {
+        is_unfinished(life.ending)
+    } else {
+        false
+    }
+}
+
+/// How the bar of a life looks.
+pub fn bar_style(halted: u32, life: Life) -> Style
+    ensures { result ≡ bar_style_of halted life }
+{
+    if is_halted(halted, life) {
+        Style::Halted
+    } else {
+        Style::Bar(life.ending)
+    }
+}
+
+/// The title of the bar of a life.
+fn bar_hover(halted: u32, life: Life) -> Hover
+    ensures { result ≡ bar_hover_of halted life }
+{
+    if is_halted(halted, life) {
+        Hover::OfHalted(life)
+    } else {
+        Hover::OfLife(life)
+    }
+}
+
+/// Adds a bar for each life in a history of `events` events, in the order of the lives; the unit `halted` halted, if any
+/// has that number.
 pub(crate) fn push_bars(
     shapes: &mut Vec<Shape>,
     events: u32,
+    halted: u32,
     lives: &[Life],
 ) -> Result<(), AllocError>
-    ensures { OnOk result (shapes.new.items ≡ shapes.old.items ++ bars_of events lives.now) }
+    ensures { OnOk result (shapes.new.items ≡ shapes.old.items ++ bars_of events halted lives.now) }
 {
     for life in lives {
-        shapes.push(bar_of(events, *life))?;
+        shapes.push(bar_of(events, halted, *life))?;
     }
     Ok(())
 }
 
 /// The bar of a life: in the lane of its unit, from where its first event begins to where its last one ends.
-fn bar_of(events: u32, life: Life) -> Shape
-    ensures { result ≡ bar_of_life events life }
+fn bar_of(events: u32, halted: u32, life: Life) -> Shape
+    ensures { result ≡ bar_of_life events halted life }
 {
     let left = left_edge(events, u64::from(life.first));
     Shape {
-        style: Style::Bar(life.ending),
+        style: bar_style(halted, life),
         form: Geometry::Rectangle(left, top(life.unit), width(events, life), BAR_HEIGHT),
-        hover: Hover::OfLife(life),
+        hover: bar_hover(halted, life),
     }
 }
 

@@ -6,11 +6,11 @@ ghost use Rattle.machine_model.specs.Runs.{events_of};
 ghost use Rattle.machine_model.specs.Answer.{most_events};
 ghost use Rattle.task_lives.specs.Lives.{AllFit};
 ghost use Rattle.task_lives.specs.Sums.{AreFew};
-ghost use Rattle.run_picture.specs.Picture.{file_text, front_text, heading_text, height_of, inner_shapes, legend_text, opening_text, picture_text, root_text, shapes_of as shapes_of_run, sheet_text, single_shapes, summed_shapes};
+ghost use Rattle.run_picture.specs.Picture.{ended_picture_text, file_text, front_text, heading_text, height_of, inner_shapes, legend_text, opening_text, picture_text, root_text, shapes_of as shapes_of_run, sheet_text, single_shapes, summed_shapes};
 
-use crate::bars::{push_bars, push_names};
+use crate::bars::{halted_unit_if, push_bars, push_names};
 use crate::events::single_events;
-use crate::lanes::{push_axis, push_lanes, push_note, push_sums};
+use crate::lanes::{push_axis, push_lanes, push_note, push_standing, push_sums};
 use crate::marks::push_marks;
 use crate::scale::bottom;
 use crate::shape::{Counted, LabelText, Shape};
@@ -19,7 +19,7 @@ use crate::sheet::{marks_legend, stretches_legend, style_sheet};
 use crate::stretch_tallies::executed_places;
 use crate::stretches::{push_stretches, stretch_length};
 use crate::title::{write_called, write_title};
-use machine_model::event::{Event, EventRun};
+use machine_model::event::{Event, EventRun, Standing};
 use std::alloc::{AllocError, Global};
 use task_descriptor::descriptor::Descriptor;
 use task_descriptor::program::Program;
@@ -33,7 +33,8 @@ pub const MOST_SINGLE: usize = 2_000;
 /// Draws the history of a run of a program of this name, which may be empty, on `units` units, at least one: one
 /// SVG file, with no script and no font of its own. The history has at most 1,000,000 events, and no event of it is
 /// at a position where there is no unit; this holds for every history of a machine
-/// (`task_lives::laws::histories_fit`). An error means that memory was refused.
+/// (`task_lives::laws::histories_fit`). How the run stands is not said. An error means that memory was refused.
+#[tactic(auto, unfolding(crate::specs::Picture::picture_text))]
 pub fn draw(
     alloc: Global,
     program: &Program,
@@ -46,9 +47,35 @@ pub fn draw(
     requires fit { AllFit 0 (events_of runs.now) }
     ensures { IfOk result (λ text. string_bytes text ≡ picture_text name.now program.now units (events_of runs.now)) }
 {
+    draw_ended(alloc, program, name, units, None, runs)
+}
+
+/// Draws a history as `draw` does; if it is known how the run stands after it, the picture says so, and shows which task
+/// halted. An error means that memory was refused.
+pub fn draw_ended(
+    alloc: Global,
+    program: &Program,
+    name: &str,
+    units: u32,
+    standing: Option<Standing>,
+    runs: &[EventRun],
+) -> Result<String, AllocError>
+    requires some { 0 < units }
+    requires room { length (events_of runs.now) ≤ most_events }
+    requires fit { AllFit 0 (events_of runs.now) }
+    ensures { IfOk result (λ text. string_bytes text ≡ ended_picture_text name.now program.now units standing (events_of runs.now)) }
+{
     let events = single_events(alloc, runs)?;
     let lives = lives_of_runs(alloc, runs, units)?;
-    let text = draw_lives(alloc, program.tasks(), name, units, &events, &lives)?;
+    let text = draw_lives(
+        alloc,
+        program.tasks(),
+        name,
+        units,
+        standing,
+        &events,
+        &lives,
+    )?;
     Ok(text)
 }
 
@@ -58,6 +85,7 @@ fn draw_lives(
     tasks: &[Descriptor],
     name: &str,
     units: u32,
+    standing: Option<Standing>,
     events: &[Event],
     lives: &[Life],
 ) -> Result<String, AllocError>
@@ -65,9 +93,9 @@ fn draw_lives(
     requires room { length events.now ≤ most_events }
     requires few { AreFew lives.now }
     ensures { IfOk result (λ text. string_bytes text
-        ≡ file_text name.now tasks.now units (length events.now) (shapes_of_run tasks.now units events.now lives.now)) }
+        ≡ file_text name.now tasks.now units (length events.now) (shapes_of_run tasks.now units standing events.now lives.now)) }
 {
-    let shapes = shapes_of(alloc, tasks, units, events, lives)?;
+    let shapes = shapes_of(alloc, tasks, units, standing, events, lives)?;
     let mut text = String::new(alloc);
     write_file(&mut text, tasks, name, units, events.len(), &shapes)?;
     Ok(text)
@@ -78,20 +106,24 @@ fn shapes_of(
     alloc: Global,
     tasks: &[Descriptor],
     units: u32,
+    standing: Option<Standing>,
     events: &[Event],
     lives: &[Life],
 ) -> Result<Vec<Shape>, AllocError>
     requires some { 0 < units }
     requires room { length events.now ≤ most_events }
     requires few { AreFew lives.now }
-    ensures { IfOk result (λ shapes. shapes.items ≡ shapes_of_run tasks.now units events.now lives.now) }
+    ensures { IfOk result (λ shapes. shapes.items ≡ shapes_of_run tasks.now units standing events.now lives.now) }
 {
     let count = events.len() as u32;
+    let tally = add_up(lives);
+    let halted = halted_unit_if(units, tally.retired, standing);
     let mut shapes = Vec::new(alloc);
-    push_sums(&mut shapes, add_up(lives))?;
+    push_sums(&mut shapes, tally)?;
+    push_standing(&mut shapes, standing)?;
     push_lanes(&mut shapes, units)?;
     push_axis(&mut shapes, units, count)?;
-    push_inner(alloc, &mut shapes, tasks, units, events, lives)?;
+    push_inner(alloc, &mut shapes, tasks, units, halted, events, lives)?;
     Ok(shapes)
 }
 
@@ -101,16 +133,17 @@ fn push_inner(
     shapes: &mut Vec<Shape>,
     tasks: &[Descriptor],
     units: u32,
+    halted: u32,
     events: &[Event],
     lives: &[Life],
 ) -> Result<(), AllocError>
     requires some { 0 < units }
     requires room { length events.now ≤ most_events }
     requires few { AreFew lives.now }
-    ensures { OnOk result (shapes.new.items ≡ shapes.old.items ++ inner_shapes tasks.now units events.now lives.now) }
+    ensures { OnOk result (shapes.new.items ≡ shapes.old.items ++ inner_shapes tasks.now units halted events.now lives.now) }
 {
     if events.len() <= MOST_SINGLE {
-        push_single(shapes, tasks, units, events, lives)
+        push_single(shapes, tasks, units, halted, events, lives)
     } else {
         push_summed(alloc, shapes, units, events, lives)
     }
@@ -121,15 +154,16 @@ fn push_single(
     shapes: &mut Vec<Shape>,
     tasks: &[Descriptor],
     units: u32,
+    halted: u32,
     events: &[Event],
     lives: &[Life],
 ) -> Result<(), AllocError>
     requires some { 0 < units }
     requires room { length events.now ≤ most_events }
-    ensures { OnOk result (shapes.new.items ≡ shapes.old.items ++ single_shapes tasks.now units events.now lives.now) }
+    ensures { OnOk result (shapes.new.items ≡ shapes.old.items ++ single_shapes tasks.now units halted events.now lives.now) }
 {
     let count = events.len() as u32;
-    push_bars(shapes, count, lives)?;
+    push_bars(shapes, count, halted, lives)?;
     push_marks(shapes, units, count, events)?;
     push_names(shapes, tasks, count, lives)?;
     push_note(shapes, units, LabelText::Ring)

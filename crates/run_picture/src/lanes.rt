@@ -1,10 +1,11 @@
 //! The shapes round the bars: the tally of the lives, lanes, the axis and a note.
 
 ghost use Rattle.std.specs.Prelude.{◌≡◌, ◌++◌, ◌<◌, OnOk};
-ghost use Rattle.run_picture.specs.Frame.{axis_of, lane_of, lanes_of, note_of, number_at, numbers_of, sums_of};
+ghost use Rattle.run_picture.specs.Frame.{axis_of, lane_of, lanes_of, note_of, number_at, numbers_of, standing_of, sums_of};
 
 use crate::scale::{AXIS_LEFT, AXIS_WIDTH, LANE_HEIGHT, LANES_TOP, axis_step, bottom, middle};
 use crate::shape::{Geometry, LabelText, Shape, Style};
+use machine_model::event::Standing;
 use std::alloc::AllocError;
 use task_lives::tally::Tally;
 
@@ -15,6 +16,23 @@ pub(crate) fn push_sums(shapes: &mut Vec<Shape>, tally: Tally) -> Result<(), All
     let sums = Geometry::Label(8_800, 7_200, LabelText::Sums(tally));
     shapes.push(Shape::plain(Style::Quiet, sums))?;
     Ok(())
+}
+
+/// Adds the line below the legend: how the run stands, if that is known.
+pub(crate) fn push_standing(
+    shapes: &mut Vec<Shape>,
+    standing: Option<Standing>,
+) -> Result<(), AllocError>
+    ensures { OnOk result (shapes.new.items ≡ shapes.old.items ++ standing_of standing) }
+{
+    match standing {
+        Some(standing) => {
+            let words = Geometry::Label(8_800, 13_300, LabelText::HowItStands(standing));
+            shapes.push(Shape::plain(Style::Quiet, words))?;
+            Ok(())
+        }
+        None => Ok(()),
+    }
 }
 
 /// Adds the lanes of `units` units. An error means that memory was refused.

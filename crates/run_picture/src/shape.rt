@@ -1,5 +1,6 @@
 //! The shapes of a picture. All lengths are in hundredths of a pixel, from the left and from above.
 
+use machine_model::event::Standing;
 use task_lives::life::{Ending, Life};
 use task_lives::tally::Tally;
 
@@ -38,7 +39,7 @@ pub enum Style {
     RegisterName,
     /// Where a squash begins.
     SquashMark,
-    /// In steps, the bar of the task that halted.
+    /// The bar of the task that halted.
     Halted,
     /// A step in which a unit waits for a register.
     WaitForRegister,
@@ -53,6 +54,8 @@ pub enum Style {
 pub enum LabelText {
     /// The tally of the lives.
     Sums(Tally),
+    /// How the run stands.
+    HowItStands(Standing),
     /// The number of a unit.
     OfUnit(u32),
     /// The number of an event, from 1.
@@ -104,6 +107,8 @@ pub enum Hover {
     Nothing,
     /// A life.
     OfLife(Life),
+    /// The life of the task that halted.
+    OfHalted(Life),
     /// In this event or step, numbered from 1, a register goes from one unit to another.
     OfTransfer(Counted, u32, u8, u32, u32),
     /// In this event or step, numbered from 1, what follows a unit is squashed.

@@ -89,7 +89,11 @@ fn write_hover(text: &mut String, tasks: &[Descriptor], hover: Hover) -> Result<
 {
     match hover {
         Hover::Nothing => Ok(()),
-        Hover::OfLife(life) => write_life(text, name_of(tasks, life.task), life),
+        Hover::OfLife(life) => {
+            let ending = word_of(life.ending);
+            write_life(text, name_of(tasks, life.task), life, ending)
+        }
+        Hover::OfHalted(life) => write_life(text, name_of(tasks, life.task), life, "halted"),
         Hover::OfTransfer(counted, number, register, from, to) => {
             write_when(text, counted, number)?;
             write!(
@@ -135,7 +139,7 @@ fn write_tally(text: &mut String, tally: StretchTally) -> Result<(), AllocError>
     let dropped = tally.dropped;
     write!(
         text,
-        ": instructions: {executed}, tasks retired: {retired}, squashed: {squashed}, dropped: {dropped}</title>"
+        ". On all units: instructions: {executed}; tasks that end here: retired: {retired}, squashed: {squashed}, dropped: {dropped}. The column is of this unit alone.</title>"
     )
 }
 
@@ -157,13 +161,13 @@ pub(crate) fn word_of_counted(counted: Counted) -> &'static str
     }
 }
 
-/// Writes the title of a life; its events are numbered from 1.
-fn write_life(text: &mut String, name: &str, life: Life) -> Result<(), AllocError>
-    ensures { OnOk result (string_bytes text.new ≡ string_bytes text.old ++ life_text name.now life) }
+/// Writes the title of a life that ended so; its events are numbered from 1.
+fn write_life(text: &mut String, name: &str, life: Life, ending: &str) -> Result<(), AllocError>
+    ensures { OnOk result (string_bytes text.new ≡ string_bytes text.old ++ life_text name.now life ending.now) }
 {
     write_place(text, name, life.unit)?;
     write_span(text, number_of(life.first), number_of(life.last))?;
-    write_course(text, life.executed, word_of(life.ending))
+    write_course(text, life.executed, ending)
 }
 
 /// Writes which task it is, and where, as the beginning of the title of a life. An error means that memory was

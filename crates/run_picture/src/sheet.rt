@@ -3,46 +3,57 @@
 ghost use Rattle.std.specs.Prelude.{◌≡◌};
 ghost use Rattle.run_picture.specs.FixedText.{style_sheet, marks_legend, stretches_legend};
 
-/// The style of all shapes. What a colour shows, a pattern or a dashed border shows too.
+/// The style of all shapes, light or dark. What a colour shows, a pattern or a dashed border shows too.
 const SHEET: &str = "<style>
 text{fill:#1f2933;font-size:14px;pointer-events:none}line{pointer-events:none}
 .title{font-size:24px;font-weight:600}.quiet,.caption{fill:#52606d}.unit{text-anchor:end}.caption,.number{text-anchor:middle}
 .number,.register{fill:#52606d;font-size:12px}.task{font-size:13px;font-weight:600;paint-order:stroke;stroke:#fff;stroke-width:3px;stroke-linejoin:round}
 .lane{fill:#f4f6f9}.grid{stroke:#dde3e9}.axis{stroke:#7b8794;stroke-width:1.5}
 .retired{fill:#cfe8d5;stroke:#2f6b4a}.squashed{fill:url(#hatched);stroke:#b0402a}.dropped{fill:url(#dotted);stroke:#7d5f10}
-.unfinished{fill:#d8e4f5;stroke:#34588f;stroke-dasharray:5 3}.retired,.squashed,.dropped,.unfinished{stroke-width:1.5}
-.share{stroke:none;shape-rendering:crispEdges}.idle{fill:#fff;stroke:#cbd2d9}
+.unfinished{fill:#d8e4f5;stroke:#34588f;stroke-dasharray:5 3}.retired,.squashed,.dropped,.unfinished{stroke-width:1.5}.halted{fill:#cfe8d5;stroke:#2f6b4a;stroke-width:4}
+.share{stroke-width:0;shape-rendering:crispEdges}.paper,.idle{fill:#fff}.idle{stroke:#cbd2d9}
 .instruction{stroke:#1f2933;stroke-width:1.6}.transfer{stroke:#52606d;stroke-width:1.3;marker-end:url(#head);pointer-events:stroke}
-.fine{stroke-width:.6;marker-end:none}.squash{fill:#b0402a;stroke:#fff}
+.fine{stroke-width:.6}.transfer.fine{marker-end:url(#small)}.squash{fill:#b0402a;stroke:#fff}.head{fill:#52606d}
+.rose{fill:#fae3dc}.red{stroke:#e09a86}.sand{fill:#f6edd0}.ochre{fill:#a98a35}
+@media (prefers-color-scheme:dark){
+text{fill:#e4e9ee}.quiet,.caption,.number{fill:#9aa7b4}.task{stroke:#1c2229}.paper,.idle{fill:#1c2229}.idle,.grid{stroke:#38424d}.lane{fill:#232b33}
+.retired,.halted{fill:#214a33;stroke:#6fd198}.squashed{stroke:#ff9d94}.dropped{stroke:#d8b45a}.unfinished{fill:#22344f;stroke:#7fb0ff}.squash{fill:#ff9d94;stroke:#1c2229}
+.instruction{stroke:#e4e9ee}.transfer{stroke:#9aa7b4}.head,.register{fill:#9aa7b4}
+.rose{fill:#4a2220}.red{stroke:#b3564a}.sand{fill:#40361a}
+}
 </style>
 <defs>
-<pattern id='hatched' width='7' height='7' patternUnits='userSpaceOnUse' patternTransform='rotate(45)'><path fill='#fae3dc' d='M0 0H7V7H0Z'/><path d='M0 0V7' stroke='#e09a86' stroke-width='2.6'/></pattern>
-<pattern id='dotted' width='7' height='7' patternUnits='userSpaceOnUse'><path fill='#f6edd0' d='M0 0H7V7H0Z'/><circle cx='2' cy='2' r='1.2' fill='#a98a35'/><circle cx='5.5' cy='5.5' r='1.2' fill='#a98a35'/></pattern>
-<marker id='head' viewBox='0 0 8 8' refX='7' refY='4' markerWidth='7' markerHeight='7' markerUnits='userSpaceOnUse' orient='auto'><path d='M0 .8 7.4 4 0 7.2z' fill='#52606d'/></marker>
+<pattern id='hatched' width='7' height='7' patternUnits='userSpaceOnUse' patternTransform='rotate(45)'><path class='rose' d='M0 0H7V7H0Z'/><path class='red' d='M0 0V7' stroke-width='2.6'/></pattern>
+<pattern id='dotted' width='7' height='7' patternUnits='userSpaceOnUse'><path class='sand' d='M0 0H7V7H0Z'/><circle class='ochre' cx='2' cy='2' r='1.2'/><circle class='ochre' cx='5.5' cy='5.5' r='1.2'/></pattern>
+<marker id='head' viewBox='0 0 8 8' refX='7' refY='4' markerWidth='7' markerHeight='7' markerUnits='userSpaceOnUse' orient='auto'><path class='head' d='M0 .8 7.4 4 0 7.2z'/></marker>
+<marker id='small' viewBox='0 0 8 8' refX='7' refY='4' markerWidth='4' markerHeight='4' markerUnits='userSpaceOnUse' orient='auto'><path class='head' d='M0 .8 7.4 4 0 7.2z'/></marker>
 </defs>
-<path fill='#fff' d='M0 0H1280V9999H0Z'/>
+<path class='paper' d='M0 0H1280V9999H0Z'/>
 <g>
 <rect class='retired' x='88' y='96' width='28' height='16'/><text x='124' y='109'>retired</text>
 <rect class='squashed' x='194' y='96' width='28' height='16'/><text x='230' y='109'>squashed</text>
 <rect class='dropped' x='316' y='96' width='28' height='16'/><text x='352' y='109'>dropped</text>
-<rect class='unfinished' x='430' y='96' width='28' height='16'/><text x='466' y='109'>unfinished</text>
 ";
 
-/// What the marks of single events look like.
+/// What the other bars and the marks of single events look like.
 const MARKS_LEGEND: &str =
-    "<path class='instruction' d='M564 99v10M570 99v10M576 99v10'/><text x='586' y='109'>instruction</text>
+    "<rect class='unfinished' x='430' y='96' width='28' height='16'/><text x='466' y='109'>unfinished</text>
+<path class='instruction' d='M564 99v10M570 99v10M576 99v10'/><text x='586' y='109'>instruction</text>
 <path class='transfer' d='M694 94V113'/><text x='706' y='109'>register to the next unit</text>
 <path class='squash' d='M896 98h14l-7 11z'/><text x='918' y='109'>squash begins</text>
+<rect class='halted' x='1038' y='96' width='28' height='16'/><text x='1074' y='109'>halted</text>
 </g>
 ";
 
-/// What is white in a picture of stretches.
+/// What else is in a picture of stretches, and what is not drawn.
 const STRETCHES_LEGEND: &str =
-    "<rect class='idle' x='564' y='96' width='28' height='16'/><text x='600' y='109'>no task</text>
+    "<rect class='unfinished' x='430' y='96' width='28' height='16'/><text x='466' y='109'>unfinished, or halted</text>
+<rect class='idle' x='630' y='96' width='28' height='16'/><text x='666' y='109'>no task</text>
+<text class='quiet' x='756' y='109'>over 2,000 events, no instructions, registers or squashes are drawn</text>
 </g>
 ";
 
-/// The style sheet, the patterns, the ground, and the legend of the bars.
+/// The style sheet, the patterns, the ground, and the legend of all bars.
 #[tactic(auto, unfolding(crate::specs::FixedText::style_sheet))]
 pub(crate) fn style_sheet() -> &'static str
     ensures { result.now ≡ style_sheet }
@@ -50,7 +61,7 @@ pub(crate) fn style_sheet() -> &'static str
     SHEET
 }
 
-/// The legend of the marks of single events.
+/// The legend of the other bars, and of the marks of single events.
 #[tactic(auto, unfolding(crate::specs::FixedText::marks_legend))]
 pub(crate) fn marks_legend() -> &'static str
     ensures { result.now ≡ marks_legend }
@@ -58,7 +69,7 @@ pub(crate) fn marks_legend() -> &'static str
     MARKS_LEGEND
 }
 
-/// The legend of what is white in a picture of stretches.
+/// The legend of what else is in a picture of stretches, and what is not drawn.
 #[tactic(auto, unfolding(crate::specs::FixedText::stretches_legend))]
 pub(crate) fn stretches_legend() -> &'static str
     ensures { result.now ≡ stretches_legend }

@@ -80,8 +80,8 @@ fn write_counts(
     )
 }
 
-/// Writes a name; of a long one, its first bytes and two periods.
-fn write_name(text: &mut String, name: &[u8]) -> Result<(), AllocError>
+/// Writes a name; of a long one, its first bytes and two periods. An error means that memory was refused.
+pub fn write_name(text: &mut String, name: &[u8]) -> Result<(), AllocError>
     ensures { OnOk result (string_bytes text.new ≡ string_bytes text.old ++ shown_name name.now) }
 {
     if name.len() <= MOST_SHOWN {

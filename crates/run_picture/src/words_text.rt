@@ -2,10 +2,11 @@
 
 ghost use Rattle.std.specs.Prelude.{◌≡◌, ◌++◌, OnOk, flat_map, encode_utf8};
 ghost use Rattle.std.specs.String.{string_bytes};
-ghost use Rattle.run_picture.specs.WordsText.{lives_text, name_text, plural as plural_of, work_text, words_text};
+ghost use Rattle.run_picture.specs.WordsText.{lives_text, name_text, plural as plural_of, standing_text, work_text, words_text};
 
 use crate::bars::name_of;
 use crate::shape::LabelText;
+use machine_model::event::Standing;
 use std::alloc::AllocError;
 use task_descriptor::descriptor::Descriptor;
 use task_lives::tally::Tally;
@@ -20,6 +21,7 @@ pub(crate) fn write_words(
 {
     match words {
         LabelText::Sums(tally) => write_sums(text, tally),
+        LabelText::HowItStands(standing) => text.push_str(words_of_standing(standing)),
         LabelText::OfUnit(unit) => write!(text, "unit {unit}"),
         LabelText::EventNumber(number) => write!(text, "{number}"),
         LabelText::Task(task, letters) => write_name(text, name_of(tasks, task), letters),
@@ -40,6 +42,18 @@ pub(crate) fn write_words(
             text,
             "A long run, summed: each column is {steps} steps, and shows how much of them a unit spent on tasks that ended so."
         ),
+    }
+}
+
+/// How a run stands.
+fn words_of_standing(standing: Standing) -> &'static str
+    ensures { result.now ≡ standing_text standing }
+{
+    match standing {
+        Standing::Running => "The run has not ended.",
+        Standing::Halted => "The run halted; the task that did so is counted as unfinished.",
+        Standing::Trapped(_) => "The run trapped.",
+        Standing::Unlisted(_) => "The run is unlisted.",
     }
 }
 

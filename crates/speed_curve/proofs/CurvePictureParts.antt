@@ -21,7 +21,7 @@ five_parts base a b c d p q r s t first second third fourth =
 
 -- a column, with the numbers from which its parts are written
 pub column_written : (columns top : ℕ) (one row : Row) (left point under low high : ℕ) (speed : Option ℕ) (end old a b c d : List ℕ)
-    → left ≡ column_of columns row.units → point ≡ height_of top (rate row) → under ≡ foot_under point
+    → left ≡ column_of columns row.units → point ≡ height_of top (rate row) → under ≡ foot_under top point
     → low ≡ 630 - high → high ≡ bar_of row → speed ≡ speed_up one row → end ≡ end_text row.standing
     → a ≡ old ++ opening_text left speed row end → b ≡ a ++ bar_text (under + 6) low high → c ≡ b ++ mark_text point row.standing → d ≡ c ++ speed_text top speed
     → d ++ value_text under row ≡ old ++ column_text columns top one row

@@ -1,11 +1,11 @@
 -- The picture of a curve, as the text of an SVG file.
 use Rattle.std.specs.Fmt.{decimal}
-use Rattle.std.specs.Prelude.{ℕ, ◌+◌, ◌-◌, ◌*◌, ◌/◌, Option, Some, None, List, [], ◌∷◌, ◌++◌, codes, flat_map, length}
+use Rattle.std.specs.Prelude.{ℕ, ◌+◌, ◌-◌, ◌*◌, ◌/◌, Option, Some, None, List, [], ◌∷◌, ◌++◌, codes, flat_map, length, nat_le, if◌then◌else◌}
 use Rattle.machine_model.specs.declared.event.Standing.{Standing}
 use Rattle.machine_model.specs.declared.event.Standing.TheVariants.{Halted}
 use Rattle.speed_curve.specs.declared.row.Row.{Row}
 use Rattle.speed_curve.specs.TableText.{end_text, rate, share, speed_up}
-use Rattle.speed_curve.specs.Scales.{bar_of, column_of, foot_over, foot_under, height_of, number_text, top_of}
+use Rattle.speed_curve.specs.Scales.{bar_of, column_of, foot_over, foot_under, gap_of, height_of, number_text, step_of, top_of}
 use Rattle.speed_curve.specs.FixedText.{fixed_text}
 
 -- a number of the upper scale
@@ -13,10 +13,21 @@ abbrev pub scale_label : (y hundredths : ℕ) → List ℕ
 scale_label y hundredths =
     codes "<text class='scale' x='78' y='" ++ (decimal y ++ (codes "'>" ++ (number_text hundredths ++ (codes "</text>" ++ 10 ∷ []))))
 
--- the numbers of the upper scale: nothing, a quarter, a half, three quarters, and the top
+-- a line of the upper scale, so far above the lowest one, and its number, if it is on the scale
+abbrev pub level_text : (y : ℕ) → List ℕ
+level_text y = codes "<path class='grid' d='M88 " ++ (decimal y ++ (codes "H1248'/>" ++ 10 ∷ []))
+
+abbrev pub scale_line : (up hundredths : ℕ) → List ℕ
+scale_line up hundredths = if nat_le up 360 then level_text (496 - up) ++ scale_label (500 - up) hundredths else []
+
+-- the lines above 0, of which there are at most five
+abbrev pub scale_lines : (gap step : ℕ) → List ℕ
+scale_lines gap step =
+    scale_line gap step
+    ++ (scale_line (2 * gap) (2 * step) ++ (scale_line (3 * gap) (3 * step) ++ (scale_line (4 * gap) (4 * step) ++ scale_line (5 * gap) (5 * step))))
+
 abbrev pub scale_text : (top : ℕ) → List ℕ
-scale_text top =
-    scale_label 492 0 ++ (scale_label 404 (top / 4) ++ (scale_label 316 (top / 2) ++ (scale_label 228 (3 * top / 4) ++ scale_label 140 top)))
+scale_text top = scale_label 500 0 ++ scale_lines (gap_of top) (step_of top)
 
 -- where a number of the run on `units` units is
 abbrev pub point_text : (columns top units hundredths : ℕ) → List ℕ
@@ -89,7 +100,7 @@ square_text point = codes "<path class='faster' d='M-4 " ++ (decimal point ++ (c
 
 abbrev pub speed_text : (top : ℕ) → Option ℕ → List ℕ
 speed_text top None = []
-speed_text top (Some speed) = square_text (height_of top speed) ++ number_label (foot_over (height_of top speed)) speed
+speed_text top (Some speed) = square_text (height_of top speed) ++ number_label (foot_over top (height_of top speed)) speed
 
 -- the rate under its point, and the share and the units below the bar
 abbrev pub value_text : (under : ℕ) → Row → List ℕ
@@ -99,8 +110,8 @@ value_text under row = number_label under (rate row) ++ (share_label (share row)
 abbrev pub column_with : (top left point high : ℕ) → (speed : Option ℕ) → Row → List ℕ
 column_with top left point high speed row =
     opening_text left speed row (end_text row.standing)
-    ++ (bar_text (foot_under point + 6) (630 - high) high
-    ++ (mark_text point row.standing ++ (speed_text top speed ++ value_text (foot_under point) row)))
+    ++ (bar_text (foot_under top point + 6) (630 - high) high
+    ++ (mark_text point row.standing ++ (speed_text top speed ++ value_text (foot_under top point) row)))
 
 -- the column of a run
 unfoldable pub column_text : (columns top : ℕ) → (one row : Row) → List ℕ
@@ -125,3 +136,10 @@ runs_text (one ∷ more) = beside_text one (one ∷ more)
 -- the whole text
 unfoldable pub curve_text : List Row → List ℕ
 curve_text rows = fixed_text ++ (runs_text rows ++ (codes "</svg>" ++ 10 ∷ []))
+
+-- the line above the title, and the whole text with it
+abbrev pub caption_line : (caption : List ℕ) → List ℕ
+caption_line caption = codes "<text class='quiet' x='88' y='18'>" ++ (caption ++ (codes "</text>" ++ 10 ∷ []))
+
+unfoldable pub said_curve_text : (caption : List ℕ) → List Row → List ℕ
+said_curve_text caption rows = fixed_text ++ (caption_line caption ++ (runs_text rows ++ (codes "</svg>" ++ 10 ∷ [])))

@@ -5,7 +5,7 @@ use Rattle.std.specs.Prelude.{ℕ, List, [], ◌∷◌, ◌++◌, codes, flat_ma
 abbrev lines_text : List (List ℕ) → List ℕ
 lines_text lines = flat_map (λ line. line ++ 10 ∷ []) lines
 
--- the root element, its title, the style of all elements, the legend, and the lines of both scales
+-- the root element, its title, the style of all elements, the legend, and the lines of the lower scale
 unfoldable pub fixed_text : List ℕ
 fixed_text = lines_text (
     codes "<svg xmlns='http://www.w3.org/2000/svg' viewBox='0 0 1280 720' width='1280' height='720' role='img' font-family='system-ui,Segoe UI,Liberation Sans,Arial,sans-serif'>"
@@ -29,12 +29,12 @@ fixed_text = lines_text (
     ∷ codes "<path class='other' d='M364 98l9-9 9 9-9 9z'/><text x='390' y='103'>out of budget, trapped or unlisted</text>"
     ∷ codes "<path class='speed' d='M658 98H710'/><path class='faster' d='M680 98v-4h8v8h-8z'/><text x='718' y='103'>speed-up over one unit</text>"
     ∷ codes "<rect class='wasted' x='912' y='89' width='18' height='18'/><text x='938' y='103'>share of instructions thrown away</text>"
-    ∷ codes "<path class='grid' d='M88 136H1248M88 224H1248M88 312H1248M88 400H1248M88 550H1248M88 590H1248'/>"
-    ∷ codes "<path class='axis' d='M88 488H1248M88 630H1248'/>"
+    ∷ codes "<path class='grid' d='M88 550H1248M88 590H1248'/>"
+    ∷ codes "<path class='axis' d='M88 496H1248M88 630H1248'/>"
     ∷ codes "<text class='scale' x='78' y='554'>100%</text>"
     ∷ codes "<text class='scale' x='78' y='594'>50%</text>"
     ∷ codes "<text class='scale' x='78' y='634'>0%</text>"
-    ∷ codes "<text class='caption' transform='rotate(-90)' x='-312' y='26'>instructions in a step, and speed-up</text>"
+    ∷ codes "<text class='caption' transform='rotate(-90)' x='-316' y='26'>instructions in a step, and speed-up</text>"
     ∷ codes "<text class='caption' transform='rotate(-90)' x='-590' y='26'>thrown away</text>"
     ∷ codes "<text class='caption' x='668' y='704'>units</text>"
     ∷ [])

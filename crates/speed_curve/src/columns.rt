@@ -86,12 +86,12 @@ pub(crate) fn write_column(
     row: &Row,
 ) -> Result<(), AllocError>
     requires columns { 0 < columns }
-    requires top { 0 < top }
+    requires top { (0 < top) × (top < 2 ^ 49) }
     ensures { OnOk result (string_bytes text.new ≡ string_bytes text.old ++ column_text columns top one.now row.now) }
 {
     let left = column(columns, row.units);
     let point = height(top, rate(row));
-    let under = foot_under(point);
+    let under = foot_under(top, point);
     let high = bar(row);
     let speed = speed_up(one, row);
     write_opening(text, left, speed, row, end_of(row.standing))?;
@@ -173,7 +173,7 @@ fn write_mark(text: &mut String, point: u64, standing: Standing) -> Result<(), A
 
 /// Writes the point of a speed-up, and the number over it.
 fn write_speed(text: &mut String, top: u64, speed: Option<u64>) -> Result<(), AllocError>
-    requires top { 0 < top }
+    requires top { (0 < top) × (top < 2 ^ 49) }
     requires few { IfSome speed (λ number. number < 2 ^ 48) }
     ensures { OnOk result (string_bytes text.new ≡ string_bytes text.old ++ speed_text top speed) }
 {
@@ -181,7 +181,7 @@ fn write_speed(text: &mut String, top: u64, speed: Option<u64>) -> Result<(), Al
         Some(speed) => {
             let point = height(top, speed);
             write_square(text, point)?;
-            write_number(text, foot_over(point), speed)
+            write_number(text, foot_over(top, point), speed)
         }
         None => Ok(()),
     }

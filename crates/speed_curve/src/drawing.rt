@@ -1,13 +1,13 @@
 //! The curve as one SVG file.
 
-ghost use Rattle.std.specs.Prelude.{◌≡◌, ◌<◌, ◌^◌, ◌++◌, IfOk, OnOk, flat_map, length};
+ghost use Rattle.std.specs.Prelude.{◌≡◌, ◌<◌, ◌≤◌, ◌^◌, ◌++◌, IfOk, OnOk, flat_map, length};
 ghost use Rattle.std.specs.String.{string_bytes};
-ghost use Rattle.speed_curve.specs.CurvePicture.{beside_text, column_text, columns_text, curve_text, rate_line, rate_point, runs_text, scale_label, scale_text, speed_line, speed_point};
+ghost use Rattle.speed_curve.specs.CurvePicture.{beside_text, caption_line, column_text, columns_text, curve_text, rate_line, rate_point, runs_text, said_curve_text, level_text, scale_label, scale_line, scale_lines, scale_text, speed_line, speed_point};
 
 use crate::columns::{write_column, write_rate_point, write_speed_point};
 use crate::hundredths::Hundredths;
 use crate::row::Row;
-use crate::scale::top;
+use crate::scale::{gap, step, top};
 use crate::sheet::fixed_text;
 use std::alloc::{AllocError, Global};
 
@@ -23,6 +23,25 @@ pub fn draw(alloc: Global, rows: &[Row]) -> Result<String, AllocError>
     write_runs(&mut text, rows)?;
     text.push_str("</svg>\n")?;
     Ok(text)
+}
+
+/// Draws the results of runs as `draw` does, with a line above the title: `caption`, which is text of SVG. The error says
+/// that memory was refused.
+pub fn draw_said(alloc: Global, caption: &str, rows: &[Row]) -> Result<String, AllocError>
+    ensures { IfOk result (λ text. string_bytes text ≡ said_curve_text caption.now rows.now) }
+{
+    let mut text = String::from_str(alloc, fixed_text())?;
+    write_caption(&mut text, caption)?;
+    write_runs(&mut text, rows)?;
+    text.push_str("</svg>\n")?;
+    Ok(text)
+}
+
+/// Writes the line above the title.
+fn write_caption(text: &mut String, caption: &str) -> Result<(), AllocError>
+    ensures { OnOk result (string_bytes text.new ≡ string_bytes text.old ++ caption_line caption.now) }
+{
+    writeln!(text, "<text class='quiet' x='88' y='18'>{caption}</text>")
 }
 
 /// Writes the runs, of which the first is the one on one unit.
@@ -48,16 +67,44 @@ fn write_beside(text: &mut String, one: &Row, rows: &[Row]) -> Result<(), AllocE
     write_columns(text, columns, top, one, rows)
 }
 
-/// Writes the numbers of the upper scale.
+/// Writes the lines of the upper scale and their numbers.
 fn write_scale(text: &mut String, top: u64) -> Result<(), AllocError>
     requires { top < 2 ^ 49 }
     ensures { OnOk result (string_bytes text.new ≡ string_bytes text.old ++ scale_text top) }
 {
-    write_label(text, 492, 0)?;
-    write_label(text, 404, top / 4)?;
-    write_label(text, 316, top / 2)?;
-    write_label(text, 228, 3 * top / 4)?;
-    write_label(text, 140, top)
+    write_label(text, 500, 0)?;
+    write_lines(text, gap(top), step(top))
+}
+
+/// Writes the lines of the upper scale above 0, each with its number; they are so far apart in pixels and in hundredths.
+fn write_lines(text: &mut String, gap: u64, step: u64) -> Result<(), AllocError>
+    requires gap { gap ≤ 360 }
+    requires step { step < 2 ^ 49 }
+    ensures { OnOk result (string_bytes text.new ≡ string_bytes text.old ++ scale_lines gap step) }
+{
+    write_line(text, gap, step)?;
+    write_line(text, 2 * gap, 2 * step)?;
+    write_line(text, 3 * gap, 3 * step)?;
+    write_line(text, 4 * gap, 4 * step)?;
+    write_line(text, 5 * gap, 5 * step)
+}
+
+/// Writes a line of the upper scale, so far above the lowest one, and its number, if it is on the scale.
+fn write_line(text: &mut String, up: u64, hundredths: u64) -> Result<(), AllocError>
+    ensures { OnOk result (string_bytes text.new ≡ string_bytes text.old ++ scale_line up hundredths) }
+{
+    if up > 360 {
+        return Ok(());
+    }
+    write_level(text, 496 - up)?;
+    write_label(text, 500 - up, hundredths)
+}
+
+/// Writes a line across the picture.
+fn write_level(text: &mut String, y: u64) -> Result<(), AllocError>
+    ensures { OnOk result (string_bytes text.new ≡ string_bytes text.old ++ level_text y) }
+{
+    writeln!(text, "<path class='grid' d='M88 {y}H1248'/>")
 }
 
 /// Writes a number of the upper scale.
@@ -145,7 +192,7 @@ fn write_columns(
     rows: &[Row],
 ) -> Result<(), AllocError>
     requires columns { 0 < columns }
-    requires top { 0 < top }
+    requires top { (0 < top) × (top < 2 ^ 49) }
     ensures { OnOk result (string_bytes text.new ≡ string_bytes text.old ++ columns_text columns top one.now rows.now) }
 {
     for row in rows {

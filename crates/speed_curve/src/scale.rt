@@ -1,18 +1,104 @@
 //! Where things stand in the picture. All lengths are in pixels, from the left and from above.
 
 ghost use Rattle.std.specs.Prelude.{◌≡◌, ◌<◌, ◌≤◌, ◌^◌};
-ghost use Rattle.speed_curve.specs.Scales.{above as above_of, bar_of, column_of, foot_over as foot_over_of, foot_under as foot_under_of, greatest as greatest_of, height_of, top_of};
+ghost use Rattle.speed_curve.specs.Scales.{above as above_of, above_by, bar_of, column_of, foot_over as foot_over_of, foot_under as foot_under_of, gap_by, gap_of, greatest as greatest_of, height_of, step_among, step_of, top_of};
 
 use crate::row::Row;
 use crate::table::{rate, share, speed_up};
 
-/// The least number, in hundredths, that is a multiple of a fifth and is not less.
+/// How far apart the lines of the upper scale are where it goes up to this number, in hundredths: the least of 1, 2 and
+/// 5, times 1, 10, 100 and so on, of which five are not less than the number.
+#[tactic(auto, unfolding(crate::specs::Scales::step_of))]
+pub(crate) fn step(hundredths: u64) -> u64
+    requires { hundredths < 2 ^ 49 }
+    ensures value { result ≡ step_of hundredths }
+    ensures few { result < 2 ^ 49 }
+{
+    first_step(
+        hundredths,
+        &[
+            1, 2, 5, 10, 20, 50, 100, 200, 500, 1_000, 2_000, 5_000, 10_000, 20_000, 50_000,
+            100_000, 200_000, 500_000, 1_000_000, 2_000_000, 5_000_000, 10_000_000, 20_000_000,
+            50_000_000,
+        ],
+    )
+}
+
+/// The first of some steps of which five are not less than a number, else the number.
+fn first_step(hundredths: u64, steps: &[u32]) -> u64
+    requires { hundredths < 2 ^ 49 }
+    ensures value { result ≡ step_among hundredths steps.now }
+    ensures few { result < 2 ^ 49 }
+{
+    for step in steps {
+        if hundredths <= 5 * u64::from(*step) {
+            return u64::from(*step);
+        }
+    }
+    hundredths
+}
+
+/// The least number of steps, in hundredths, that is not less.
+#[tactic(auto, unfolding(crate::specs::Scales::above))]
 fn above(hundredths: u64) -> u64
     requires { hundredths < 2 ^ 48 }
     ensures value { result ≡ above_of hundredths }
     ensures few { result < 2 ^ 49 }
 {
-    (hundredths + 19) / 20 * 20
+    steps_above(hundredths, step(hundredths))
+}
+
+/// The least of one to five steps that is not less than a number, else the number.
+fn steps_above(hundredths: u64, step: u64) -> u64
+    requires few { hundredths < 2 ^ 48 }
+    requires step { step < 2 ^ 49 }
+    ensures value { result ≡ above_by hundredths step }
+    ensures bound { result < 2 ^ 49 }
+{
+    if hundredths <= step {
+        step
+    } else if hundredths <= 2 * step {
+        2 * step
+    } else if hundredths <= 3 * step {
+        3 * step
+    } else if hundredths <= 4 * step {
+        4 * step
+    } else if hundredths <= 5 * step {
+        5 * step
+    } else {
+        hundredths
+    }
+}
+
+/// How far apart the lines of the upper scale are where it goes up to this number of hundredths, in pixels.
+#[tactic(auto, unfolding(crate::specs::Scales::gap_of))]
+pub(crate) fn gap(top: u64) -> u64
+    requires { top < 2 ^ 49 }
+    ensures value { result ≡ gap_of top }
+    ensures some { 0 < result }
+    ensures low { result ≤ 360 }
+{
+    gap_with(top, step(top))
+}
+
+/// How far apart the lines are, by the step between them.
+fn gap_with(top: u64, step: u64) -> u64
+    requires { step < 2 ^ 49 }
+    ensures value { result ≡ gap_by top step }
+    ensures some { 0 < result }
+    ensures low { result ≤ 360 }
+{
+    if top <= step {
+        360
+    } else if top <= 2 * step {
+        180
+    } else if top <= 3 * step {
+        120
+    } else if top <= 4 * step {
+        90
+    } else {
+        72
+    }
 }
 
 /// The greater of a run's rate and its speed-up, if it has one, in hundredths.
@@ -41,27 +127,31 @@ pub(crate) fn height(top: u64, hundredths: u64) -> u64
     requires some { 0 < top }
     requires few { hundredths < 2 ^ 48 }
     ensures value { result ≡ height_of top hundredths }
-    ensures low { result ≤ 488 }
+    ensures low { result ≤ 496 }
 {
-    488_u64.saturating_sub(352 * hundredths / top)
+    496_u64.saturating_sub(360 * hundredths / top)
 }
 
 /// The foot of the number over a point: further up where it would lie on a line of the upper scale.
-pub(crate) fn foot_over(point: u64) -> u64
-    ensures { result ≡ foot_over_of point }
+pub(crate) fn foot_over(top: u64, point: u64) -> u64
+    requires { top < 2 ^ 49 }
+    ensures { result ≡ foot_over_of top point }
 {
+    let gap = gap(top);
     let foot = point.saturating_sub(12);
-    foot.saturating_sub(16_u64.saturating_sub(940_u64.saturating_sub(foot) % 88))
+    foot.saturating_sub(16_u64.saturating_sub(508_u64.saturating_sub(foot) % gap))
 }
 
 /// The foot of the number under a point: further down where it would lie on a line of the upper scale.
-pub(crate) fn foot_under(point: u64) -> u64
-    requires { point ≤ 488 }
-    ensures value { result ≡ foot_under_of point }
-    ensures low { result ≤ 526 }
+pub(crate) fn foot_under(top: u64, point: u64) -> u64
+    requires few { top < 2 ^ 49 }
+    requires low { point ≤ 496 }
+    ensures value { result ≡ foot_under_of top point }
+    ensures low { result ≤ 534 }
 {
+    let gap = gap(top);
     let foot = point + 22;
-    foot + 16_u64.saturating_sub((foot + 43) % 88)
+    foot + 16_u64.saturating_sub((foot + 227) % gap)
 }
 
 /// The middle of the column of `units` units, of `columns` columns, from the left.

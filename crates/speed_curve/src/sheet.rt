@@ -3,7 +3,7 @@
 ghost use Rattle.std.specs.Prelude.{◌≡◌};
 ghost use Rattle.speed_curve.specs.FixedText.{fixed_text};
 
-/// The root element, its title, the style of all elements, the legend, and the lines of both scales. What a
+/// The root element, its title, the style of all elements, the legend, and the lines of the lower scale. What a
 /// colour says, a form or a pattern says too.
 const SHEET: &str =
     "<svg xmlns='http://www.w3.org/2000/svg' viewBox='0 0 1280 720' width='1280' height='720' role='img' font-family='system-ui,Segoe UI,Liberation Sans,Arial,sans-serif'>
@@ -27,17 +27,17 @@ text{fill:#e4e9ee}.quiet,.caption,.scale{fill:#9aa7b4}.ground,.other,.faster{fil
 <path class='other' d='M364 98l9-9 9 9-9 9z'/><text x='390' y='103'>out of budget, trapped or unlisted</text>
 <path class='speed' d='M658 98H710'/><path class='faster' d='M680 98v-4h8v8h-8z'/><text x='718' y='103'>speed-up over one unit</text>
 <rect class='wasted' x='912' y='89' width='18' height='18'/><text x='938' y='103'>share of instructions thrown away</text>
-<path class='grid' d='M88 136H1248M88 224H1248M88 312H1248M88 400H1248M88 550H1248M88 590H1248'/>
-<path class='axis' d='M88 488H1248M88 630H1248'/>
+<path class='grid' d='M88 550H1248M88 590H1248'/>
+<path class='axis' d='M88 496H1248M88 630H1248'/>
 <text class='scale' x='78' y='554'>100%</text>
 <text class='scale' x='78' y='594'>50%</text>
 <text class='scale' x='78' y='634'>0%</text>
-<text class='caption' transform='rotate(-90)' x='-312' y='26'>instructions in a step, and speed-up</text>
+<text class='caption' transform='rotate(-90)' x='-316' y='26'>instructions in a step, and speed-up</text>
 <text class='caption' transform='rotate(-90)' x='-590' y='26'>thrown away</text>
 <text class='caption' x='668' y='704'>units</text>
 ";
 
-/// All that comes before the numbers of the upper scale.
+/// All that comes before the upper scale.
 #[tactic(auto, unfolding(crate::specs::FixedText::fixed_text))]
 pub(crate) fn fixed_text() -> &'static str
     ensures { result.now ≡ fixed_text }

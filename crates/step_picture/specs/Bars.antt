@@ -1,30 +1,12 @@
 -- The bars of lives in steps. The task that halted is not called unfinished.
-use Rattle.std.specs.Prelude.{ℕ, ◌%◌, Bool, false, List, flat_map, nat_eq, if◌then◌else◌}
-use Rattle.machine_model.specs.declared.event.Standing.{Standing}
-use Rattle.machine_model.specs.declared.event.Standing.TheVariants as standing
+use Rattle.std.specs.Prelude.{ℕ, List, flat_map}
 use Rattle.task_descriptor.specs.declared.descriptor.Descriptor.{Descriptor}
 use Rattle.task_lives.specs.declared.life.Life.{Life}
-use Rattle.task_lives.specs.Sums.{is_unfinished}
 use Rattle.run_picture.specs.declared.shape.Shape.{Shape}
-use Rattle.run_picture.specs.declared.shape.Style.{Style}
-use Rattle.run_picture.specs.declared.shape.Style.TheVariants.{Bar, Halted}
 use Rattle.run_picture.specs.Scales.{left_edge_of, top_of}
 use Rattle.run_picture.specs.Shapes.{rectangle}
-use Rattle.run_picture.specs.Bars.{name_of, width_of}
+use Rattle.run_picture.specs.Bars.{bar_style, is_halted, name_of, width_of}
 use Rattle.step_picture.specs.SaidText.{element_text, life_text}
-
--- the unit that halted: the head's, whose number round the ring is that of the retired tasks; if none did, a number
--- that no unit has
-abbrev pub halted_unit : (units retired : ℕ) → Standing → ℕ
-halted_unit units retired standing.Halted = retired % units
-halted_unit units retired _ = units
-
--- the life is that of the task that halted
-abbrev pub is_halted : (halted : ℕ) → Life → Bool
-is_halted halted life = if nat_eq life.unit halted then is_unfinished life.ending else false
-
-abbrev pub bar_style : (halted : ℕ) → Life → Style
-bar_style halted life = if is_halted halted life then Halted else Bar life.ending
 
 -- the bar of a life of a run of `count` steps, in its unit's lane, as wide as its steps
 abbrev pub bar_of : (count halted : ℕ) → Life → Shape

@@ -22,10 +22,11 @@ use Rattle.run_picture.specs.declared.shape.Geometry.TheVariants.{Line, Wedge}
 use Rattle.run_picture.specs.declared.shape.LabelText.TheVariants.{Register}
 use Rattle.run_picture.specs.declared.shape.Counted.TheVariants.{Steps}
 use Rattle.run_picture.specs.declared.shape.Hover.TheVariants.{OfTransfer, OfSquash}
+use Rattle.run_picture.specs.Bars.{bar_style, halted_unit}
 use Rattle.run_picture.specs.Shapes.{label, line, rectangle}
 use Rattle.step_picture.specs.declared.strip.Strip.{Strip}
 use Rattle.step_picture.specs.Numbers.{count_of, in_steps, steps_of}
-use Rattle.step_picture.specs.Bars.{bar_of, bar_style, halted_unit}
+use Rattle.step_picture.specs.Bars.{bar_of}
 use Rattle.step_picture.specs.Strips.{begun, shape_of, strip_text, strips_of, waits_on}
 use Rattle.step_picture.specs.Marks.{marks_from, marks_of}
 use Rattle.step_picture.specs.PredictorText.{list_text, predictor_text}

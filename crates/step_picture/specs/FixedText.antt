@@ -57,9 +57,14 @@ marks_legend = lines_text (
     ∷ codes "<path class='transfer' d='M802 120V137'/><text x='814' y='133'>register to the next unit; from the last one, to unit 0</text>"
     ∷ [])
 
--- what else is in a picture of stretches
+-- that the marks of more than 300 steps are not drawn
+unfoldable pub no_marks_legend : List ℕ
+no_marks_legend = lines_text (codes "<text class='quiet' x='802' y='133'>over 300 steps, no instructions or registers are drawn</text>" ∷ [])
+
+-- what else is in a picture of stretches, and what is not drawn
 unfoldable pub summed_legend : List ℕ
 summed_legend = lines_text (
     codes "<rect class='unfinished' x='430' y='94' width='28' height='16'/><text x='466' y='107'>unfinished, or halted</text>"
     ∷ codes "<rect class='idle' x='630' y='94' width='28' height='16'/><text x='666' y='107'>no task</text>"
+    ∷ codes "<text class='quiet' x='88' y='133'>over 2,000 steps, no waits, instructions, registers or squashes are drawn</text>"
     ∷ [])

@@ -20,17 +20,17 @@ use Rattle.run_picture.specs.declared.shape.Counted.TheVariants as counted
 use Rattle.run_picture.specs.Scales.{bottom_of, step_of}
 use Rattle.run_picture.specs.Shapes.{line, label}
 use Rattle.run_picture.specs.Frame.{lanes_of, numbers_of, note_of}
-use Rattle.run_picture.specs.Bars.{names_of}
+use Rattle.run_picture.specs.Bars.{halted_unit, names_of}
 use Rattle.run_picture.specs.Stretches.{length_of, stretches_of}
 use Rattle.run_picture.specs.ShapeText.{shapes_text}
 use Rattle.run_picture.specs.Titles.{called_text, title_text}
 use Rattle.run_picture.specs.Picture.{height_of, root_text}
 use Rattle.step_picture.specs.Numbers.{all_in_steps, count_of, executed_steps, steps_of}
-use Rattle.step_picture.specs.Bars.{bars_text, halted_unit}
+use Rattle.step_picture.specs.Bars.{bars_text}
 use Rattle.step_picture.specs.Strips.{strips_text}
 use Rattle.step_picture.specs.Marks.{marks_of}
 use Rattle.step_picture.specs.PredictorText.{predictor_text}
-use Rattle.step_picture.specs.FixedText.{style_sheet, single_legend, marks_legend, summed_legend}
+use Rattle.step_picture.specs.FixedText.{style_sheet, single_legend, marks_legend, no_marks_legend, summed_legend}
 
 -- ---- the frame
 
@@ -75,7 +75,7 @@ inner_text p units count halted steps history lives =
 
 abbrev pub legend_text : (count : ℕ) → List ℕ
 legend_text count =
-    if nat_le count 300 then single_legend ++ marks_legend else if nat_le count 2000 then single_legend else summed_legend
+    if nat_le count 300 then single_legend ++ marks_legend else if nat_le count 2000 then single_legend ++ no_marks_legend else summed_legend
 
 abbrev pub ended_legend : (count : ℕ) → List ℕ
 ended_legend count = legend_text count ++ (codes "</g>" ++ 10 ∷ [])

@@ -12,7 +12,7 @@ ghost use Rattle.step_picture.specs.Numbers.{all_in_steps as lives_in_steps, cou
 ghost use Rattle.step_picture.specs.StepPicture.{closing, drawn_text, file_text, frame_of, head_text, inner_text, labels_of, single_text, step_picture_text, summed_of, text_by};
 ghost use Rattle.run_picture.specs.ShapeText.{shapes_text};
 
-use crate::bars::{halted_unit, write_bars};
+use crate::bars::write_bars;
 use crate::frame::frame;
 use crate::heading::write_opening;
 use crate::marks::push_marks;
@@ -21,7 +21,7 @@ use crate::strips::write_strips;
 use jobs::job::Prediction;
 use machine_model::event::{Event, EventRun, Standing};
 use mark_checker::accept::Accepted;
-use run_picture::bars::push_names;
+use run_picture::bars::{halted_unit, push_names};
 use run_picture::drawing::MOST_SINGLE;
 use run_picture::events::single_events;
 use run_picture::lanes::push_note;

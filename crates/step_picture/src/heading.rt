@@ -6,7 +6,7 @@ ghost use Rattle.step_picture.specs.StepPicture.{caption_text, ended_legend, end
 
 use crate::marks::MOST_MARKED;
 use crate::predictor_text::write_predictor;
-use crate::sheet::{marks_legend, single_legend, style_sheet, summed_legend};
+use crate::sheet::{marks_legend, no_marks_legend, single_legend, style_sheet, summed_legend};
 use jobs::job::Prediction;
 use machine_model::event::Standing;
 use run_picture::drawing::{MOST_SINGLE, height, write_root};
@@ -65,7 +65,8 @@ fn write_legend(text: &mut String, count: u32) -> Result<(), AllocError>
         text.push_str(single_legend())?;
         text.push_str(marks_legend())
     } else if count as usize <= MOST_SINGLE {
-        text.push_str(single_legend())
+        text.push_str(single_legend())?;
+        text.push_str(no_marks_legend())
     } else {
         text.push_str(summed_legend())
     }

@@ -8,7 +8,7 @@ mod frame;
 mod heading;
 mod marks;
 mod numbers;
-mod predictor_text;
+pub mod predictor_text;
 mod said;
 mod sheet;
 mod strip;

@@ -10,8 +10,8 @@ use std::alloc::AllocError;
 /// How many numbers of a list are named.
 const MOST_NAMED: usize = 24;
 
-/// Writes what a predictor is called.
-pub(crate) fn write_predictor(text: &mut String, predict: &Prediction) -> Result<(), AllocError>
+/// Writes what a predictor is called. An error means that memory was refused.
+pub fn write_predictor(text: &mut String, predict: &Prediction) -> Result<(), AllocError>
     ensures { OnOk result (string_bytes text.new ≡ string_bytes text.old ++ predictor_text predict.now) }
 {
     match predict {

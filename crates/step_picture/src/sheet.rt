@@ -1,7 +1,7 @@
 //! The parts of the file that every picture has.
 
 ghost use Rattle.std.specs.Prelude.{◌≡◌};
-ghost use Rattle.step_picture.specs.FixedText.{marks_legend, single_legend, style_sheet, summed_legend};
+ghost use Rattle.step_picture.specs.FixedText.{marks_legend, no_marks_legend, single_legend, style_sheet, summed_legend};
 
 /// The style of all shapes, light or dark. What a colour shows, a pattern or a border shows too.
 const SHEET: &str = "<style>
@@ -51,10 +51,16 @@ const MARKS_LEGEND: &str =
 <path class='transfer' d='M802 120V137'/><text x='814' y='133'>register to the next unit; from the last one, to unit 0</text>
 ";
 
+/// That more steps than have room for marks have none.
+const NO_MARKS_LEGEND: &str =
+    "<text class='quiet' x='802' y='133'>over 300 steps, no instructions or registers are drawn</text>
+";
+
 /// What else is in a picture of stretches.
 const SUMMED_LEGEND: &str =
     "<rect class='unfinished' x='430' y='94' width='28' height='16'/><text x='466' y='107'>unfinished, or halted</text>
 <rect class='idle' x='630' y='94' width='28' height='16'/><text x='666' y='107'>no task</text>
+<text class='quiet' x='88' y='133'>over 2,000 steps, no waits, instructions, registers or squashes are drawn</text>
 ";
 
 /// The style sheet, the patterns, the ground, and the legend of all bars.
@@ -79,6 +85,14 @@ pub(crate) fn marks_legend() -> &'static str
     ensures { result.now ≡ marks_legend }
 {
     MARKS_LEGEND
+}
+
+/// What the legend says of marks that are not drawn.
+#[tactic(auto, unfolding(crate::specs::FixedText::no_marks_legend))]
+pub(crate) fn no_marks_legend() -> &'static str
+    ensures { result.now ≡ no_marks_legend }
+{
+    NO_MARKS_LEGEND
 }
 
 /// The legend of what else is in a picture of stretches.

@@ -7,25 +7,31 @@ use std::alloc::Global;
 use std::process::Abort;
 
 /// What stands after the fixed part, as `fuzz/curve_picture.py` computes it for these rows.
-const TWO_COLUMNS: &str = "<text class='scale' x='78' y='492'>0.00</text>
-<text class='scale' x='78' y='404'>0.25</text>
-<text class='scale' x='78' y='316'>0.50</text>
-<text class='scale' x='78' y='228'>0.75</text>
+const TWO_COLUMNS: &str = "<text class='scale' x='78' y='500'>0.00</text>
+<path class='grid' d='M88 424H1248'/>
+<text class='scale' x='78' y='428'>0.20</text>
+<path class='grid' d='M88 352H1248'/>
+<text class='scale' x='78' y='356'>0.40</text>
+<path class='grid' d='M88 280H1248'/>
+<text class='scale' x='78' y='284'>0.60</text>
+<path class='grid' d='M88 208H1248'/>
+<text class='scale' x='78' y='212'>0.80</text>
+<path class='grid' d='M88 136H1248'/>
 <text class='scale' x='78' y='140'>1.00</text>
-<polyline class='curve' points='378,305 958,232 '/>
+<polyline class='curve' points='378,309 958,234 '/>
 <polyline class='speed' points='378,136 '/>
 <g transform='translate(378 0)'><title>units: 1, steps: 31, speed-up: 1.00, instructions retired: 16, thrown away: 0, halted</title>
-<path class='grid' d='M0 333V630'/><rect class='wasted' x='-12' y='630' width='24' height='0'/>
-<circle class='halted' cx='0' cy='305' r='7'/>
+<path class='grid' d='M0 337V630'/><rect class='wasted' x='-12' y='630' width='24' height='0'/>
+<circle class='halted' cx='0' cy='309' r='7'/>
 <path class='faster' d='M-4 136v-4h8v8h-8z'/>
 <text class='value' x='0' y='124'>1.00</text>
-<text class='value' x='0' y='327'>0.52</text>
+<text class='value' x='0' y='331'>0.52</text>
 <text class='value' x='0' y='648'>0.00%</text>
 <text class='number' x='0' y='672'>1</text></g>
 <g transform='translate(958 0)'><title>units: 2, steps: 22, speed-up: -, instructions retired: 16, thrown away: 1, out of budget</title>
-<path class='grid' d='M0 260V630'/><rect class='wasted' x='-12' y='626' width='24' height='4'/>
-<path class='other' d='M-9 232l9-9 9 9-9 9z'/>
-<text class='value' x='0' y='254'>0.73</text>
+<path class='grid' d='M0 262V630'/><rect class='wasted' x='-12' y='626' width='24' height='4'/>
+<path class='other' d='M-9 234l9-9 9 9-9 9z'/>
+<text class='value' x='0' y='256'>0.73</text>
 <text class='value' x='0' y='648'>5.88%</text>
 <text class='number' x='0' y='672'>2</text></g>
 </svg>
@@ -63,5 +69,5 @@ fn nothing_to_draw(rt: HostRuntime) {
     let text = picture(&rt, rt.alloc(), &none);
     assert!(rt; text.ends_with(">units</text>\n</svg>\n"));
     let text = picture(&rt, rt.alloc(), &[row(1, 0, 0, 0, Standing::Running)]);
-    assert!(rt; text.contains("<polyline class='curve' points='668,488 '/>"));
+    assert!(rt; text.contains("<polyline class='curve' points='668,496 '/>"));
 }

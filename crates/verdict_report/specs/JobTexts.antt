@@ -9,7 +9,7 @@ use Rattle.report_texts.specs.PrintText.{print_text}
 use Rattle.report_texts.specs.CheckText.{check_text}
 use Rattle.verdict_report.specs.ReplayText.{replay_text}
 use Rattle.verdict_report.specs.RunText.{IsRunText}
-use Rattle.verdict_report.specs.CurveText.{IsCurveText}
+use Rattle.verdict_report.specs.CurveText.{IsNamedCurveText}
 use Rattle.verdict_report.specs.Writing.{Begins}
 use Rattle.report_texts.specs.AnnotateText.{IsAnnotateReport}
 use Rattle.report_texts.specs.CertificateTexts.{OfCertificate}
@@ -40,7 +40,7 @@ IsReportOf (Run source schedule units workers budget predict emit) texts report 
     IsRunText schedule units budget predict emit (string_bytes texts.name) texts.program.items certificate report)
 IsReportOf (Curve source units budget predict emit) texts report =
     OfCertificate source texts.program.items texts.certificate (λ certificate.
-    IsCurveText units budget predict emit texts.program.items certificate report)
+    IsNamedCurveText units budget predict emit (string_bytes texts.name) texts.program.items certificate report)
 IsReportOf (Demonstrate units steps emit) texts report = IsDemonstrateReport units steps emit texts.program.items report
 
 -- a job is done: a report of it was added to what the writer holds, and the status is its

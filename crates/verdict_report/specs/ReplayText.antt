@@ -13,7 +13,7 @@ use Rattle.event_script.specs.FaultText.{script_fault_text}
 use Rattle.event_script.specs.EventScript.{script_of}
 use Rattle.task_lives.specs.Lives.{lives_of}
 use Rattle.task_lives.specs.SummaryText.{summary_text}
-use Rattle.run_picture.specs.Picture.{picture_text}
+use Rattle.run_picture.specs.Picture.{ended_picture_text}
 use Rattle.event_json.specs.Timeline.{timeline_text}
 use Rattle.event_json.specs.declared.clock.Clock.TheVariants as clock
 use Rattle.event_trace.specs.Entries.{places_of}
@@ -55,13 +55,13 @@ allowed (event ∷ events) (Ok done ∷ answers) = event ∷ allowed events answ
 allowed (event ∷ events) (Err refusal ∷ answers) = allowed events answers
 
 -- what is written for events that were played: the answers, and how the machine stands; or the summary of the
--- tasks that the allowed events assigned, as in `run`; or a picture of the allowed events; or the trace of the
+-- tasks that the allowed events assigned, as in `run`; or a picture of the allowed events, and how the machine stands; or the trace of the
 -- events, by the lines of the program text, or as lines of JSON; or a timeline of the allowed events; or how
 -- the machine stands, and its units
 abbrev pub played_text : ReplayEmit → (units : ℕ) → (name text : List ℕ) → Listing → List Event → Played → List ℕ
 played_text emit.Answers units name text p events played = answers_text played.answers ++ machine_text played.state
 played_text emit.Summary units name text p events played = summary_text p (lives_of units (allowed events played.answers))
-played_text emit.Picture units name text p events played = picture_text name p units (allowed events played.answers)
+played_text emit.Picture units name text p events played = ended_picture_text name p units (Some played.state.outcome) (allowed events played.answers)
 played_text emit.Trace units name text p events played = trace_text p (places_of text) units events
 played_text emit.Json units name text p events played = json_text name Script p (places_of text) units events AsItStands
 played_text emit.Timeline units name text p events played = timeline_text p units clock.Events (allowed events played.answers)

@@ -12,7 +12,7 @@ use Rattle.event_script.specs.EventScript.{script_of}
 use Rattle.event_script.specs.ScriptText.{script_text}
 use Rattle.task_lives.specs.Lives.{lives_of}
 use Rattle.task_lives.specs.SummaryText.{summary_text}
-use Rattle.run_picture.specs.Picture.{picture_text}
+use Rattle.run_picture.specs.Picture.{ended_picture_text}
 use Rattle.step_picture.specs.StepPicture.{step_picture_text}
 use Rattle.event_json.specs.Timeline.{timeline_text}
 use Rattle.event_json.specs.declared.clock.Clock.{Clock}
@@ -113,7 +113,7 @@ IsWrittenOf emit.Report units predict name text p run bytes = bytes ≡ ending_t
 IsWrittenOf emit.Script units predict name text p run bytes = (bytes ≡ script_text p run.history) × (script_of p bytes ≡ Ok run.history)
 IsWrittenOf emit.ScriptWithValues units predict name text p run bytes = bytes ≡ valued_script p units run.history
 IsWrittenOf emit.Summary units predict name text p run bytes = bytes ≡ summary_text p (lives_of units run.history) ++ steps_text run.steps run.state
-IsWrittenOf emit.Picture units predict name text p run bytes = bytes ≡ picture_text name p units run.history
+IsWrittenOf emit.Picture units predict name text p run bytes = bytes ≡ ended_picture_text name p units (Some run.state.outcome) run.history
 IsWrittenOf emit.StepPicture units predict name text p run bytes = bytes ≡ step_picture_text name p units predict run.state.outcome run.history
 IsWrittenOf emit.Trace units predict name text p run bytes = bytes ≡ trace_text p (places_of text) units run.history
 IsWrittenOf emit.Json units predict name text p run bytes = bytes ≡ json_text name (source_of run.steps) p (places_of text) units run.history (last_line_of run.how)

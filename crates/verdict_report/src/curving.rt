@@ -1,14 +1,18 @@
 //! The job `curve`.
 ghost use Rattle.std.specs.Prelude.{◌≡◌, ◌≤◌, IfOk, true, false};
 ghost use Rattle.std.specs.Io.KnownBytes.{Appends, Keeps};
+ghost use Rattle.std.specs.String.{string_bytes};
 ghost use Rattle.speed_curve.specs.Curve.{AreRows};
+ghost use Rattle.speed_curve.specs.CurvePicture.{said_curve_text};
 ghost use Rattle.verdict_report.specs.RunText.{predictor_of as predictor_by};
-ghost use Rattle.verdict_report.specs.CurveText.{IsCurveReport, IsCurveText, end_status as end_status_of, rows_status as rows_status_of, rows_text as rows_text_of};
+ghost use Rattle.verdict_report.specs.CurveCaption.{caption_text};
+ghost use Rattle.verdict_report.specs.CurveText.{IsCurveReport, IsNamedCurveText, end_status as end_status_of, rows_status as rows_status_of, rows_text as rows_text_of};
 ghost use Rattle.verdict_report.specs.CurveProgress.{IsSaidIf, curve_lines, run_lines};
 ghost use Rattle.verdict_report.specs.Writing.{Begins};
 ghost use Rattle.report_texts.specs.CertificateTexts.{OfCertificate};
 ghost use Rattle.report_texts.specs.JudgedTexts.{judgement};
 
+use crate::curve_caption::write_caption;
 use crate::scheduled::predictor_of;
 use crate::telling::tell;
 use jobs::job::{CertificateSource, CurveEmit, Prediction, Texts};
@@ -17,7 +21,7 @@ use machine_model::event::Standing;
 use mark_checker::accept::Accepted;
 use report_texts::judging::{Judged, judge};
 use report_texts::report::JobReport;
-use speed_curve::drawing::draw;
+use speed_curve::drawing::draw_said;
 use speed_curve::row::{Row, row_of};
 use speed_curve::table::write;
 use std::alloc::{AllocError, Global};
@@ -35,7 +39,7 @@ pub fn curve(
     texts: &Texts,
 ) -> Result<JobReport, AllocError>
     ensures { IfOk result (λ report. OfCertificate source texts.now.program.items texts.now.certificate (λ certificate.
-        IsCurveText units budget predict.now emit texts.now.program.items certificate report)) }
+        IsNamedCurveText units budget predict.now emit (string_bytes texts.now.name) texts.now.program.items certificate report)) }
 {
     let mut nobody = Vec::new(alloc);
     let told = curve_heard(
@@ -76,7 +80,7 @@ pub fn curve_told<E: Write>(
     errors: &mut E,
 ) -> Result<ToldReport, AllocError>
     ensures report { IfOk result (λ told. OfCertificate source texts.now.program.items texts.now.certificate (λ certificate.
-        IsCurveText units budget predict.now emit texts.now.program.items certificate told.report)) }
+        IsNamedCurveText units budget predict.now emit (string_bytes texts.now.name) texts.now.program.items certificate told.report)) }
     ensures said { IfOk result (λ told. OfCertificate source texts.now.program.items texts.now.certificate (λ certificate.
         told.is_told ≡ true → Appends (E.contents errors.old) (E.contents errors.new)
         (curve_lines name.now units (judgement texts.now.program.items certificate)))) }
@@ -101,7 +105,7 @@ fn curve_heard<E: Write>(
     errors: &mut E,
 ) -> Result<ToldReport, AllocError>
     ensures report { IfOk result (λ told. OfCertificate source texts.now.program.items texts.now.certificate (λ certificate.
-        IsCurveText units budget predict.now emit texts.now.program.items certificate told.report)) }
+        IsNamedCurveText units budget predict.now emit (string_bytes texts.now.name) texts.now.program.items certificate told.report)) }
     ensures said { IfOk result (λ told. OfCertificate source texts.now.program.items texts.now.certificate (λ certificate.
         told.is_told ≡ true → Appends (E.contents errors.old) (E.contents errors.new)
         (curve_lines name.now units (judgement texts.now.program.items certificate)))) }
@@ -112,45 +116,72 @@ fn curve_heard<E: Write>(
             report,
             is_told: asked,
         }),
-        Judged::Accepted(accepted) => curve_of_accepted(
-            alloc, units, budget, predict, emit, &accepted, asked, name, errors,
-        ),
+        Judged::Accepted(accepted) => {
+            let title = texts.name.as_str();
+            curve_of_accepted(
+                alloc, units, budget, predict, emit, title, &accepted, asked, name, errors,
+            )
+        }
     }
 }
 
-// What `curve` writes for an accepted program.
+// What `curve` writes for an accepted program with this title.
 fn curve_of_accepted<E: Write>(
     alloc: Global,
     units: Units,
     budget: Budget,
     predict: &Prediction,
     emit: CurveEmit,
+    title: &str,
     accepted: &Accepted,
     asked: bool,
     name: &str,
     errors: &mut E,
 ) -> Result<ToldReport, AllocError>
-    ensures report { IfOk result (λ told. IsCurveReport units budget predict.now emit accepted.now.program told.report) }
+    ensures report { IfOk result (λ told. IsCurveReport units budget predict.now emit title.now accepted.now.program told.report) }
     ensures told { IfOk result (λ told. IsSaidIf asked told.is_told (run_lines name.now units units)
         (E.contents errors.old) (E.contents errors.new)) }
     ensures begun { asked ≡ true → Begins (E.contents errors.old) (E.contents errors.new) (run_lines name.now units units) }
 {
     let told = rows_of(alloc, units, budget, predict, accepted, asked, name, errors)?;
-    let bytes = rows_text(alloc, emit, &told.rows)?;
+    let bytes = rows_text(alloc, title, budget, predict, emit, &told.rows)?;
     Ok(ToldReport {
         report: JobReport::new(bytes, rows_status(&told.rows)),
         is_told: told.is_told,
     })
 }
 
-// The rows as a table or as a picture.
-fn rows_text(alloc: Global, emit: CurveEmit, rows: &[Row]) -> Result<Vec<u8>, AllocError>
-    ensures { IfOk result (λ bytes. bytes.items ≡ rows_text_of emit rows.now) }
+// The rows as a table, or as a picture with a line above it.
+fn rows_text(
+    alloc: Global,
+    title: &str,
+    budget: Budget,
+    predict: &Prediction,
+    emit: CurveEmit,
+    rows: &[Row],
+) -> Result<Vec<u8>, AllocError>
+    ensures { IfOk result (λ bytes. bytes.items ≡ rows_text_of (caption_text title.now budget predict.now) emit rows.now) }
 {
     match emit {
         CurveEmit::Table => write(alloc, rows),
-        CurveEmit::Picture => Ok(draw(alloc, rows)?.into_bytes()),
+        CurveEmit::Picture => picture(alloc, title, budget, predict, rows),
     }
+}
+
+// The rows as a picture, with a line above it.
+fn picture(
+    alloc: Global,
+    title: &str,
+    budget: Budget,
+    predict: &Prediction,
+    rows: &[Row],
+) -> Result<Vec<u8>, AllocError>
+    ensures { IfOk result (λ bytes. bytes.items ≡ said_curve_text (caption_text title.now budget predict.now) rows.now) }
+{
+    let mut caption = String::new(alloc);
+    write_caption(&mut caption, title, budget.get(), predict)?;
+    let picture = draw_said(alloc, caption.as_str(), rows)?;
+    Ok(picture.into_bytes())
 }
 
 // Rows, and whether all lines about their runs were written.

@@ -6,6 +6,7 @@
 #![tactic(auto)]
 
 pub mod alone;
+mod curve_caption;
 pub mod curving;
 pub mod event_text;
 pub mod fault;

@@ -1,10 +1,10 @@
 //! The text of how a machine of units stands.
-ghost use Rattle.std.specs.Prelude.{◌≡◌, ◌++◌, ◌<◌, ◌^◌, length, IfOk, OnOk};
+ghost use Rattle.std.specs.Prelude.{◌≡◌, ◌++◌, ◌<◌, ◌^◌, length, IfOk, OnOk, Some};
 ghost use Rattle.std.specs.String.{string_bytes};
 ghost use Rattle.sequencer.specs.Machines.{state, units_of};
 ghost use Rattle.task_lives.specs.Lives.{lives_of};
 ghost use Rattle.task_lives.specs.SummaryText.{summary_text};
-ghost use Rattle.run_picture.specs.Picture.{picture_text};
+ghost use Rattle.run_picture.specs.Picture.{ended_picture_text};
 ghost use Rattle.event_json.specs.Timeline.{timeline_text};
 ghost use Rattle.event_trace.specs.Entries.{places_of};
 ghost use Rattle.event_trace.specs.Trace.{trace_text};
@@ -21,7 +21,7 @@ use limits::ranges::Units;
 use machine_model::event::{Event, Standing};
 use mark_checker::accept::Accepted;
 use report_texts::plain_text::write_words;
-use run_picture::drawing::draw;
+use run_picture::drawing::draw_ended;
 use sequencer::machine::Machine;
 use std::alloc::{AllocError, Global};
 use task_descriptor::program::Program;
@@ -76,7 +76,8 @@ pub fn summary_of(
     task_lives::summary::write(alloc, program, &lives)
 }
 
-/// The history of a machine of `units` units, which runs this program, as a picture that gives the program this name.
+/// The history of a machine of `units` units, which runs this program, as a picture that gives the program this name, and
+/// that says how the run stands.
 pub fn picture_of(
     alloc: Global,
     units: Units,
@@ -86,10 +87,18 @@ pub fn picture_of(
 ) -> Result<Vec<u8>, AllocError>
     requires over { machine.now.accepted.program ≡ program.now }
     requires units { units_of machine.now ≡ units }
-    ensures { IfOk result (λ bytes. bytes.items ≡ picture_text name.now program.now units machine.now.history) }
+    ensures { IfOk result (λ bytes. bytes.items
+        ≡ ended_picture_text name.now program.now units (Some (state machine.now).outcome) machine.now.history) }
 {
     histories_fit();
-    let picture = draw(alloc, program, name, units.get(), machine.history())?;
+    let picture = draw_ended(
+        alloc,
+        program,
+        name,
+        units.get(),
+        Some(machine.outcome()),
+        machine.history(),
+    )?;
     Ok(picture.into_bytes())
 }
 

@@ -4,4 +4,4 @@ use Rattle.run_picture.specs.Bars.{bars_of}
 use Rattle.run_picture.proofs.bars.push_bars.Given as goal
 
 abbrev pub invariant-loop-life : goal.invariant-loop-life
-invariant-loop-life l = l.shapes.items ≡ l.initial.shapes.items ++ bars_of l.events (take l.life-index l.lives)
+invariant-loop-life l = l.shapes.items ≡ l.initial.shapes.items ++ bars_of l.events l.halted (take l.life-index l.lives)

@@ -3,9 +3,9 @@
 use Rattle.std.proofs.Common.{◌≡◌, ℕ, List, ◌++◌, OnOk, ap, subst, ◌∙◌}
 use Rattle.std.specs.String.{string_bytes}
 use Rattle.task_descriptor.specs.Listing.{Listing}
+use Rattle.run_picture.specs.Bars.{halted_unit}
 use Rattle.run_picture.proofs.Parts.{three_parts}
 use Rattle.step_picture.specs.Numbers.{count_of}
-use Rattle.step_picture.specs.Bars.{halted_unit}
 use Rattle.step_picture.specs.StepPicture.{closing, head_text, inner_text}
 use Rattle.step_picture.proofs.drawing.write_file.Goals as goal
 
