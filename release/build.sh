@@ -19,7 +19,7 @@ command -v rt >/dev/null || refuse "rt, which names the toolchain, is not on PAT
 command -v dpkg-deb >/dev/null || refuse "dpkg-deb is missing (Debian's package dpkg)"
 [ -z "$(git status --porcelain --untracked-files=no)" ] || refuse "there are changes that are not committed"
 [ -x "$program" ] || refuse "there is no $program: run ./multiscalar --help first, which proves and builds it"
-[ -f "$core" ] || refuse "there is no $core: run rt ci first, or release/build_program.py /dev/null multiscalar_c, which proves and builds it"
+[ -f "$core" ] || refuse "there is no $core: run release/build_program.py /dev/null multiscalar_c, which proves and builds it"
 
 version=$(sed -n 's/^pub const VERSION: &str = "\([0-9.]*\).*/\1/p' crates/command_line/src/help.rt)
 commit=$(git rev-parse HEAD)

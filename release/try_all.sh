@@ -15,8 +15,8 @@
 #     bare       release/bare.sh: the release in a Debian system that has nothing else                5 min
 #     verify     release/verify.sh: proves and builds the release anew; only where it is named        an hour
 #
-# The times are those of a machine with four cores that was busy with proofs. `page` needs crates/multiscalar_c/out as
-# `rt lib` leaves it, the others crates/multiscalar/out/multiscalar.
+# The times are those of a machine with four cores that was busy with proofs. `page` builds the core first, if web/build.sh
+# has not built it yet, which takes longer; the others need crates/multiscalar/out/multiscalar.
 #
 # What each step says is in release/out/try/STEP.log, the release itself in release/out/try/one. It needs rt, gcc, git,
 # and Debian's packages chromium, chromium-driver, firefox-esr, lintian, python3-venv, python3-setuptools, python3-wheel and, as

@@ -29,6 +29,8 @@ cd "$work/clone"
 bash -c "$prove" > "$work/proof.log" 2>&1 || { tail -n 20 "$work/proof.log" >&2; fail "$prove fails at $commit"; }
 tail -n 1 "$work/proof.log"
 if [ -f "$(dirname "$manifest")/multiscalar.html" ]; then web/build.sh > /dev/null; fi
+# `rt ci` proves the core of the library, but does not build it.
+[ -f crates/multiscalar_c/out/libmultiscalar_c.a ] || python3 release/build_program.py /dev/null multiscalar_c
 release/build.sh "$work/again" > /dev/null
 cmp "$tarball" "$work/again/$(basename "$tarball")" || fail "the release differs from what $commit gives"
 echo "the release is what $commit gives, byte for byte"

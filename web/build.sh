@@ -4,8 +4,8 @@
 #     web/build.sh [FOLDER]          FOLDER: where multiscalar.html and multiscalar.wasm go, web/out if it is left out
 #
 # The WebAssembly module is compiled from the proved program and compared with it (web/compare); it is not proved:
-# the core's LLVM module, which is one for x86-64, is compiled anew for wasm64, with a heap of its own. `rt lib` proves
-# and builds the core first, if it is not built. It needs rt and python3.
+# the core's LLVM module, which is one for x86-64, is compiled anew for wasm64, with a heap of its own.
+# release/build_program.py proves and builds the core first, if it is not built. It needs rt and python3.
 set -eu
 here=$(cd "$(dirname "$(readlink -f "${BASH_SOURCE[0]}")")" && pwd)
 top=$(dirname "$here")
