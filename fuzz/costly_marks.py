@@ -251,8 +251,11 @@ def forgotten_before(program, number):
 
 
 def is_left(program, new, warning):
-    """Whether a warning is there after a change. A stop before one target may leave another that no exit takes."""
+    """Whether a warning is there after a change. A stop before one target may leave another that no exit takes, and a later
+    step into a target."""
     kind, number, _ = warning
+    if kind == "step":
+        return step(program, number) == step(new, number)
     if kind == "untaken":
         before = forgotten_before(program, number)
         if before is not None:
