@@ -48,8 +48,8 @@ def caption(name, budget, predict):
     return f"<text class='quiet' x='88' y='18'>{program}budget: {budget} events; predictor: {named}</text>\n"
 
 
-def picture(rows, said=""):
-    """The file of some rows: units, steps, retired and wasted instructions, and the end in words; after a line."""
+def picture(rows, said):
+    """The file of some rows: units, steps, retired and wasted instructions, and the end in words; after a caption."""
     rates = [ratio(retired, steps) for _, steps, retired, _, _ in rows]
     speeds = [speed_up(rows[0], row) for row in rows]
     most = max([number for number in rates + speeds if number is not None] + [Decimal("0.2")])
@@ -180,7 +180,7 @@ def main():
     options.add_argument("--predict", default="first")
     given = options.parse_args()
     if given.rows:
-        sys.stdout.write(picture(given.rows))
+        sys.stdout.write(picture(given.rows, caption("", given.budget, given.predict)))
     elif given.model:
         program = model.assemble(given.model.read_bytes())
         said = caption(given.model.name, given.budget, given.predict)

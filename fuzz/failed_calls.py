@@ -29,12 +29,12 @@ EXPECTED = {
     "reads of 1, 7 or 4,096 bytes": "the answer of whole reads",
     "a read interrupted": "the answer as ever, for one interruption at any read and for one read in some",
     "reads of a file interrupted 1,000 times": "the answer as ever",
-    "reads of a file interrupted 1,001 times": "status 2, nothing on standard output, `multiscalar: file PATH` of that file, for `explain` with the reason",
-    "a read fails": "status 2, nothing on standard output, `multiscalar: file PATH` of the file that was read, for `explain` with the reason",
+    "reads of a file interrupted 1,001 times": "status 2, nothing on standard output, `multiscalar: file PATH` of that file, for `explain` and `check --least` with the reason",
+    "a read fails": "status 2, nothing on standard output, `multiscalar: file PATH` of the file that was read, for `explain` and `check --least` with the reason",
     "a read finds the end too early": "the answer for the bytes that were read",
     "a file is cut while it is read": "the answer for the bytes that were read",
     "a file grows while it is read": "the answer for the longer file",
-    "an open fails": "status 2, nothing on standard output, `multiscalar: file PATH` of that file, for `explain` with the reason",
+    "an open fails": "status 2, nothing on standard output, `multiscalar: file PATH` of that file, for `explain` and `check --least` with the reason",
     "an open interrupted": "the answer as ever, once or 1,000 times",
     "writes of 1, 7 or 100 bytes": "the answer as ever",
     "a write interrupted": "the answer as ever, for one interruption, 1,000, and one in two",
@@ -45,16 +45,16 @@ EXPECTED = {
     "slow pipes, FIFOs as inputs": "the answer as ever",
     "standard input for a file": "a file of the name `-`, from a file or a pipe: the answer as ever; for two files status 2, nothing on standard output, `multiscalar: 5 InputTwice`",
     "standard input that fails": "a read of it fails or is interrupted 1,001 times, it is closed, a folder, or open for writing: status 2, nothing on standard output, "
-                                 "`multiscalar: file -`, for `explain` with the reason; 1,000 interruptions: the answer as ever; an early end: the answer for the bytes that were read",
+                                 "`multiscalar: file -`, for `explain` and `check --least` with the reason; 1,000 interruptions: the answer as ever; an early end: the answer for the bytes that were read",
     "inputs without end": "of /dev/zero and /dev/full, also as standard input: program: `1 TooLong`, status 1; other files: status 2, the file named; in memory at most 16 MB above the limit",
     "empty inputs": "the answer for an empty file, of /dev/null and of an empty FIFO",
-    "a missing file, a folder, a bad path": "status 2, nothing on standard output, `multiscalar: file PATH`, for `explain` with the reason",
-    "a file of another user, as nobody": "status 2, nothing on standard output, `multiscalar: file PATH`, for `explain` with the reason",
+    "a missing file, a folder, a bad path": "status 2, nothing on standard output, `multiscalar: file PATH`, for `explain` and `check --least` with the reason",
+    "a file of another user, as nobody": "status 2, nothing on standard output, `multiscalar: file PATH`, for `explain` and `check --least` with the reason",
     "files at the limit, and one byte above": "program: judged, and `1 TooLong`; other files: judged, and status 2 with the file named",
     "words that are not UTF-8": "status 2, nothing on standard output, `multiscalar: 1 Words`",
     "positioned reads: short": "of 1, 7, 100 or 4,096 bytes: the answer of one worker",
     "positioned reads: failed or interrupted": "one, all from one on, or one in some: the answer of one worker, since one thread then reads the file from its beginning",
-    "positioned reads: one fails, then a read": "status 2, nothing on standard output, `multiscalar: file PATH` of that file, for `explain` with the reason; as ever, where not so many are made",
+    "positioned reads: one fails, then a read": "status 2, nothing on standard output, `multiscalar: file PATH` of that file, for `explain` and `check --least` with the reason; as ever, where not so many are made",
     "positioned reads: the end too early": "in a part: the answer of one worker, as before; after the parts: the answer for the bytes that were read",
     "positioned reads: the file is cut": "the answer for the bytes that were read: those that are left, where a part was short; else all parts and what was read after them",
     "positioned reads: the file grows": "the answer for the longer file",
@@ -92,11 +92,13 @@ class Case:
         return words
 
 
-def named(words, path, why):
-    """The answer where a file cannot be read; only `explain` says why: `why` is the system's error, or EFBIG for a file that is too long."""
-    if words[0] != "explain":
+def named(words, path, why, which=0):
+    """The answer where the file of this number, 0 for the program, cannot be read; only `explain` and `check --least` say why: `why` is the
+    system's error, or EFBIG for a file that is too long. Of a folder that is to be a program they say how its files are named."""
+    if words[0] != "explain" and not (words[0] == "check" and "--least" in words):
         return 2, b"", f"multiscalar: file {path}\n".encode()
-    return 2, b"", f"multiscalar: file {path}: {REASONS.get(why, OTHER_REASON)}\n".encode()
+    more = f"; name its files, as in {path}/*.s" if why == errno.EISDIR and which == 0 else ""
+    return 2, b"", f"multiscalar: file {path}: {REASONS.get(why, OTHER_REASON)}{more}\n".encode()
 
 
 def unnamed(words, out):
@@ -232,7 +234,7 @@ def reads_of(case, size):
 def failing_read(part, every, draw):
     jobs = [(case, n, error, file) for case in every for n, file in enumerate(reads_of(case, 200), 1) for error in READ_ERRORS]
     for case, n, error, file in part.each(jobs, draw):
-        part.run(case, "", named(case.words, case.files[file - 1], error), fault(READ, 1, EVERY, "s", 200), fault(READ, n, n, "e", error))
+        part.run(case, "", named(case.words, case.files[file - 1], error, file - 1), fault(READ, 1, EVERY, "s", 200), fault(READ, n, n, "e", error))
 
 
 def prefix_answer(case, which, size, more=b""):
@@ -408,7 +410,7 @@ def failing_input(part, every, draw):
     for (case, which), how in part.each([(one, how) for one in inputs(every) for how in hows], draw):
         words = case.with_file(which, "-")
         reads = [n for n, file in enumerate(with_input(part, case, which, fault(READ, 1, EVERY, "s", 100)).read_of, 1) if file == 0]
-        n, wanted = draw.choice(reads), named(words, "-", how)
+        n, wanted = draw.choice(reads), named(words, "-", how, which)
         if how == "closed":
             ended = part.bench.run(words, limit=lambda: os.close(0))
             wanted = named(words, "-", errno.EBADF)
@@ -416,7 +418,7 @@ def failing_input(part, every, draw):
             file = os.open(part.bench.folder, os.O_RDONLY) if how == "a folder" else os.open("/dev/null", os.O_WRONLY)
             ended = part.bench.run(words, given=file)
             os.close(file)
-            wanted = named(words, "-", errno.EISDIR if how == "a folder" else errno.EBADF)
+            wanted = named(words, "-", errno.EISDIR if how == "a folder" else errno.EBADF, which)
         else:
             count = 1000 if "1,000" in str(how) else 1001
             which_fault = (fault(READ, n, n, "z") if how == "ends early" else
@@ -477,7 +479,7 @@ def no_files(bench):
 
 def unreadable(part, every, draw):
     for (case, which), (path, error) in part.each([(one, path) for one in inputs(every) for path in no_files(part.bench)], draw):
-        part.expect(case.words, f"{str(path)[:80]} for file {which}", part.bench.run(case.with_file(which, path)), named(case.words, path, error))
+        part.expect(case.words, f"{str(path)[:80]} for file {which}", part.bench.run(case.with_file(which, path)), named(case.words, path, error, which))
 
 
 def forbidden(part, every, draw):

@@ -206,7 +206,7 @@ def large_masks(path, cert):
     # 32 tasks of 4,094 releases, each of 33 registers: findings of 12 bytes
     bound = BOUNDS["check"] + 12 * tasks * (INSTRUCTIONS - 2) * 33 / 1e6
     yield kind, ["check", path, cert], 1, b"T0 0 rule 7 $1\nT0 0 rule 7 $2\n", bound, path, cert
-    yield kind, ["explain", path, "--no-warnings", "--certificate", cert], 1, bytes(cert) + b": error: the marks are right; a mask in this certificate is too large", bound, path, cert
+    yield kind, ["explain", path, "--no-warnings", "--certificate", cert], 1, bytes(cert) + b":3:3: error: the marks are right; a mask in this certificate is too large", bound, path, cert
 
 
 def certificates(folder):

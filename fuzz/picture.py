@@ -49,8 +49,8 @@ def steps_of(text):
 
 
 def history_of(text, units, numbers):
-    """Lives, transfers (number, register, from, to) and squashes (number, unit), by the numbers of the events."""
-    lives, passes, squashes, queue = [], [], [], []
+    """Lives, transfers (number, register, from, to), drains (number, register, unit) and squashes (number, unit), by the numbers of the events."""
+    lives, passes, drains, squashes, queue = [], [], [], [], []
     for number, line in zip(numbers, text.splitlines()):
         word, *rest = line.split()
         if word == "assign":
@@ -64,6 +64,8 @@ def history_of(text, units, numbers):
         elif word == "transfer":
             at = int(rest[0])
             passes.append((number, int(rest[1][1:]), queue[at - 1]["unit"], queue[at]["unit"]))
+        elif word == "drain":
+            drains.append((number, int(rest[1][1:]), queue[int(rest[0])]["unit"]))
         elif word == "squash":
             at = int(rest[0])
             squashes.append((number, queue[at]["unit"]))
@@ -78,7 +80,7 @@ def history_of(text, units, numbers):
             history_of.next = (head["unit"] + 1) % units
     for life in queue:
         life["last"] = number
-    return [Life(**life) for life in lives], passes, squashes
+    return [Life(**life) for life in lives], passes, drains, squashes
 
 
 def end(queue, kept, number, ending):
@@ -93,7 +95,7 @@ def faults_of(svg, script, units, counted="event"):
     numbers = list(steps_of(script)) if counted == "step" else range(1, len(script.splitlines()) + 1)
     events = numbers[-1] if numbers else 0
     history_of.next = 0
-    lives, passes, squashes = history_of(script, units, numbers) if events else ([], [], [])
+    lives, passes, drains, squashes = history_of(script, units, numbers) if events else ([], [], [], [])
     for element in root.iter():
         if element.tag in (SVG + "script", SVG + "image", SVG + "foreignObject"):
             yield f"an element {element.tag}"
@@ -106,6 +108,7 @@ def faults_of(svg, script, units, counted="event"):
     yield from bar_faults(root, lives, events)
     has_room = counted == "event" or events <= MOST_MARKED
     yield from mark_faults(root, lives if has_room else [], passes if has_room else [], squashes, counted)
+    yield from drain_faults(root, drains if has_room else [], counted)
     if counted == "step":
         yield from strip_faults(root, lives, events, script, units, numbers)
 
@@ -172,6 +175,12 @@ def mark_faults(root, lives, passes, squashes, counted):
     executed = sum(life.executed for life in lives)
     if ticks != executed:
         yield f"{ticks} ticks of {executed} instructions"
+
+
+def drain_faults(root, drains, counted):
+    told = [title.text for title in root.iter(SVG + "title") if " is sent by unit " in title.text]
+    if sorted(told) != sorted(f"{counted} {number}: ${register} is sent by unit {unit}, which has stopped" for number, register, unit in drains):
+        yield f"{len(told)} marks of {len(drains)} drains, or others"
 
 
 def bar_faults(root, lives, events):

@@ -10,7 +10,7 @@ on; then one call in 10 or in 100, by a seed, from a drawn one on. For texts at 
 where there are too many calls, those that are refused are drawn. Last, the address
 space and the stack of the process are limited. Each run must either print the case's own bytes
 with its own status, or print nothing, end with status 2 and say one line on standard error:
-`OutOfMemory`, or the file, where the growth was one of reading it (`explain` adds the reason). Anything else
+`OutOfMemory`, or the file, where the growth was one of reading it (`explain` and `check --least` add the reason). Anything else
 (a crash, a run that does not end, half an answer, another status) is told, and
 the script ends with status 1. If the minutes do not suffice, the runs are drawn.
 
@@ -270,7 +270,7 @@ class Case:
         self.shares = self.is_run or "--workers" in words and "1" not in words
         self.emit = words[-1] if self.is_run and words[-2] == "--emit" else None
         self.files = [word for word in words if "/" in word]
-        self.reason = ": out of memory" if words[0] == "explain" else ""
+        self.reason = ": out of memory" if words[0] == "explain" or words[0] == "check" and "--least" in words else ""
         runs = [bench.forked(words, counts=True) for _ in range(5 if self.shares else 1)]
         # not the greatest: a wrong path may be long once, where the thread that ends it waits for a core, and each event takes memory
         self.growths = sorted(ended.counts[GROW] for ended in runs)[len(runs) // 2]

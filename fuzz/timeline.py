@@ -38,7 +38,7 @@ def times_of(script, by_steps):
 def expected(script, units, by_steps):
     """Slices, arrows and squashes of a script."""
     picture.history_of.next = 0
-    lives, passes, squashes = picture.history_of(script, units)
+    lives, passes, _, squashes = picture.history_of(script, units, range(1, len(script.splitlines()) + 1))
     times = [None, *times_of(script, by_steps)]
     slices = [(it.unit, it.task, times[it.first], times[it.last] + 1 - times[it.first], it.executed, it.ending)
               for it in lives]

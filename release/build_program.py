@@ -22,6 +22,11 @@ from progress import Progress, follow, say, say_why
 TOP = Path(__file__).resolve().parent.parent
 
 
+def stands_on(line):
+    """The names in a line of crates.txt of what the crate stands on."""
+    return set(line.partition(":")[2].split())
+
+
 def needed(name):
     """The lines of a crate and of those below it, by their names."""
     lines = [it.partition("#")[0] for it in (TOP / "crates.txt").read_text().splitlines()]
@@ -30,7 +35,7 @@ def needed(name):
         sys.exit(f"multiscalar: crates.txt names no crate {name}")
     found = new = {name}
     while new:
-        new = {below for it in new for below in lines[it].partition(":")[2].split() if below in lines} - found
+        new = {below for it in new for below in stands_on(lines[it]) if below in lines} - found
         found = found | new
     return {it: line for it, line in lines.items() if it in found}
 
@@ -64,7 +69,7 @@ def call(words, copy, log, crates):
     ran = subprocess.Popen(words, cwd=copy, env=settings, preexec_fn=end_with_parent, **how)
     try:
         lines = (it.rstrip("\n").replace(str(copy), str(TOP)) for it in ran.stdout)
-        failed, said = follow(lines, log, Progress([TOP / "crates" / it for it in crates]))
+        failed, said = follow(lines, log, Progress({TOP / "crates" / it: stands_on(line) for it, line in crates.items()}))
         if not failed and not ran.wait():
             return True
     finally:
@@ -88,11 +93,11 @@ def run(log, name):
     crates, copy = needed(name), Path(tempfile.mkdtemp(prefix="multiscalar-build-")).resolve()
     try:
         copy_sources(crates, copy)
-        say(f"proving {len(crates)} crates; the first time takes about an hour on four cores.")
+        say(f"proving {len(crates)} crates; the first time takes about 40 minutes on four cores, an hour on two.")
         is_well = call(["rt", "ci"], copy, log, crates)
         if is_well and "staticlib" in crates[name].partition(":")[0].split():
             say(f"building lib{name}.a, for which {name} is proved once more")
-            is_well = call([sys.executable, TOP / "release" / "build_static.py", name], copy, log, [])
+            is_well = call([sys.executable, TOP / "release" / "build_static.py", name], copy, log, {})
         if is_well:
             hand_over(name, copy)
         return 0 if is_well else 1

@@ -1,5 +1,6 @@
 """What release/build_program.py says of crates as they are done, and how long the rest may take."""
 
+import os
 import re
 import sys
 import time
@@ -24,13 +25,25 @@ def weight(crate):
 class Progress:
     """The weights of the crates that are left, and of those that this run proved."""
 
-    def __init__(self, folders):
-        self.left, self.number = {it.name: weight(it) for it in folders}, len(folders)
-        self.proved, self.begun = 0, time.monotonic()
+    def __init__(self, crates):
+        """Takes the folder of each crate, with the names of those that it stands on."""
+        self.left, self.number = {it.name: weight(it) for it in crates}, len(crates)
+        self.below = {it.name: below for it, below in crates.items()}
+        self.proved, self.begun, self.lanes = 0, time.monotonic(), len(os.sched_getaffinity(0))
+
+    def longest_chain(self):
+        """The weight of the crates that must still be proved one after the other."""
+        chain = {}
+        while len(chain) < len(self.left):
+            for it in self.left.keys() - chain.keys():
+                waits_for = self.left.keys() & self.below[it]
+                if waits_for <= chain.keys():
+                    chain[it] = self.left[it] + max((chain[below] for below in waits_for), default=0)
+        return max(chain.values(), default=0)
 
     def add(self, name, is_kept):
         self.proved += self.left.pop(name, 0) * (not is_kept)
-        left, so_far = sum(self.left.values()), time.monotonic() - self.begun
+        left, so_far = max(sum(self.left.values()), self.longest_chain() * self.lanes), time.monotonic() - self.begun
         rest = minutes(so_far * left / self.proved) if self.proved and so_far > 60 else "not known yet"
         which = f"{self.number - len(self.left)} of {self.number}: {name}{' (kept from an earlier run)' * is_kept}"
         say(f"{which}; {minutes(so_far)} so far" + f", still to come: {rest}" * bool(left))

@@ -2,7 +2,7 @@
 #
 # A never writes $11. It writes $8 for the last time without forwarding it, and
 # releases $9, which it has forwarded before on both ways to the release. No
-# task reaches the two instructions behind A, nor the last one.
+# task reaches the two instructions after A, nor the last one.
 
 .task A create=$8,$9,$11 targets=B
 .task B create=- targets=-

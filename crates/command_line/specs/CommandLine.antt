@@ -196,20 +196,22 @@ command_line = record {
   subs = seq ∷ print ∷ annotate ∷ explain ∷ check ∷ replay ∷ run ∷ curve ∷ demonstrate ∷ [];
 }
 
--- A fault of the words is reported with the usage of their subcommand. These subcommands find faults where `clap`
--- finds none; any other name stands for the whole command line.
+-- A fault of the words is reported with the usage of their subcommand; any other name stands for the whole command
+-- line.
 abbrev pub alone : Shape → App
 alone s = record { top = s; subs = [] }
 
 abbrev pub app_named : Text → App
 app_named name =
-    if bytes_eq name (codes "annotate") then alone annotate
+    if bytes_eq name (codes "seq") then alone seq
+    else (if bytes_eq name (codes "print") then alone print
+    else (if bytes_eq name (codes "annotate") then alone annotate
     else (if bytes_eq name (codes "explain") then alone explain
     else (if bytes_eq name (codes "check") then alone check
     else (if bytes_eq name (codes "replay") then alone replay
     else (if bytes_eq name (codes "run") then alone run
     else (if bytes_eq name (codes "curve") then alone curve
-    else (if bytes_eq name (codes "demonstrate") then alone demonstrate else command_line))))))
+    else (if bytes_eq name (codes "demonstrate") then alone demonstrate else command_line))))))))
 
 -- the command is the subcommand s, without an argument that is global
 abbrev pub IsSubcommand : Shape → Command → Type 0

@@ -34,6 +34,9 @@ status 2 is one line on standard error; wrong usage is explained there.";
 /// `seq`, in one line.
 pub const SEQ: &str = "Runs a program, one instruction after another";
 
+/// The usage of `seq`.
+pub const SEQ_USAGE: &str = "multiscalar seq [OPTIONS] <PROGRAM>";
+
 /// `seq`.
 pub const SEQ_LONG: &str =
     "Runs a program on the plain machine, one instruction after another, without its annotations.
@@ -48,6 +51,9 @@ For example:
 
 /// `print`, in one line.
 pub const PRINT: &str = "Writes a program in canonical text";
+
+/// The usage of `print`.
+pub const PRINT_USAGE: &str = "multiscalar print [OPTIONS] <PROGRAM>";
 
 /// `print`.
 pub const PRINT_LONG: &str =

@@ -2,6 +2,7 @@
 #![tactic(auto)]
 
 pub mod help;
+mod matching;
 pub mod request;
 mod subcommands;
 pub mod words;

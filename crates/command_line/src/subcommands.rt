@@ -29,12 +29,13 @@ pub(crate) fn command<'a>(alloc: Global) -> Result<Command<'a>, AllocError>
     with_subcommand(command, demonstrate(alloc))
 }
 
-/// The subcommand of this name, with its usage, of those that find faults where `clap` finds none; for any other
-/// name the whole command line.
+/// The subcommand of this name, with its usage; for any other name the whole command line.
 pub(crate) fn command_named<'a>(alloc: Global, name: &str) -> Result<Command<'a>, AllocError>
     ensures { IfOk result (λ c. app_of c ≡ app_named name.now) }
 {
     match name {
+        "seq" => Ok(with_usage(seq(alloc)?, help::SEQ_USAGE)),
+        "print" => Ok(with_usage(print(alloc)?, help::PRINT_USAGE)),
         "annotate" => annotate(alloc),
         "explain" => explain(alloc),
         "check" => check(alloc),

@@ -13,8 +13,9 @@ ghost use Rattle.jobs.specs.declared.job.RunEmit.TheVariants.{Picture};
 ghost use Rattle.command_line.specs.declared.words.UsageFault.TheVariants.{OutOfMemory, Predict, Emit as EmitFault};
 
 use crate::help;
+use crate::matching::{error_of_kind, matched};
 use crate::request::Request;
-use crate::subcommands::{command, command_named};
+use crate::subcommands::command;
 use clap::ArgMatches;
 use clap::error::ErrorKind;
 use jobs::job::{
@@ -80,7 +81,7 @@ pub fn request_of(alloc: Global, words: &[String]) -> Result<Request, UsageFault
     ensures request { IfOk result (λ r. AskFor (map string_bytes words.now) r) }
     ensures fault { IfErr result (IsFaultOf (map string_bytes words.now)) }
 {
-    let matches = command(alloc)?.try_get_matches_from(words)?;
+    let matches = matched(alloc, command(alloc)?, words)?;
     match matches.subcommand() {
         Some((name, values)) => read_request(alloc, name, values),
         None => Err(no_job(alloc)),
@@ -262,11 +263,8 @@ fn no_value(alloc: Global, name: &str, message: &str) -> UsageFault
 fn fault_of_kind(alloc: Global, name: &str, kind: ErrorKind, message: &str) -> UsageFault
     ensures { IsOfKind kind result }
 {
-    match command_named(alloc, name) {
-        Ok(mut command) => match command.error(kind, message) {
-            Ok(error) => UsageFault::Words(error),
-            Err(AllocError) => UsageFault::OutOfMemory,
-        },
+    match error_of_kind(alloc, name, kind, message) {
+        Ok(error) => UsageFault::Words(error),
         Err(AllocError) => UsageFault::OutOfMemory,
     }
 }

@@ -8,12 +8,12 @@ use Rattle.exit_diagnostics.specs.StopFits.{stop_fits}
 abbrev pub goes_into : Judged → (index other : ℕ) → Bool
 goes_into s i other = is_end (into s i false) other || is_end (into s i true) other
 
-abbrev pub may_end_before : Judged → (task index other : ℕ) → Bool
-may_end_before s task i other = goes_into s i other && stop_fits s task i
+abbrev pub may_end_before_task : Judged → (task index other : ℕ) → Bool
+may_end_before_task s task i other = goes_into s i other && stop_fits s task i
 
 -- the first instruction of a task that goes on into the other one
 abbrev pub first_before : Judged → (task other : ℕ) → Option ℕ
-first_before s task other = option_map (λ e. e.0) (find (λ e. may_end_before s task e.0 other) (entries_of s task))
+first_before s task other = option_map (λ e. e.0) (find (λ e. may_end_before_task s task e.0 other) (entries_of s task))
 
 -- a task that goes on into itself does not let itself run
 abbrev pub enters : Judged → (other task : ℕ) → Bool

@@ -41,8 +41,8 @@ abbrev pub has_stop : Stop → Bool
 has_stop stop.None = false
 has_stop _ = true
 
-abbrev pub may_end : Judged → (task index : ℕ) → Bool
-may_end s task j =
+abbrev pub leads_to_targets : Judged → (task index : ℕ) → Bool
+leads_to_targets s task j =
     not (has_stop (stop_of s j)) && (is_some (to_target s task j false)
     && (not (is_some (way s j true)) || is_some (to_target s task j true)))
 
@@ -55,7 +55,7 @@ halts s j = halts_in (slice_get s.program.code j)
 
 -- the stop of an instruction that is no branch, which goes on to j
 abbrev pub later_meant : Judged → (task j : ℕ) → MeantStop
-later_meant s task j = if halts s j then AtHalt j else if may_end s task j then Next j else This
+later_meant s task j = if halts s j then AtHalt j else if leads_to_targets s task j then Next j else This
 
 -- of the instruction at i, which ends the task and goes on to j; where no instruction is at j, that is reported instead
 abbrev pub meant : Judged → (task i j : ℕ) → MeantStop

@@ -48,11 +48,11 @@ target_into s task (Some other) = if is_target s task other then Some other else
 abbrev pub target_at : Judged → (task index : ℕ) → Option ℕ
 target_at s task i = option_or (target_into s task (into s i false)) (target_into s task (into s i true))
 
-abbrev pub may_end_at : Judged → (task index : ℕ) → Bool
-may_end_at s task i = is_some (target_at s task i) && stop_fits s task i
+abbrev pub may_end_before_target : Judged → (task index : ℕ) → Bool
+may_end_before_target s task i = is_some (target_at s task i) && stop_fits s task i
 
 abbrev pub first_end : Judged → (task : ℕ) → Option ℕ
-first_end s task = option_map (λ e. e.0) (find (λ e. may_end_at s task e.0) (entries_of s task))
+first_end s task = option_map (λ e. e.0) (find (λ e. may_end_before_target s task e.0) (entries_of s task))
 
 abbrev pub end_at : Judged → (task index : ℕ) → Option ℕ → Help
 end_at s task i None = in_words (codes "put !s, !st or !sn where it is to end")

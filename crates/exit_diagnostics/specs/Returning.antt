@@ -1,14 +1,15 @@
 -- What to do about a task that never runs. Where another goes on into it without a stop, that one may be meant to end there.
 -- Where a call returns to it, the task that is called may leave through jr, but not list it as a target.
-use Rattle.std.specs.Prelude.{ℕ, ◌-◌, Bool, true, false, not, ◌&&◌, ◌==◌, List, [], ◌∷◌, ◌++◌, codes, length, nat_lt, slice_get, Option, Some, None, if◌then◌else◌}
+use Rattle.std.specs.Prelude.{ℕ, ◌-◌, Bool, true, false, not, ◌&&◌, ◌==◌, List, [], ◌∷◌, ◌++◌, codes, length, nat_lt, slice_get, is_some, Option, Some, None, if◌then◌else◌}
 use Rattle.std.specs.Fmt.{decimal}
-use Rattle.std.specs.List.{list_any}
+use Rattle.std.specs.List.{find, list_any, range_with_len}
 use Rattle.mips_instructions.specs.declared.instruction.Op.{Op}
 use Rattle.mips_instructions.specs.declared.instruction.Op.TheVariants.{JumpReg, JumpLink}
 use Rattle.task_descriptor.specs.declared.descriptor.Marked.{Marked}
+use Rattle.mask_certificate.specs.Lists.{mask_at}
 use Rattle.mark_checker.specs.Rules.{stops_always}
 use Rattle.diagnostics.specs.declared.diagnostic.Help.{Help}
-use Rattle.mark_subjects.specs.Subjects.{Judged, task_name, targets_of, entries_of, targets_text, is_end, instruction_span, targets_span}
+use Rattle.mark_subjects.specs.Subjects.{Judged, task_name, targets_of, entries_of, stop_of, targets_text, is_end, instruction_span, targets_span}
 use Rattle.mark_subjects.specs.Parts.{in_words, by_text}
 use Rattle.mark_subjects.specs.Stops.{task_in}
 use Rattle.mark_subjects.specs.Steps.{end_help}
@@ -88,6 +89,21 @@ unlisted_by s entry name (Some task) = returning_help s task entry name
 
 abbrev pub unlisted_help : Judged → (task : ℕ) → Help
 unlisted_help s task = unlisted_by s (entry_of s task) (task_name s task) (returning s (entry_of s task))
+
+-- The task that comes back from a call, which leaves through jr: where the call ends its task, the one that is called,
+-- else the first that reaches the call.
+
+abbrev pub leaving_by_jr : Judged → Option ℕ → Option ℕ
+leaving_by_jr s None = None
+leaving_by_jr s (Some task) = if leaves_by_jr s task then Some task else None
+
+abbrev pub comes_back : Judged → (call task : ℕ) → Bool
+comes_back s i task = is_some (mask_at (entries_of s task) i) && leaves_by_jr s task
+
+abbrev pub coming_back : Judged → (call : ℕ) → Option ℕ
+coming_back s i =
+    if stops_always (stop_of s i) then leaving_by_jr s (task_in s (callee s i))
+    else find (comes_back s i) (range_with_len 0 (length s.program.tasks))
 
 -- first about a task that goes on into it
 abbrev pub never_runs_by : Judged → (task : ℕ) → Option (ℕ × ℕ) → Help

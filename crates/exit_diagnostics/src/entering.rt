@@ -4,7 +4,7 @@ ghost use Rattle.std.specs.Prelude.{◌≡◌, length};
 ghost use Rattle.std.specs.List.{find, range_with_len};
 ghost use Rattle.std.specs.Option.{option_copied};
 ghost use Rattle.mark_subjects.specs.Subjects.{entries_of};
-ghost use Rattle.exit_diagnostics.specs.Entering.{goes_into, may_end_before, first_before, enters, step_by, step_into};
+ghost use Rattle.exit_diagnostics.specs.Entering.{goes_into, may_end_before_task, first_before, enters, step_by, step_into};
 
 use crate::stop_fits::stop_fits;
 use mark_subjects::put_stop::into;
@@ -19,20 +19,20 @@ fn goes_into(subject: &Subject, index: u32, other: u32) -> bool
 }
 
 /// Whether a task may end at an instruction that goes on into another task.
-fn may_end_before(subject: &Subject, task: u32, index: u32, other: u32) -> bool
-    ensures { result ≡ may_end_before subject.now task index other }
+fn may_end_before_task(subject: &Subject, task: u32, index: u32, other: u32) -> bool
+    ensures { result ≡ may_end_before_task subject.now task index other }
 {
     goes_into(subject, index, other) && stop_fits(subject, task, index)
 }
 
 /// The first instruction of a task at which it may end before another.
 fn entry_before<'a>(subject: &'a Subject, task: u32, other: u32) -> Option<&'a (u32, RegSet)>
-    ensures { option_copied result ≡ find (λ e. may_end_before subject.now task e.0 other) (entries_of subject.now task) }
+    ensures { option_copied result ≡ find (λ e. may_end_before_task subject.now task e.0 other) (entries_of subject.now task) }
 {
     let entries = subject.entries(task);
     entries
         .iter()
-        .find(|entry| may_end_before(subject, task, entry.0, other))
+        .find(|entry| may_end_before_task(subject, task, entry.0, other))
 }
 
 /// The index of the first instruction of a task at which it may end before another.

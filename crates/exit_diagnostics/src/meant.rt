@@ -4,7 +4,7 @@ ghost use Rattle.std.specs.Prelude.{◌≡◌, ◌==◌, ◌&&◌, IfOk};
 ghost use Rattle.std.specs.List.{list_any};
 ghost use Rattle.exit_diagnostics.specs.declared.meant_stop.MeantStop.TheVariants.{Edge, Next, AtHalt};
 ghost use Rattle.mark_subjects.specs.Subjects.{targets_of, is_entry};
-ghost use Rattle.exit_diagnostics.specs.Meant.{way, target_in, to_target, edge_meant, has_stop, may_end, halts, later_meant, meant, edge_stop, edge_name, edge_advice, next_advice, halt_advice, meant_help};
+ghost use Rattle.exit_diagnostics.specs.Meant.{way, target_in, to_target, edge_meant, has_stop, leads_to_targets, halts, later_meant, meant, edge_stop, edge_name, edge_advice, next_advice, halt_advice, meant_help};
 
 use crate::meant_stop::MeantStop;
 use crate::slot::is_halt;
@@ -81,8 +81,8 @@ fn has_stop(stop: Stop) -> bool
 }
 
 /// Whether an instruction has no stop, and all its edges lead to targets.
-fn may_end(subject: &Subject, task: u32, index: u32) -> bool
-    ensures { result ≡ may_end subject.now task index }
+fn leads_to_targets(subject: &Subject, task: u32, index: u32) -> bool
+    ensures { result ≡ leads_to_targets subject.now task index }
 {
     !has_stop(subject.stop(index))
         && (to_target(subject, task, index, false).is_some()
@@ -107,7 +107,7 @@ fn later_meant(subject: &Subject, task: u32, to: u32) -> MeantStop
     if halts(subject, to) {
         return MeantStop::AtHalt(to);
     }
-    if may_end(subject, task, to) {
+    if leads_to_targets(subject, task, to) {
         MeantStop::Next(to)
     } else {
         MeantStop::This

@@ -1,8 +1,9 @@
 //! What to do about a task that never runs: another may be meant to end before it, or a call to return to it.
 
-ghost use Rattle.std.specs.Prelude.{◌≡◌, IfOk};
+ghost use Rattle.std.specs.Prelude.{◌≡◌, length, IfOk};
+ghost use Rattle.std.specs.List.{find, range_with_len};
 ghost use Rattle.mark_subjects.specs.Stops.{task_in};
-ghost use Rattle.exit_diagnostics.specs.Returning.{is_return_op, is_return, callee_of, callee, leaves_by_jr, may_return, returning_by, returning, but_lists, leaves_text, returning_text, start_text, returning_targets, returning_advice, returning_help, unlisted_help, never_runs_help};
+ghost use Rattle.exit_diagnostics.specs.Returning.{is_return_op, is_return, callee_of, callee, leaves_by_jr, leaving_by_jr, comes_back, coming_back, may_return, returning_by, returning, but_lists, leaves_text, returning_text, start_text, returning_targets, returning_advice, returning_help, unlisted_help, never_runs_help};
 
 use crate::call::back;
 use crate::entering::step_into;
@@ -71,6 +72,45 @@ fn leaves_by_jr(subject: &Subject, task: u32) -> bool
 {
     let entries = subject.entries(task);
     entries.iter().any(|entry| is_return(subject, entry.0))
+}
+
+/// A task, if it leaves through jr.
+fn leaving_by_jr(subject: &Subject, task: Option<u32>) -> Option<u32>
+    ensures { result ≡ leaving_by_jr subject.now task }
+{
+    let Some(task) = task else {
+        return None;
+    };
+    if leaves_by_jr(subject, task) {
+        Some(task)
+    } else {
+        None
+    }
+}
+
+/// Whether a task reaches a call, and leaves through jr.
+fn comes_back(subject: &Subject, call: u32, task: u32) -> bool
+    ensures { result ≡ comes_back subject.now call task }
+{
+    subject.mask(task, call).is_some() && leaves_by_jr(subject, task)
+}
+
+/// The first task that reaches a call, and leaves through jr.
+fn first_back(subject: &Subject, call: u32) -> Option<u32>
+    ensures { result ≡ find (comes_back subject.now call) (range_with_len 0 (length subject.now.program.tasks)) }
+{
+    let program = subject.program();
+    (0..program.tasks().len() as u32).find(|task| comes_back(subject, call, *task))
+}
+
+/// The task that comes back from a call, if it is known.
+pub fn coming_back(subject: &Subject, call: u32) -> Option<u32>
+    ensures { result ≡ coming_back subject.now call }
+{
+    if stops_always(subject.stop(call)) {
+        return leaving_by_jr(subject, task_of(subject, callee(subject, call)));
+    }
+    first_back(subject, call)
 }
 
 /// Whether a task leaves through jr, and may list this entry, too.

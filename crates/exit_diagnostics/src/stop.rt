@@ -8,7 +8,7 @@ ghost use Rattle.mark_checker.specs.Rules.{stops_always as stops_always_of};
 ghost use Rattle.mark_subjects.specs.Subjects.{targets_of, entries_of};
 ghost use Rattle.mark_subjects.specs.Targets.{entries_listed as entries_listed_of};
 ghost use Rattle.exit_diagnostics.specs.Exits.{is_taken as is_taken_of};
-ghost use Rattle.exit_diagnostics.specs.Remarks.{exits_anywhere, exits, target_into, target_at, may_end_at, first_end, end_at, no_exit_help, untaken, first_untaken, fewer_help, not_taken_at, not_taken_help, has_untaken, entry_of, follows, never_runs};
+ghost use Rattle.exit_diagnostics.specs.Remarks.{exits_anywhere, exits, target_into, target_at, may_end_before_target, first_end, end_at, no_exit_help, untaken, first_untaken, fewer_help, not_taken_at, not_taken_help, has_untaken, entry_of, follows, never_runs};
 
 use crate::exit::is_taken;
 use crate::stop_fits::stop_fits;
@@ -95,20 +95,20 @@ pub fn target_at(subject: &Subject, task: u32, index: u32) -> Option<u32>
 }
 
 /// Whether a task may end at an instruction that goes on into a target.
-fn may_end_at(subject: &Subject, task: u32, index: u32) -> bool
-    ensures { result ≡ may_end_at subject.now task index }
+fn may_end_before_target(subject: &Subject, task: u32, index: u32) -> bool
+    ensures { result ≡ may_end_before_target subject.now task index }
 {
     target_at(subject, task, index).is_some() && stop_fits(subject, task, index)
 }
 
 /// The first instruction of a task at which it may end.
 fn ending_entry<'a>(subject: &'a Subject, task: u32) -> Option<&'a (u32, RegSet)>
-    ensures { option_copied result ≡ find (λ e. may_end_at subject.now task e.0) (entries_of subject.now task) }
+    ensures { option_copied result ≡ find (λ e. may_end_before_target subject.now task e.0) (entries_of subject.now task) }
 {
     let entries = subject.entries(task);
     entries
         .iter()
-        .find(|entry| may_end_at(subject, task, entry.0))
+        .find(|entry| may_end_before_target(subject, task, entry.0))
 }
 
 /// The index of the first instruction of a task at which it may end.

@@ -7,14 +7,12 @@ use Rattle.program_tokens.specs.Lines.{lines}
 use Rattle.mask_certificate.specs.declared.fault.CertFault.{CertFault}
 use Rattle.mask_certificate.specs.CertificateReading.{cert_parse, names_of}
 use Rattle.mark_checker.specs.Rules.{all_rules}
+use Rattle.mark_checker.specs.declared.finding.Finding.{Finding}
 use Rattle.annotator.specs.Least.{IsLeast}
-use Rattle.diagnostics.specs.declared.code.Code.TheVariants.{Unfit}
 use Rattle.diagnostics.specs.declared.diagnostic.Diagnostic.{Diagnostic}
-use Rattle.diagnostics.specs.declared.diagnostic.Severity.TheVariants.{Error}
-use Rattle.diagnostics.specs.declared.diagnostic.Source.TheVariants.{Certificate}
 use Rattle.diagnostics.specs.declared.diagnostic.Span.{Span}
-use Rattle.diagnostics.specs.Helps.{in_words}
 use Rattle.input_diagnostics.specs.CertificateErrors.{certificate_errors}
+use Rattle.input_diagnostics.specs.Unfit.{unfit_error}
 use Rattle.explain_report.specs.Inputs.{ArePlaces}
 
 -- there are no diagnostics
@@ -32,30 +30,22 @@ abbrev pub unfit_message : (found least : ℕ) → List ℕ
 unfit_message found least =
     if least == 0 then codes "the marks are right; a mask in this certificate is too large" else more_message found least
 
-abbrev pub unfit_error : (found least : ℕ) → Diagnostic
-unfit_error found least = record {
-  severity = Error;
-  code = Unfit;
-  source = Certificate;
-  span = None;
-  message = unfit_message found least;
-  notes = [];
-  help = Some (in_words (codes "make a new one: multiscalar annotate --emit keep PROGRAM > CERT"));
-}
+-- with a certificate that was read from this text it has these findings, with the least one `wanted`; nothing where there are
+-- no more
+abbrev pub unfit_errors : Listing → (text : List ℕ) → (cert least : List (List (ℕ × ℕ))) → (findings : List Finding) → (wanted : ℕ) → List Diagnostic
+unfit_errors p text cert least findings wanted =
+    if nat_lt wanted (length findings)
+    then unfit_error p text cert least findings (unfit_message (length findings) wanted) ∷ [] else []
 
--- nothing where there are no more
-abbrev pub unfit_errors : (found least : ℕ) → List Diagnostic
-unfit_errors found least = if nat_lt least found then unfit_error found least ∷ [] else []
-
-abbrev pub IsFitSaid : Listing → Result (List (List (ℕ × ℕ))) CertFault → List Diagnostic → Type 0
-IsFitSaid p (Ok cert) said =
-    (least : List (List (ℕ × ℕ))) × IsLeast p least × (said ≡ unfit_errors (length (all_rules p cert)) (length (all_rules p least)))
-IsFitSaid p (Err fault) said = said ≡ []
+abbrev pub IsFitSaid : Listing → (text : List ℕ) → Result (List (List (ℕ × ℕ))) CertFault → List Diagnostic → Type 0
+IsFitSaid p text (Ok cert) said =
+    (least : List (List (ℕ × ℕ))) × IsLeast p least × (said ≡ unfit_errors p text cert least (all_rules p cert) (length (all_rules p least)))
+IsFitSaid p text (Err fault) said = said ≡ []
 
 -- the diagnostics for it beside the program's marks, where nothing is wrong with it alone
 abbrev pub IsFurtherSaid : (silent : Bool) → Listing → (certificate : List ℕ) → List Diagnostic → Type 0
 IsFurtherSaid false p certificate said = said ≡ []
-IsFurtherSaid true p certificate said = IsFitSaid p (cert_parse certificate (names_of p)) said
+IsFurtherSaid true p certificate said = IsFitSaid p certificate (cert_parse certificate (names_of p)) said
 
 -- the diagnostics for the text of a certificate
 pub record IsFileSaid (text : List ℕ) (p : Listing) (certificate : List ℕ) (said : List Diagnostic) : Type 0 where

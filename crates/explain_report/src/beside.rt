@@ -9,18 +9,17 @@ ghost use Rattle.annotator.specs.Least.{IsLeast};
 ghost use Rattle.input_diagnostics.specs.CertificateErrors.{certificate_errors};
 ghost use Rattle.program_tokens.specs.Lines.{lines};
 ghost use Rattle.explain_report.specs.Inputs.{ArePlaces};
-ghost use Rattle.explain_report.specs.Beside.{IsCertificateSaid, IsFileSaid, IsFitSaid, IsFurtherSaid, is_silent, more_message, unfit_error, unfit_errors, unfit_message};
+ghost use Rattle.explain_report.specs.Beside.{IsCertificateSaid, IsFileSaid, IsFitSaid, IsFurtherSaid, is_silent, more_message, unfit_errors, unfit_message};
 
 use crate::inputs::{lines_of, spans_in};
-use diagnostics::code::Code;
-use diagnostics::diagnostic::{Diagnostic, Severity, Source, Span};
-use diagnostics::helps::in_words;
-use diagnostics::listed::Listed;
+use diagnostics::diagnostic::{Diagnostic, Span};
 use diagnostics::words;
 use diagnostics::words::Words;
 use input_diagnostics::certificate::certificate_errors;
 use input_diagnostics::program_lines::ProgramLines;
+use input_diagnostics::unfit::unfit_error;
 use mark_checker::check::verdict;
+use mark_checker::finding::Finding;
 use mask_certificate::certificate::Cert;
 use mask_certificate::fault::CertFault;
 use mask_certificate::reading::read;
@@ -131,29 +130,32 @@ fn fit_said(
     certificate: &[u8],
 ) -> Result<Vec<Diagnostic>, AllocError>
     requires { IsLeast program.now least.now }
-    ensures { IfOk result (λ list. IsFitSaid program.now
+    ensures { IfOk result (λ list. IsFitSaid program.now certificate.now
         (cert_parse certificate.now (names_of program.now)) list.items) }
 {
     match read(alloc, certificate, program) {
-        Ok(cert) => compared(alloc, program, least, &cert),
+        Ok(cert) => compared(alloc, program, least, certificate, &cert),
         Err(CertFault::OutOfMemory) => Err(AllocError),
         Err(_) => Ok(Vec::new(alloc)),
     }
 }
 
-// The diagnostics for a certificate beside the least one.
+// The diagnostics for a certificate, read from this text, beside the least one.
 fn compared(
     alloc: Global,
     program: &Program,
     least: &Cert,
+    text: &[u8],
     cert: &Cert,
 ) -> Result<Vec<Diagnostic>, AllocError>
     requires { IsLeast program.now least.now }
-    ensures { IfOk result (λ list. IsFitSaid program.now (Ok cert.now) list.items) }
+    ensures { IfOk result (λ list. IsFitSaid program.now text.now (Ok cert.now) list.items) }
 {
-    let found = count(alloc, program, cert)?;
+    // Counted first, so that the two lists of findings never take memory together.
     let wanted = count(alloc, program, least)?;
-    let list = unfit_errors(alloc, found, wanted)?;
+    let found = verdict(alloc, program, cert)?;
+    let findings = found.findings.as_slice();
+    let list = unfit_errors(alloc, program, text, cert, least, findings, wanted)?;
     Ok(list)
 }
 
@@ -165,35 +167,25 @@ fn count(alloc: Global, program: &Program, cert: &Cert) -> Result<usize, AllocEr
     Ok(found.findings.as_slice().len())
 }
 
-// That the checker finds more with a certificate than with the least one, if it does.
-fn unfit_errors(alloc: Global, found: usize, least: usize) -> Result<Vec<Diagnostic>, AllocError>
-    ensures { IfOk result (λ list. list.items ≡ unfit_errors found least) }
+// That the checker has more findings with a certificate, these, than with the least one, if it does.
+fn unfit_errors(
+    alloc: Global,
+    program: &Program,
+    text: &[u8],
+    cert: &Cert,
+    least: &Cert,
+    findings: &[Finding],
+    wanted: usize,
+) -> Result<Vec<Diagnostic>, AllocError>
+    ensures { IfOk result (λ list. list.items ≡ unfit_errors program.now text.now cert.now least.now findings.now wanted) }
 {
     let mut list = Vec::new(alloc);
-    if least < found {
-        list.push(unfit_error(alloc, found, least)?)?;
+    if wanted < findings.len() {
+        let message = unfit_message(alloc, findings.len(), wanted)?;
+        let said = unfit_error(alloc, program, text, cert, least, findings, message)?;
+        list.push(said)?;
     }
     Ok(list)
-}
-
-// That the checker finds more with a certificate than with the least one.
-fn unfit_error(alloc: Global, found: usize, least: usize) -> Result<Diagnostic, AllocError>
-    ensures { IfOk result (λ said. said ≡ unfit_error found least) }
-{
-    let message = unfit_message(alloc, found, least)?;
-    let help = Words::of(
-        alloc,
-        "make a new one: multiscalar annotate --emit keep PROGRAM > CERT",
-    )?;
-    Ok(Diagnostic {
-        severity: Severity::Error,
-        code: Code::Unfit,
-        source: Source::Certificate,
-        span: None,
-        message,
-        notes: Listed::new(Vec::new(alloc)),
-        help: Some(in_words(alloc, help)),
-    })
 }
 
 // How many findings the checker has with a certificate, and with the least one.

@@ -12,5 +12,3 @@ pub mod left;
 pub mod left_over_laws;
 pub mod order;
 pub mod proposal;
-#[cfg(test)]
-mod tests;

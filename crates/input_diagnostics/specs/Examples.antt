@@ -14,15 +14,17 @@ use Rattle.mask_certificate.specs.declared.fault.CertFault.TheVariants as fault
 use Rattle.mark_checker.specs.declared.finding.Rule.TheVariants as rule
 use Rattle.canonical_text.specs.CanonicalText.{members}
 use Rattle.diagnostics.specs.declared.diagnostic.Diagnostic.{Diagnostic}
+use Rattle.diagnostics.specs.declared.diagnostic.Note.{Note}
 use Rattle.diagnostics.specs.declared.diagnostic.Span.{Span}
 use Rattle.diagnostics.specs.Excerpt.{is_readable, letter_start}
 use Rattle.diagnostics.specs.Quotations.{as_shown, quoted}
 use Rattle.input_diagnostics.specs.declared.mistaken.Mistaken.TheVariants.{Certificate, Script}
 use Rattle.input_diagnostics.specs.MistakenTexts.{mistaken_kind}
 use Rattle.input_diagnostics.specs.ScriptErrors.{script_errors}
-use Rattle.input_diagnostics.specs.RefusedCertificates.{refused_error}
+use Rattle.input_diagnostics.specs.RefusedCertificates.{refused_error, task_error}
 use Rattle.input_diagnostics.specs.Misfits.{misfit_error}
 use Rattle.input_diagnostics.specs.Stale.{other_task as other_among, stale_error}
+use Rattle.input_diagnostics.specs.Unfit.{unfit_error}
 
 abbrev named : List ℕ → Descriptor
 named name = record { name = name; entry = 0; create = 0; targets = [] }
@@ -37,6 +39,10 @@ at line column width = Some (record { line = line; column = column; width = widt
 -- where, what, and what to do
 abbrev told : Diagnostic → Option Span × List ℕ × Option (List ℕ)
 told d = (d.span, d.message, option_map (λ h. h.message) d.help)
+
+-- where, and what its notes say
+abbrev noted : Diagnostic → Option Span × List (List ℕ)
+noted d = (d.span, map (λ (n : Note). n.message) d.notes)
 
 -- ---- scripts
 
@@ -152,6 +158,32 @@ pub large_mask : map told (refused_error program (codes "cert 2\ntask MAIN\n1 70
 unfolding digits
 large_mask = refl
 
+-- a comment in a line of its own, and one after words
+pub comment_line : map told (refused_error program (codes "cert 2\n# masks\ntask MAIN\n") (fault.Line 2))
+    ≡ (at 2 1 7, codes "a certificate has no comments", Some (codes "remove the line")) ∷ []
+comment_line = refl
+
+pub comment_after : map told (refused_error program (codes "cert 2\ntask MAIN # first\n") (fault.Line 2))
+    ≡ (at 2 11 7, codes "a certificate has no comments", Some (codes "remove it, with any spaces before it")) ∷ []
+comment_after = refl
+
+pub comment_first : map told (refused_error program (codes "# masks\ncert 2\ntask MAIN\n") fault.Header)
+    ≡ (at 1 1 7, codes "a certificate has no comments", Some (codes "remove the line")) ∷ []
+comment_first = refl
+
+-- a text without a first line, as a program
+pub no_first_line : map told (refused_error program (codes "# a sum\nMAIN: halt\n") fault.Header)
+    ≡ (at 1 1 7, codes "the first line is neither cert 2 nor cert 1", Some (codes "begin with the line cert 2, or cert 1 if masks have 8 digits, and end it with LF")) ∷ []
+no_first_line = refl
+
+pub second_space : map told (refused_error program (codes "cert 2\ntask MAIN\n1  0000000000000300\n") (fault.Line 3))
+    ≡ (at 3 3 1, codes "exactly one space separates two words; there are no other spaces", Some (codes "remove this space")) ∷ []
+second_space = refl
+
+pub tab_for_a_space : map told (refused_error program (codes "cert 2\ntask MAIN\n1\t0000000000000300\n") (fault.Line 3))
+    ≡ (at 3 2 1, codes "one space separates two words, not a tab", Some (codes "write a space in its place")) ∷ []
+tab_for_a_space = refl
+
 pub empty_line : map told (refused_error program (codes "cert 2\n\ntask MAIN\n") (fault.Line 2))
     ≡ (at 2 1 0, codes "the line is empty", Some (codes "take it out")) ∷ []
 empty_line = refl
@@ -175,7 +207,20 @@ no_last_newline = refl
 
 pub other_task : map told (refused_error program (codes "cert 2\ntask MANE\n") (fault.TaskName 2))
     ≡ (at 2 6 4, codes "the program's next task is MAIN", Some (codes "write MAIN")) ∷ []
+unfolding task_error
 other_task = refl
+
+-- of three names the program has one
+pub another_program : map told (refused_error program (codes "cert 2\ntask A\n1 0000000000000300\ntask MAIN\ntask C\n") (fault.TaskName 2))
+    ≡ (at 2 6 1, codes "this looks like a certificate of another program: the program has 1 of the 3 tasks that it names", Some (codes "make a new one: multiscalar annotate --emit keep PROGRAM > CERT")) ∷ []
+unfolding digits task_error
+another_program = refl
+
+-- of four names the program has two: some are written wrong
+pub half_known : map told (refused_error program (codes "cert 2\ntask MAIN\ntask LOPO\ntask LOOP\ntask DONE\n") (fault.TaskName 3))
+    ≡ (at 3 6 4, codes "the program's next task is LOOP", Some (codes "write LOOP")) ∷ []
+unfolding task_error
+half_known = refl
 
 pub missing_task : map told (refused_error program (codes "cert 2\ntask MAIN\n") fault.MissingTask)
     ≡ (at 2 10 0, codes "the certificate ends before task LOOP", Some (codes "make a new one: multiscalar annotate --emit keep PROGRAM > CERT")) ∷ []
@@ -197,9 +242,23 @@ lacking = refl
 pub idle : told (misfit_error program (((0, 0) ∷ []) ∷ ((1, 0x200) ∷ (2, 0x300) ∷ []) ∷ []) (((0, 0) ∷ []) ∷ ((1, 0x200) ∷ (2, 0x200) ∷ []) ∷ []) 16 (record { rows = []; code = [] })
     (record { task = 1; index = 1; rule = rule.LacksNext; reg = Some 8 })
     (record { task = 1; index = 1; rule = rule.LacksNext; reg = Some 8 } ∷ []))
-    ≡ (at 5 3 16, codes "the mask of task LOOP at index 1 lacks $8: the mask at index 2 has it, though it is never written from there on", Some (codes "write 0000000000000200 at index 2"))
+    ≡ (at 5 3 16, codes "the mask of task LOOP at index 1 lacks $8: the mask at index 2 has it, though nothing writes it from there on", Some (codes "write 0000000000000200 at index 2"))
 unfolding digits
 idle = refl
+
+-- the entry mask of MAIN has $8, which the create mask has not
+pub larger : noted (unfit_error program (codes "cert 2\n") (((0, 0x100) ∷ []) ∷ ((1, 0) ∷ []) ∷ []) (((0, 0) ∷ []) ∷ ((1, 0) ∷ []) ∷ [])
+    (record { task = 0; index = 0; rule = rule.ExceedsCreate; reg = Some 8 } ∷ []) (codes "a mask is too large"))
+    ≡ (at 3 3 16, codes "the mask of task MAIN at index 0 has $8, though nothing writes it from there on" ∷ [])
+unfolding digits
+larger = refl
+
+-- the create mask lacks $9, too, which is written
+pub larger_beside : noted (unfit_error program (codes "cert 2\n") (((0, 0x300) ∷ []) ∷ ((1, 0) ∷ []) ∷ []) (((0, 0x200) ∷ []) ∷ ((1, 0) ∷ []) ∷ [])
+    (record { task = 0; index = 0; rule = rule.ExceedsCreate; reg = Some 9 } ∷ record { task = 0; index = 0; rule = rule.ExceedsCreate; reg = Some 8 } ∷ []) (codes "a mask is too large"))
+    ≡ (at 3 3 16, codes "the mask of task MAIN at index 0 has $8, though nothing writes it from there on" ∷ [])
+unfolding digits
+larger_beside = refl
 
 -- the first task with another number of instructions
 pub other : other_among (((0, 0) ∷ []) ∷ ((1, 0) ∷ []) ∷ []) (((0, 0) ∷ []) ∷ ((1, 0) ∷ (2, 0) ∷ []) ∷ []) 2 ≡ Some 1

@@ -1,5 +1,5 @@
 -- What the masks of a certificate lack, and which are too large, beside those of the program's least certificate.
-use Rattle.std.specs.Prelude.{ℕ, Bool, not, ◌&&◌, List, map, position, slice_index_or, bit_and, unwrap_or, is_some, if◌then◌else◌, Option, Some, None}
+use Rattle.std.specs.Prelude.{ℕ, Bool, false, not, ◌&&◌, List, map, position, slice_index_or, bit_and, unwrap_or, is_some, if◌then◌else◌, Option, Some, None}
 use Rattle.std.specs.Int.{bit_not, w64}
 use Rattle.mips_instructions.specs.Words.{has}
 use Rattle.canonical_text.specs.CanonicalText.{listed, members, register_text}
@@ -25,9 +25,14 @@ registers_text mask = listed (map register_text (members mask))
 abbrev pub wanting : (cert least : List (List (ℕ × ℕ))) → Finding → ℕ
 wanting cert least f = beyond (mask_or_none (list_of least f.task) f.index) (mask_or_none (list_of cert f.task) f.index)
 
--- the mask of an entry has a register, though no path from there writes it
+-- there is a mask, and it lacks a register
+abbrev pub lacks_register : Option ℕ → (r : ℕ) → Bool
+lacks_register None r = false
+lacks_register (Some mask) r = not (has mask r)
+
+-- the mask of an entry that the task reaches has a register, though no path from there writes it
 abbrev pub has_idle : (least : List (ℕ × ℕ)) → (r : ℕ) → (entry : ℕ × ℕ) → Bool
-has_idle least r entry = has entry.1 r && not (has (mask_or_none least entry.0) r)
+has_idle least r entry = has entry.1 r && lacks_register (mask_at least entry.0) r
 
 abbrev pub idle_by : Option ℕ → (list least : List (ℕ × ℕ)) → Option ℕ
 idle_by None list least = None

@@ -6,5 +6,6 @@ pub mod RefusedCertificates
 pub mod Larger
 pub mod Misfits
 pub mod Stale
+pub mod Unfit
 pub mod CertificateErrors
 pub mod Examples

@@ -121,7 +121,7 @@ lacks_message name index registers =
 abbrev pub idle_words : (name : List ℕ) → (index register other : ℕ) → List ℕ
 idle_words name index register other =
     codes "the mask of task " ++ (name ++ (codes " at index " ++ (decimal index ++ (codes " lacks $" ++ (decimal register
-    ++ (codes ": the mask at index " ++ (decimal other ++ codes " has it, though it is never written from there on")))))))
+    ++ (codes ": the mask at index " ++ (decimal other ++ codes " has it, though nothing writes it from there on")))))))
 
 -- of a mask that lacks only what another mask, at an index, has for no reason
 abbrev pub idle_message : (name : List ℕ) → Finding → (group : List Finding) → (other : Option ℕ) → List ℕ

@@ -9,6 +9,7 @@ use Rattle.event_script.specs.EventScript.{lines, first_word}
 use Rattle.mask_certificate.specs.declared.fault.CertFault.{CertFault}
 use Rattle.mask_certificate.specs.declared.fault.CertFault.TheVariants as fault
 use Rattle.mask_certificate.specs.CertificateReading.{is_space, index_in, is_mask_digit}
+use Rattle.diagnostics.specs.declared.code.Code.{Code}
 use Rattle.diagnostics.specs.declared.code.Code.TheVariants.{Header, Line, TaskName, MissingTask, Shape}
 use Rattle.diagnostics.specs.declared.diagnostic.Diagnostic.{Diagnostic}
 use Rattle.diagnostics.specs.declared.diagnostic.Help.{Help}
@@ -16,10 +17,10 @@ use Rattle.diagnostics.specs.declared.diagnostic.Source.TheVariants.{Certificate
 use Rattle.diagnostics.specs.declared.diagnostic.Span.{Span}
 use Rattle.diagnostics.specs.Quotations.{as_shown, quoted}
 use Rattle.input_diagnostics.specs.declared.refused.LineSlip.{LineSlip}
-use Rattle.input_diagnostics.specs.declared.refused.LineSlip.TheVariants.{Unended, Name, Empty, First, Form, Index, Capitals, High, Incomplete, Mask}
+use Rattle.input_diagnostics.specs.declared.refused.LineSlip.TheVariants.{Comment, Tab, Space, Unended, Name, Empty, First, Form, Index, Capitals, High, Incomplete, Mask}
 use Rattle.diagnostics.specs.Helps.{in_words, by_text}
 use Rattle.input_diagnostics.specs.Saying.{error, row_at, span, return_error, most_shown}
-use Rattle.input_diagnostics.specs.ScriptErrors.{ends_with_return}
+use Rattle.input_diagnostics.specs.ScriptErrors.{is_tab, stray_space, is_between, separator_help, ends_with_return}
 
 -- the command that makes a certificate
 abbrev pub anew : Help
@@ -75,18 +76,46 @@ slip_by digits (Some k) row = if is_some (index_in (take k row)) then mask_slip 
 
 -- a line without LF; a `task` line whose name is no name of a task; an empty line; a line that has to be the first
 -- `task` line; else what an entry lacks
-abbrev pub line_slip : (ended : Bool) → (n digits : ℕ) → (row : List ℕ) → LineSlip
-line_slip ended n digits row =
+abbrev pub word_slip : (ended : Bool) → (n digits : ℕ) → (row : List ℕ) → LineSlip
+word_slip ended n digits row =
     if not ended then Unended
     else (if is_task_row row then Name
     else (if length row == 0 then Empty
     else (if n == 2 then First
     else slip_by digits (position is_space row) row)))
 
+-- `#`, which begins a comment in a program text
+abbrev pub is_hash : ℕ → Bool
+is_hash b = b == 35
+
+abbrev pub space_slip : (space : Option ℕ) → Option LineSlip
+space_slip None = None
+space_slip (Some k) = Some (Space k)
+
+abbrev pub tab_slip : (tab : Option ℕ) → (row : List ℕ) → Option LineSlip
+tab_slip None row = space_slip (stray_space false 0 row)
+tab_slip (Some k) row = Some (Tab k)
+
+abbrev pub comment_slip : (hash : Option ℕ) → (row : List ℕ) → Option LineSlip
+comment_slip None row = tab_slip (position is_tab row) row
+comment_slip (Some k) row = Some (Comment k)
+
+-- what no line may have: a comment, else a tab, else a space that separates no two words
+abbrev pub common_slip : (row : List ℕ) → Option LineSlip
+common_slip row = comment_slip (position is_hash row) row
+
+-- such a slip of a line, or else why its words have no form
+abbrev pub line_slip : (common : Option LineSlip) → (ended : Bool) → (n digits : ℕ) → (row : List ℕ) → LineSlip
+line_slip None ended n digits row = word_slip ended n digits row
+line_slip (Some slip) ended n digits row = slip
+
 abbrev pub mask_span : (n : ℕ) → (row : List ℕ) → (k : ℕ) → Span
 mask_span n row k = span n (k + 1) (length row - (k + 1))
 
 abbrev pub slip_span : (n : ℕ) → (row : List ℕ) → LineSlip → Span
+slip_span n row (Comment k) = span n k (length row - k)
+slip_span n row (Tab k) = span n k 1
+slip_span n row (Space k) = span n k 1
 slip_span n row Unended = span n (length row) 0
 slip_span n row Name = span n 5 (length row - 5)
 slip_span n row Empty = span n 0 0
@@ -103,6 +132,9 @@ abbrev pub no_mask_message : (digits : ℕ) → List ℕ
 no_mask_message digits = codes "this is not a mask of " ++ (decimal digits ++ codes " digits")
 
 abbrev pub slip_message : (digits : ℕ) → (row : List ℕ) → LineSlip → List ℕ
+slip_message digits row (Comment k) = codes "a certificate has no comments"
+slip_message digits row (Tab k) = codes "one space separates two words, not a tab"
+slip_message digits row (Space k) = codes "exactly one space separates two words; there are no other spaces"
 slip_message digits row Unended = codes "the last line does not end with LF"
 slip_message digits row Name = quoted (drop 5 row) ++ codes " cannot be the name of a task"
 slip_message digits row Empty = codes "the line is empty"
@@ -140,7 +172,17 @@ abbrev pub completed_help : (digits : ℕ) → Span → (mask : List ℕ) → He
 completed_help digits at mask =
     let whole = as_shown (completed digits (bare_mask mask)) in by_text (codes "write " ++ whole) at whole
 
+-- to remove a comment that has these bytes of its line in front of it, or the line if it has nothing else
+abbrev pub comment_words : (before : List ℕ) → List ℕ
+comment_words before = if list_all is_space before then codes "remove the line" else codes "remove it, with any spaces before it"
+
+abbrev pub comment_help : (before : List ℕ) → Help
+comment_help before = in_words (comment_words before)
+
 abbrev pub slip_help : (digits : ℕ) → Span → (next : Option (List ℕ)) → (row : List ℕ) → LineSlip → Help
+slip_help digits at next row (Comment k) = comment_help (take k row)
+slip_help digits at next row (Tab k) = separator_help (is_between row k) at
+slip_help digits at next row (Space k) = by_text (codes "remove this space") at []
 slip_help digits at next row Name = name_help at next
 slip_help digits at next row First = first_help next
 slip_help digits at next row (Capitals k) = small_help at (drop (k + 1) row)
@@ -157,14 +199,18 @@ digits_in text = if starts_with nat_eq text (codes "cert 1\n") then 8 else 16
 abbrev pub is_ended : (text : List ℕ) → (n : ℕ) → Bool
 is_ended text n = nat_lt n (length (lines text)) || slice_index text (length text - 1) == 10
 
+-- the diagnostic for line n with this slip; `next` is the task that it has to begin, if one is left
+abbrev pub slip_error : Code → (digits n : ℕ) → (next : Option (List ℕ)) → (row : List ℕ) → LineSlip → Diagnostic
+slip_error code digits n next row slip =
+    let at = slip_span n row slip in
+    error Certificate code at (slip_message digits row slip) [] (slip_help digits at next row slip)
+
 abbrev pub line_error : Listing → (text : List ℕ) → (n : ℕ) → Diagnostic
 line_error p text n =
     let row = row_at (lines text) n in
-    let slip = line_slip (is_ended text n) n (digits_in text) row in
-    let at = slip_span n row slip in
     if ends_with_return row then return_error Certificate Line n row
-    else error Certificate Line at (slip_message (digits_in text) row slip) []
-    (slip_help (digits_in text) at (next_name p (lines text) n) row slip)
+    else slip_error Line (digits_in text) n (next_name p (lines text) n) row
+    (line_slip (common_slip row) (is_ended text n) n (digits_in text) row)
 
 -- what is wrong with a line as an entry
 abbrev pub row_slip : (digits : ℕ) → (row : List ℕ) → LineSlip
@@ -210,27 +256,70 @@ header_message row =
 abbrev pub empty_error : Diagnostic
 empty_error = error Certificate Header (span 1 0 0) (codes "the certificate is empty") [] anew
 
-abbrev pub header_error : (text row : List ℕ) → Diagnostic
-header_error text row =
+abbrev pub is_first_line : (row : List ℕ) → Bool
+is_first_line row = starts_with nat_eq row (codes "cert")
+
+-- What the first line has that no line may have. Where no line begins as the first one of a certificate does, the text is
+-- another one, as a program, whose lines may have it.
+abbrev pub header_slip : (rows : List (List ℕ)) → Option LineSlip
+header_slip rows = if list_any is_first_line rows then common_slip (row_at rows 1) else None
+
+abbrev pub first_line_error : (row : List ℕ) → Diagnostic
+first_line_error row =
+    error Certificate Header (span 1 0 (length row)) (header_message row) []
+    (in_words (codes "begin with the line cert 2, or cert 1 if masks have 8 digits, and end it with LF"))
+
+abbrev pub header_by : Option LineSlip → (row : List ℕ) → Diagnostic
+header_by None row = first_line_error row
+header_by (Some slip) row = slip_error Header 16 1 None row slip
+
+abbrev pub header_error : (text : List ℕ) → (rows : List (List ℕ)) → Diagnostic
+header_error text rows =
     if length text == 0 then empty_error
-    else (if ends_with_return row then return_error Certificate Header 1 row
-    else error Certificate Header (span 1 0 (length row)) (header_message row) []
-    (in_words (codes "begin with the line cert 2, or cert 1 if masks have 8 digits, and end it with LF")))
+    else (if ends_with_return (row_at rows 1) then return_error Certificate Header 1 (row_at rows 1)
+    else header_by (header_slip rows) (row_at rows 1))
 
 -- another task than the next one: its name may be written wrong, or lines are missing or too many
 abbrev pub is_task : Listing → (name : List ℕ) → Bool
 is_task p name = list_any (λ d. bytes_eq d.name name) p.tasks
 
+-- the line of a task that the program has
+abbrev pub is_known_row : Listing → (row : List ℕ) → Bool
+is_known_row p row = is_task_row row && is_task p (drop 5 row)
+
+-- the lines by which a certificate is judged to be of another program: the first, so that the time for it is bounded
+abbrev pub most_judged : ℕ
+most_judged = 4096
+
+-- of the tasks that the certificate names the program lacks several, and more than it has: it is of another one
+abbrev pub is_of_another : (named known : ℕ) → Bool
+is_of_another named known = nat_lt 1 (named - known) && nat_lt known (named - known)
+
+abbrev pub another_message : (named known : ℕ) → List ℕ
+another_message named known =
+    codes "this looks like a certificate of another program: the program has " ++ (decimal known
+    ++ (codes " of the " ++ (decimal named ++ codes " tasks that it names")))
+
+abbrev pub another_error : (rows : List (List ℕ)) → (n named known : ℕ) → Diagnostic
+another_error rows n named known =
+    error Certificate TaskName (span n 5 (length (row_at rows n) - 5)) (another_message named known) [] anew
+
 abbrev pub task_message : (next : Option (List ℕ)) → List ℕ
 task_message None = codes "the program has no further task"
 task_message (Some name) = codes "the program's next task is " ++ name
 
-abbrev pub task_error : Listing → (rows : List (List ℕ)) → (n : ℕ) → Diagnostic
-task_error p rows n =
+abbrev pub name_error : Listing → (rows : List (List ℕ)) → (n : ℕ) → Diagnostic
+name_error p rows n =
     let row = row_at rows n in
     let at = span n 5 (length row - 5) in
     let next = next_name p rows n in
     error Certificate TaskName at (task_message next) [] (if is_task p (drop 5 row) then anew else name_help at next)
+
+unfoldable pub task_error : Listing → (rows : List (List ℕ)) → (n : ℕ) → Diagnostic
+task_error p rows n =
+    let named = count_by is_task_row (take most_judged rows) in
+    let known = count_by (is_known_row p) (take most_judged rows) in
+    if is_of_another named known then another_error rows n named known else name_error p rows n
 
 -- the certificate ends before a task
 abbrev pub missing_error : Listing → (rows : List (List ℕ)) → Diagnostic
@@ -263,7 +352,7 @@ shape_error rows =
 
 -- the diagnostics for a text that is refused
 abbrev pub refused_error : Listing → (text : List ℕ) → CertFault → List Diagnostic
-refused_error p text fault.Header = header_error text (row_at (lines text) 1) ∷ []
+refused_error p text fault.Header = header_error text (lines text) ∷ []
 refused_error p text (fault.Line n) = line_errors p text n
 refused_error p text (fault.TaskName n) = task_error p (lines text) n ∷ []
 refused_error p text fault.MissingTask = missing_error p (lines text) ∷ []

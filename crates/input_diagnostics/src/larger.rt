@@ -3,7 +3,7 @@
 ghost use Rattle.std.specs.Prelude.{◌≡◌, ◌<◌, ◌++◌, ◌^◌, position, unwrap_or, OnOk};
 ghost use Rattle.std.specs.String.{string_bytes};
 ghost use Rattle.mask_certificate.specs.Lists.{list_of, mask_at};
-ghost use Rattle.input_diagnostics.specs.Larger.{beyond, registers_text, mask_or_none, wanting, has_idle, idle_by, first_idle, entry_at};
+ghost use Rattle.input_diagnostics.specs.Larger.{beyond, registers_text, mask_or_none, wanting, lacks_register, has_idle, idle_by, first_idle, entry_at};
 
 use canonical_text::print::write_create;
 use mark_checker::finding::Finding;
@@ -51,11 +51,21 @@ pub(crate) fn wanting(cert: &Cert, least: &Cert, finding: &Finding) -> u64
     )
 }
 
-/// Whether the mask of an entry has a register, though no path from there writes it.
+/// Whether there is a mask, and it lacks a register.
+fn lacks_register(mask: Option<RegSet>, register: Reg) -> bool
+    ensures { result ≡ lacks_register mask register }
+{
+    match mask {
+        Some(mask) => !mask.has(register),
+        None => false,
+    }
+}
+
+/// Whether the mask of an entry that the task reaches has a register, though no path from there writes it.
 fn has_idle(least: &Cert, task: u32, register: Reg, entry: (u32, RegSet)) -> bool
     ensures { result ≡ has_idle (list_of least.now task) register entry }
 {
-    entry.1.has(register) && !mask_or_none(least, task, entry.0).has(register)
+    entry.1.has(register) && lacks_register(least.mask(task, entry.0), register)
 }
 
 /// The first entry of a task whose mask has a register, though no path from there writes it.

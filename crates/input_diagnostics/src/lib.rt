@@ -13,3 +13,4 @@ mod saying;
 pub mod script;
 pub mod slip;
 mod stale;
+pub mod unfit;

@@ -214,7 +214,7 @@ fn same_mask(
 }
 
 /// The number of a finding's register; 0 where its rule has none.
-fn register_in(register: Option<Reg>) -> u8
+pub(crate) fn register_in(register: Option<Reg>) -> u8
     ensures value { result ≡ register_in register }
     ensures range { result < 34 }
 {
@@ -284,7 +284,7 @@ fn idle_words(
 {
     words!(
         in alloc;
-        "the mask of task {name} at index {index} lacks ${register}: the mask at index {other} has it, though it is never written from there on"
+        "the mask of task {name} at index {index} lacks ${register}: the mask at index {other} has it, though nothing writes it from there on"
     )
 }
 
@@ -413,7 +413,7 @@ fn mask_help(alloc: Global, digits: usize, mask: u64, at: Span) -> Result<Help, 
 }
 
 /// The mask of an entry of a task.
-fn entry_span(
+pub(crate) fn entry_span(
     alloc: Global,
     cert: &Cert,
     task: u32,

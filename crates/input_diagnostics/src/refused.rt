@@ -1,18 +1,20 @@
 //! Diagnostics for the text of a certificate that is refused.
 
-ghost use Rattle.std.specs.Prelude.{◌≡◌, ◌+◌, ◌-◌, ◌≤◌, ◌++◌, ◌∷◌, [], map as each, position, take, drop, length, if◌then◌else◌, IfOk, OnOk};
-ghost use Rattle.std.specs.List.{count_by, list_all};
+ghost use Rattle.std.specs.Prelude.{◌≡◌, ◌+◌, ◌-◌, ◌≤◌, ◌++◌, ◌∷◌, [], false, map as each, position, take, drop, length, if◌then◌else◌, IfOk, OnOk};
+ghost use Rattle.std.specs.List.{count_by, list_all, list_any};
 ghost use Rattle.std.specs.Option.{option_map};
 ghost use Rattle.std.specs.Str.{str_to_ascii_lowercase};
 ghost use Rattle.mask_certificate.specs.CertificateReading.{is_space, index_in, is_mask_digit};
 ghost use Rattle.event_script.specs.EventScript.{lines};
 ghost use Rattle.input_diagnostics.specs.declared.refused.LineSlip.TheVariants.{Capitals, High, Incomplete};
 ghost use Rattle.input_diagnostics.specs.Saying.{most_shown, row_at};
-ghost use Rattle.input_diagnostics.specs.RefusedCertificates.{anew, is_task_row, next_name, bare, is_zero, is_incomplete, completed, bare_mask, mask_slip, no_mask_message, slip_by, line_slip, mask_span, slip_span, slip_message, slip_words, name_help, first_help, small_help, completed_help, slip_help, digits_in, is_ended, line_error, row_slip, is_incomplete_slip, incomplete_error, incomplete_by, incomplete_after, incomplete_from, line_errors, header_message, empty_error, header_error, is_task, task_message, task_error, missing_error, index_of, shape_line, shape_message, shape_error, refused_error};
+ghost use Rattle.input_diagnostics.specs.ScriptErrors.{is_tab, stray_space};
+ghost use Rattle.input_diagnostics.specs.RefusedCertificates.{anew, is_task_row, next_name, bare, is_zero, is_incomplete, completed, bare_mask, mask_slip, no_mask_message, slip_by, word_slip, is_hash, space_slip, tab_slip, comment_slip, common_slip, line_slip, mask_span, slip_span, slip_message, slip_words, name_help, first_help, small_help, completed_help, comment_words, comment_help, slip_help, digits_in, is_ended, slip_error, line_error, row_slip, is_incomplete_slip, incomplete_error, incomplete_by, incomplete_after, incomplete_from, line_errors, header_message, empty_error, is_first_line, header_slip, first_line_error, header_by, header_error, is_task, is_known_row, is_of_another, another_message, another_error, task_message, name_error, task_error, missing_error, index_of, shape_line, shape_message, shape_error, refused_error};
 
 use crate::lines::{lines_of, row_at};
 use crate::saying::{MOST_SHOWN, plain_error, return_error, span};
-use crate::script::ends_with_return;
+use crate::script::{ends_with_return, is_between, remove_help, separator_help};
+use crate::slip::{stray_space, tab_in};
 use diagnostics::code::Code;
 use diagnostics::diagnostic::{Diagnostic, Help, Source, Span};
 use diagnostics::helps::{by_text, in_words};
@@ -24,9 +26,18 @@ use mask_certificate::fault::CertFault;
 use std::alloc::{AllocError, Global};
 use task_descriptor::program::Program;
 
+/// By how many lines, the first, a certificate is judged to be of another program: this bounds the time that it takes.
+const MOST_JUDGED: usize = 4_096;
+
 /// Why a line of a certificate has no form that a line may have.
 #[derive(Clone, Copy, Debug, PartialEq, Eq)]
 pub enum LineSlip {
+    /// It has a comment, with this many bytes in front of it.
+    Comment(usize),
+    /// It has a tab, with this many bytes in front of it.
+    Tab(usize),
+    /// A space in it, with this many bytes in front of it, separates no two words.
+    Space(usize),
     /// It does not end with LF.
     Unended,
     /// It is a `task` line whose name is no name of a task.
@@ -232,15 +243,15 @@ fn slip_by(alloc: Global, digits: usize, row: &[u8]) -> Result<LineSlip, AllocEr
     }
 }
 
-/// Why a line has no form that a line may have.
-fn line_slip(
+/// Why a line without a comment, with one space between two words and none elsewhere, has no form that a line may have.
+fn word_slip(
     alloc: Global,
     ended: bool,
     number: usize,
     digits: usize,
     row: &[u8],
 ) -> Result<LineSlip, AllocError>
-    ensures { IfOk result (λ slip. slip ≡ line_slip ended number digits row.now) }
+    ensures { IfOk result (λ slip. slip ≡ word_slip ended number digits row.now) }
 {
     if !ended {
         Ok(LineSlip::Unended)
@@ -252,6 +263,59 @@ fn line_slip(
         Ok(LineSlip::First)
     } else {
         slip_by(alloc, digits, row)
+    }
+}
+
+/// How many bytes stand in front of the first `#` of a line.
+fn hash_in(row: &[u8]) -> Option<usize>
+    ensures { result ≡ position is_hash row.now }
+{
+    row.iter().position(|byte| *byte == b'#')
+}
+
+/// What is wrong with the spaces of a line.
+fn space_slip(row: &[u8]) -> Option<LineSlip>
+    ensures { result ≡ space_slip (stray_space false 0 row.now) }
+{
+    match stray_space(row) {
+        Some(before) => Some(LineSlip::Space(before)),
+        None => None,
+    }
+}
+
+/// What is wrong with the tabs of a line, or else with its spaces.
+fn tab_slip(row: &[u8]) -> Option<LineSlip>
+    ensures { result ≡ tab_slip (position is_tab row.now) row.now }
+{
+    match tab_in(row) {
+        Some(before) => Some(LineSlip::Tab(before)),
+        None => space_slip(row),
+    }
+}
+
+/// What a line has that no line may have: a comment, or else a tab, or else a space that separates no two words.
+fn common_slip(row: &[u8]) -> Option<LineSlip>
+    ensures { result ≡ common_slip row.now }
+{
+    match hash_in(row) {
+        Some(before) => Some(LineSlip::Comment(before)),
+        None => tab_slip(row),
+    }
+}
+
+/// Why a line has no form that a line may have.
+fn line_slip(
+    alloc: Global,
+    ended: bool,
+    number: usize,
+    digits: usize,
+    row: &[u8],
+) -> Result<LineSlip, AllocError>
+    ensures { IfOk result (λ slip. slip ≡ line_slip (common_slip row.now) ended number digits row.now) }
+{
+    match common_slip(row) {
+        Some(slip) => Ok(slip),
+        None => word_slip(alloc, ended, number, digits, row),
     }
 }
 
@@ -271,6 +335,9 @@ fn slip_span(number: usize, row: &[u8], slip: LineSlip) -> Span
     ensures { result ≡ slip_span number row.now slip }
 {
     match slip {
+        LineSlip::Comment(before) => span(number, before, row.len().saturating_sub(before)),
+        LineSlip::Tab(before) => span(number, before, 1),
+        LineSlip::Space(before) => span(number, before, 1),
         LineSlip::Unended => span(number, row.len(), 0),
         LineSlip::Name => span(number, 5, row.len().saturating_sub(5)),
         LineSlip::Empty => span(number, 0, 0),
@@ -314,6 +381,12 @@ fn slip_message(
     ensures { IfOk result (λ words. words ≡ slip_message digits row.now slip) }
 {
     match slip {
+        LineSlip::Comment(_) => Words::of(alloc, "a certificate has no comments"),
+        LineSlip::Tab(_) => Words::of(alloc, "one space separates two words, not a tab"),
+        LineSlip::Space(_) => Words::of(
+            alloc,
+            "exactly one space separates two words; there are no other spaces",
+        ),
         LineSlip::Unended => Words::of(alloc, "the last line does not end with LF"),
         LineSlip::Name => {
             let name = quoted(alloc, name_of(row))?;
@@ -408,6 +481,32 @@ fn completed_help(alloc: Global, digits: usize, at: Span, mask: &[u8]) -> Result
     by_text(alloc, words!(in alloc; "write {whole}")?, at, whole)
 }
 
+/// Whether a text has spaces alone.
+fn is_blank(text: &[u8]) -> bool
+    ensures { result ≡ list_all is_space text.now }
+{
+    text.iter().all(|byte| *byte == b' ')
+}
+
+/// What to do about a comment that has these bytes of its line in front of it.
+fn comment_words(before: &[u8]) -> &'static str
+    ensures { result.now ≡ comment_words before.now }
+{
+    if is_blank(before) {
+        "remove the line"
+    } else {
+        "remove it, with any spaces before it"
+    }
+}
+
+/// What to do about a comment that has these bytes of its line in front of it.
+fn comment_help(alloc: Global, before: &[u8]) -> Result<Help, AllocError>
+    ensures { IfOk result (λ help. help ≡ comment_help before.now) }
+{
+    let words = comment_words(before);
+    Ok(in_words(alloc, Words::of(alloc, words)?))
+}
+
 /// What to do about a line.
 fn slip_help(
     alloc: Global,
@@ -420,6 +519,9 @@ fn slip_help(
     ensures { IfOk result (λ help. help ≡ slip_help digits at (option_map (λ name. name.now) next.entry) row.now slip) }
 {
     match slip {
+        LineSlip::Comment(before) => comment_help(alloc, front(row, before)),
+        LineSlip::Tab(before) => separator_help(alloc, is_between(row, before), at),
+        LineSlip::Space(_) => remove_help(alloc, "remove this space", at),
         LineSlip::Name => name_help(alloc, at, next),
         LineSlip::First => first_help(alloc, next),
         LineSlip::Capitals(space) => small_help(alloc, at, after(row, space)),
@@ -443,6 +545,24 @@ fn is_ended(text: &[u8], rows: &[&[u8]], number: usize) -> bool
     number < rows.len() || matches!(text, [.., b'\n'])
 }
 
+/// The diagnostic for a line with this slip.
+fn slip_error(
+    alloc: Global,
+    code: Code,
+    digits: usize,
+    number: usize,
+    next: Option<&str>,
+    row: &[u8],
+    slip: LineSlip,
+) -> Result<Diagnostic, AllocError>
+    ensures { IfOk result (λ said. said ≡ slip_error code digits number (option_map (λ name. name.now) next.entry) row.now slip) }
+{
+    let at = slip_span(number, row, slip);
+    let message = slip_message(alloc, digits, row, slip)?;
+    let help = slip_help(alloc, digits, at, next, row, slip)?;
+    Ok(plain_error(alloc, Source::Certificate, code, at, message, help))
+}
+
 /// The diagnostic for a line that has no form that a line may have.
 fn line_error(
     alloc: Global,
@@ -460,11 +580,8 @@ fn line_error(
     }
     let digits = digits_in(text);
     let slip = line_slip(alloc, is_ended(text, rows, number), number, digits, row)?;
-    let at = slip_span(number, row, slip);
-    let message = slip_message(alloc, digits, row, slip)?;
     let next = next_name(program, rows, number);
-    let help = slip_help(alloc, digits, at, next, row, slip)?;
-    Ok(plain_error(alloc, Source::Certificate, Code::Line, at, message, help))
+    slip_error(alloc, Code::Line, digits, number, next, row, slip)
 }
 
 /// What is wrong with a line as an entry.
@@ -637,16 +754,40 @@ fn empty_error(alloc: Global) -> Result<Diagnostic, AllocError>
     Ok(plain_error(alloc, Source::Certificate, Code::Header, at, message, help))
 }
 
-/// The diagnostic for a first line that begins no certificate.
-fn header_error(alloc: Global, text: &[u8], row: &[u8]) -> Result<Diagnostic, AllocError>
-    ensures { IfOk result (λ said. said ≡ header_error text.now row.now) }
+/// Whether a line begins as the first line of a certificate does.
+fn is_first_line(row: &[u8]) -> bool
+    ensures { result ≡ is_first_line row.now }
 {
-    if text.is_empty() {
-        return empty_error(alloc);
+    row.starts_with(b"cert")
+}
+
+/// Whether one of some lines begins as the first line of a certificate does.
+fn has_first_line(rows: &[&[u8]]) -> bool
+    ensures { result ≡ list_any is_first_line (each (λ row. row.now) rows.now) }
+{
+    for row in rows {
+        if is_first_line(row) {
+            return true;
+        }
     }
-    if ends_with_return(row) {
-        return return_error(alloc, Source::Certificate, Code::Header, 1, row);
+    false
+}
+
+/// What the first line has that no line of a certificate may have, if some line begins as the first one of a certificate does.
+fn header_slip(rows: &[&[u8]]) -> Option<LineSlip>
+    ensures { result ≡ header_slip (each (λ row. row.now) rows.now) }
+{
+    if has_first_line(rows) {
+        common_slip(row_at(rows, 1))
+    } else {
+        None
     }
+}
+
+/// The diagnostic for a first line that is another one than that of a certificate.
+fn first_line_error(alloc: Global, row: &[u8]) -> Result<Diagnostic, AllocError>
+    ensures { IfOk result (λ said. said ≡ first_line_error row.now) }
+{
     let message = Words::of(alloc, header_message(row))?;
     let words = "begin with the line cert 2, or cert 1 if masks have 8 digits, and end it with LF";
     let help = in_words(alloc, Words::of(alloc, words)?);
@@ -654,11 +795,95 @@ fn header_error(alloc: Global, text: &[u8], row: &[u8]) -> Result<Diagnostic, Al
     Ok(plain_error(alloc, Source::Certificate, Code::Header, at, message, help))
 }
 
+/// The diagnostic for a first line with this slip, or for one that is another one than that of a certificate.
+fn header_by(alloc: Global, slip: Option<LineSlip>, row: &[u8]) -> Result<Diagnostic, AllocError>
+    ensures { IfOk result (λ said. said ≡ header_by slip row.now) }
+{
+    match slip {
+        Some(slip) => slip_error(alloc, Code::Header, 16, 1, None, row, slip),
+        None => first_line_error(alloc, row),
+    }
+}
+
+/// The diagnostic for a text that does not begin as a certificate does.
+fn header_error(alloc: Global, text: &[u8], rows: &[&[u8]]) -> Result<Diagnostic, AllocError>
+    ensures { IfOk result (λ said. said ≡ header_error text.now (each (λ row. row.now) rows.now)) }
+{
+    if text.is_empty() {
+        return empty_error(alloc);
+    }
+    let row = row_at(rows, 1);
+    if ends_with_return(row) {
+        return return_error(alloc, Source::Certificate, Code::Header, 1, row);
+    }
+    header_by(alloc, header_slip(rows), row)
+}
+
 /// Whether the program has a task of this name.
 fn is_task(program: &Program, name: &[u8]) -> bool
     ensures { result ≡ is_task program.now name.now }
 {
     program.tasks().iter().any(|task| task.name.bytes() == name)
+}
+
+/// Whether a line is the line of a task that the program has.
+fn is_known_row(program: &Program, row: &[u8]) -> bool
+    ensures { result ≡ is_known_row program.now row.now }
+{
+    is_task_row(row) && is_task(program, name_of(row))
+}
+
+/// How many of some lines are lines of tasks that the program has.
+fn known_rows(program: &Program, rows: &[&[u8]]) -> usize
+    ensures { result ≡ count_by (is_known_row program.now) (each (λ row. row.now) rows.now) }
+{
+    let mut count = 0;
+    for row in rows {
+        if is_known_row(program, row) {
+            count += 1;
+        }
+    }
+    count
+}
+
+/// Whether a certificate that names this many tasks is of another program, which has this many of them: it lacks several, and
+/// more than it has.
+fn is_of_another(named: usize, known: usize) -> bool
+    ensures { result ≡ is_of_another named known }
+{
+    let unknown = named.saturating_sub(known);
+    unknown > 1 && known < unknown
+}
+
+/// How many tasks a certificate of another program names, and how many of them the program has.
+fn another_message(alloc: Global, named: usize, known: usize) -> Result<Words, AllocError>
+    ensures { IfOk result (λ words. words ≡ another_message named known) }
+{
+    words!(in alloc; "this looks like a certificate of another program: the program has {known} of the {named} tasks that it names")
+}
+
+/// The diagnostic for a certificate of another program, at the line of the first task that is not the next one.
+fn another_error(
+    alloc: Global,
+    rows: &[&[u8]],
+    number: usize,
+    named: usize,
+    known: usize,
+) -> Result<Diagnostic, AllocError>
+    ensures { IfOk result (λ said. said ≡ another_error (each (λ row. row.now) rows.now) number named known) }
+{
+    let row = row_at(rows, number);
+    let at = span(number, 5, row.len().saturating_sub(5));
+    let message = another_message(alloc, named, known)?;
+    let help = anew(alloc)?;
+    Ok(plain_error(
+        alloc,
+        Source::Certificate,
+        Code::TaskName,
+        at,
+        message,
+        help,
+    ))
 }
 
 /// What is wrong with a `task` line.
@@ -672,13 +897,13 @@ fn task_message(alloc: Global, next: Option<&str>) -> Result<Words, AllocError>
 }
 
 /// The diagnostic for a line of another task than the next one.
-fn task_error(
+fn name_error(
     alloc: Global,
     program: &Program,
     rows: &[&[u8]],
     number: usize,
 ) -> Result<Diagnostic, AllocError>
-    ensures { IfOk result (λ said. said ≡ task_error program.now (each (λ row. row.now) rows.now) number) }
+    ensures { IfOk result (λ said. said ≡ name_error program.now (each (λ row. row.now) rows.now) number) }
 {
     let row = row_at(rows, number);
     let at = span(number, 5, row.len().saturating_sub(5));
@@ -696,6 +921,25 @@ fn task_error(
         message,
         help,
     ))
+}
+
+/// The diagnostic for a line of another task than the next one, or for the certificate if it is of another program.
+#[tactic(auto, unfolding(crate::specs::RefusedCertificates::task_error))]
+fn task_error(
+    alloc: Global,
+    program: &Program,
+    rows: &[&[u8]],
+    number: usize,
+) -> Result<Diagnostic, AllocError>
+    ensures { IfOk result (λ said. said ≡ task_error program.now (each (λ row. row.now) rows.now) number) }
+{
+    let judged = front_rows(rows, MOST_JUDGED);
+    let named = task_rows(judged);
+    let known = known_rows(program, judged);
+    if is_of_another(named, known) {
+        return another_error(alloc, rows, number, named, known);
+    }
+    name_error(alloc, program, rows, number)
 }
 
 /// The diagnostic for a certificate that ends before a task.
@@ -765,6 +1009,15 @@ fn shape_error(alloc: Global, rows: &[&[u8]]) -> Result<Diagnostic, AllocError>
     Ok(plain_error(alloc, Source::Certificate, Code::Shape, at, message, help))
 }
 
+/// A list of one diagnostic.
+fn alone(alloc: Global, said: Diagnostic) -> Result<Vec<Diagnostic>, AllocError>
+    ensures { IfOk result (λ list. list.items ≡ said ∷ []) }
+{
+    let mut list = Vec::new(alloc);
+    list.push(said)?;
+    Ok(list)
+}
+
 /// The diagnostics for the text of a certificate that is refused with this fault.
 pub(crate) fn refused_error(
     alloc: Global,
@@ -775,15 +1028,12 @@ pub(crate) fn refused_error(
     ensures { IfOk result (λ list. list.items ≡ refused_error program.now text.now fault) }
 {
     let rows = lines_of(alloc, text)?;
-    let said = match fault {
-        CertFault::Header => header_error(alloc, text, row_at(&rows, 1))?,
-        CertFault::Line(number) => return line_errors(alloc, program, text, &rows, number),
-        CertFault::TaskName(number) => task_error(alloc, program, &rows, number)?,
-        CertFault::MissingTask => missing_error(alloc, program, &rows)?,
-        CertFault::Shape => shape_error(alloc, &rows)?,
-        CertFault::OutOfMemory => return Err(AllocError),
-    };
-    let mut list = Vec::new(alloc);
-    list.push(said)?;
-    Ok(list)
+    match fault {
+        CertFault::Header => alone(alloc, header_error(alloc, text, &rows)?),
+        CertFault::Line(number) => line_errors(alloc, program, text, &rows, number),
+        CertFault::TaskName(number) => alone(alloc, task_error(alloc, program, &rows, number)?),
+        CertFault::MissingTask => alone(alloc, missing_error(alloc, program, &rows)?),
+        CertFault::Shape => alone(alloc, shape_error(alloc, &rows)?),
+        CertFault::OutOfMemory => Err(AllocError),
+    }
 }

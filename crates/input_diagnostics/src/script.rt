@@ -176,7 +176,7 @@ fn word_remedy(
 }
 
 /// What to do about a part: to remove it, in these words.
-fn remove_help(alloc: Global, words: &str, at: Span) -> Result<Help, AllocError>
+pub(crate) fn remove_help(alloc: Global, words: &str, at: Span) -> Result<Help, AllocError>
     ensures { IfOk result (λ help. help ≡ by_text words.now at []) }
 {
     let message = Words::of(alloc, words)?;
@@ -202,7 +202,7 @@ fn is_in_word(byte: Option<u8>) -> bool
 }
 
 /// Whether a tab or a comma with `before` bytes in front of it separates two words.
-fn is_between(line: &[u8], before: usize) -> bool
+pub(crate) fn is_between(line: &[u8], before: usize) -> bool
     ensures { result ≡ is_between line.now before }
 {
     is_in_word(byte_at(line, before.saturating_sub(1)))
@@ -210,7 +210,7 @@ fn is_between(line: &[u8], before: usize) -> bool
 }
 
 /// What to do about a tab or a comma.
-fn separator_help(alloc: Global, between: bool, at: Span) -> Result<Help, AllocError>
+pub(crate) fn separator_help(alloc: Global, between: bool, at: Span) -> Result<Help, AllocError>
     ensures { IfOk result (λ help. help ≡ separator_help between at) }
 {
     if !between {

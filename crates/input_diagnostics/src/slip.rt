@@ -69,7 +69,7 @@ fn strict_part(line: &[u8]) -> Option<usize>
 }
 
 /// How many bytes stand in front of the first space that separates no two words.
-fn stray_space(line: &[u8]) -> Option<usize>
+pub(crate) fn stray_space(line: &[u8]) -> Option<usize>
     ensures { result ≡ stray_space false 0 line.now }
 {
     let mut word = false;
@@ -91,7 +91,7 @@ fn has_byte_order_mark(line: &[u8]) -> bool
 }
 
 /// How many bytes stand in front of the first tab.
-fn tab_in(line: &[u8]) -> Option<usize>
+pub(crate) fn tab_in(line: &[u8]) -> Option<usize>
     ensures { result ≡ position is_tab line.now }
 {
     line.iter().position(|byte| *byte == b'\t')

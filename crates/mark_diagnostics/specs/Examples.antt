@@ -23,18 +23,18 @@ use Rattle.mark_subjects.specs.MarkPlaces.{mark_from}
 use Rattle.mark_subjects.specs.Spellings.{spelled, first_spelling, names_in}
 use Rattle.mark_diagnostics.specs.Told.{told, leaders, begins_with}
 use Rattle.exit_diagnostics.specs.declared.meant_stop.MeantStop.TheVariants.{Edge, AtHalt}
-use Rattle.mark_subjects.specs.Stops.{missing_stop}
+use Rattle.mark_subjects.specs.Stops.{bit_text, missing_stop}
 use Rattle.mark_subjects.specs.Steps.{entered, stop_text, end_advice}
 use Rattle.mark_subjects.specs.Targets.{is_target, both}
 use Rattle.mark_subjects.specs.Parts.{in_words, steps_of}
-use Rattle.exit_diagnostics.specs.Meant.{meant, may_end, later_meant, edge_stop, edge_name, edge_advice, halt_advice}
+use Rattle.exit_diagnostics.specs.Meant.{meant, leads_to_targets, later_meant, edge_stop, edge_name, edge_advice, halt_advice}
 use Rattle.mark_diagnostics.specs.Masks.{widened}
 use Rattle.mark_diagnostics.specs.Releases.{names_no_index, release_text}
 use Rattle.mark_diagnostics.specs.Sending.{later, later_by, elsewhere, first_left, side, advice, whole_advice, kept}
 use Rattle.exit_diagnostics.specs.Slots.{is_slot, slot_or}
 use Rattle.exit_diagnostics.specs.Exits.{exit_said}
 use Rattle.exit_diagnostics.specs.Remarks.{first_end}
-use Rattle.exit_diagnostics.specs.Returning.{returning, never_runs_help}
+use Rattle.exit_diagnostics.specs.Returning.{returning, coming_back, never_runs_help}
 use Rattle.mark_diagnostics.specs.Errors.{message_by}
 
 -- `count` without its stop, and with an empty create mask
@@ -101,14 +101,14 @@ pub both_ways : whole_advice ends_late released_early (codes "remove it") (Is 0)
 unfolding digits names_in
 both_ways = refl
 
--- Where the instruction behind the loop releases $8, that release is left, and none is put there; and where one in the loop
+-- Where the instruction after the loop releases $8, that release is left, and none is put there; and where one in the loop
 -- releases $8 and $9, it keeps $9 alone, which is not written after it.
 
-abbrev pub releasing : (inside behind : ℕ) → Judged
-releasing inside behind = record (masked judged) {
+abbrev pub releasing : (inside after : ℕ) → Judged
+releasing inside after = record (masked judged) {
   program = record unstopped {
     code = forwards (Imm Addiu 8 8 (pos 1)) ∷ bare (Release inside) ∷ bare (Imm Slti 10 8 (pos 4))
-        ∷ bare (BranchTwo Bne 10 0 0) ∷ bare (Release behind) ∷ bare Halt ∷ [];
+        ∷ bare (BranchTwo Bne 10 0 0) ∷ bare (Release after) ∷ bare Halt ∷ [];
     tasks = (record { name = 65 ∷ []; entry = 0; create = 0; targets = 0 ∷ [] })
         ∷ (record { name = 66 ∷ []; entry = 5; create = 0; targets = [] }) ∷ [];
   };
@@ -175,7 +175,7 @@ tasks_with targets = record judged {
 pub edge_back : meant (tasks_with (0 ∷ [])) 0 3 4 ≡ Edge true 0
 edge_back = refl
 
-pub branch_may_end : may_end (tasks_with (0 ∷ 4 ∷ [])) 0 3 ≡ true
+pub branch_may_end : leads_to_targets (tasks_with (0 ∷ 4 ∷ [])) 0 3 ≡ true
 branch_may_end = refl
 
 -- before the `halt` no stop may be meant
@@ -271,6 +271,24 @@ f_returns = refl
 pub not_to_f : returning calling 2 ≡ None
 not_to_f = refl
 
+pub f_comes_back : coming_back calling 0 ≡ Some 2
+f_comes_back = refl
+
+-- Where the call does not end its task, that comes back, though a task begins at what is called.
+
+abbrev pub calling_inside : Judged
+calling_inside = record judged {
+  program = record unstopped {
+    code = bare (JumpLink 2) ∷ bare Halt ∷ (record { op = JumpReg 31; forward = false; stop = stop.Always }) ∷ [];
+    tasks = (record { name = codes "f"; entry = 2; create = 0; targets = [] })
+        ∷ (record { name = codes "main"; entry = 0; create = 0; targets = [] }) ∷ [];
+  };
+  least = ((2, 0) ∷ []) ∷ ((0, 0) ∷ (2, 0) ∷ []) ∷ [];
+}
+
+pub main_comes_back : coming_back calling_inside 0 ≡ Some 1
+main_comes_back = refl
+
 pub f_lists_it : (never_runs_help calling 1).message
     ≡ codes "task f leaves through jr, but lists no target: write targets=back, where the call on line 1 returns; or write .start back, in place of another .start, or make it a target of another task"
 unfolding digits
@@ -289,11 +307,14 @@ loads = record judged {
 pub one_step : steps_of loads (0 ∷ 1 ∷ 2 ∷ []) ≡ (record { line = 7; column = 1; width = 6 }) ∷ (record { line = 8; column = 1; width = 4 }) ∷ []
 one_step = refl
 
--- A forward bit is taken out with the blank before it; a release without registers is taken out, too, but where a task
+-- A forward bit is taken out with the blank before it, and put before a stop; a release without registers is taken out, too, but where a task
 -- begins it is a nop.
 
 pub mark_found : mark_from (byte "f") 0 (codes "addiu $8,$8,1 !f") ≡ Some 14
 mark_found = refl
+
+pub before_the_stop : bit_text (mark_from (byte "s") 0 (codes "jal F !s")) ≡ codes "!f "
+before_the_stop = refl
 
 pub no_release : release_text judged 1 [] ≡ []
 no_release = refl

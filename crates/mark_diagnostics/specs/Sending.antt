@@ -1,5 +1,6 @@
 -- A register that is sent too early, forwarded (rule 6) or released (rule 7): what to do, and where it is written again.
-use Rattle.std.specs.Prelude.{ℕ, Bool, true, false, not, ◌&&◌, ◌||◌, nat_eq, nat_le, nat_lt, List, [], ◌∷◌, ◌++◌, codes, length, slice_get, Option, Some, None, if◌then◌else◌}
+use Rattle.std.specs.Prelude.{ℕ, Bool, true, false, not, ◌&&◌, ◌||◌, nat_eq, nat_le, nat_lt, List, [], ◌∷◌, ◌++◌, codes, length, slice_get, option_map, Option, Some, None, if◌then◌else◌}
+use Rattle.std.specs.List.{find}
 use Rattle.std.specs.Option.{option_or}
 use Rattle.std.specs.Fmt.{decimal}
 use Rattle.std.specs.Str.{byte}
@@ -14,9 +15,10 @@ use Rattle.diagnostics.specs.declared.diagnostic.Help.{Help}
 use Rattle.diagnostics.specs.declared.diagnostic.Replacement.{Replacement}
 use Rattle.mark_diagnostics.specs.declared.later.Later.{Later}
 use Rattle.mark_diagnostics.specs.declared.later.Later.TheVariants.{Nowhere, Left, Is, Sent, Put}
-use Rattle.mark_subjects.specs.Subjects.{Judged, register_text, which, entries_of, is_entry, label_at, forwards, releases, inner_end, instruction_span, after}
+use Rattle.mark_subjects.specs.Subjects.{Judged, register_text, which, entries_of, is_entry, label_at, forwards, releases, inner_end, instruction_span}
 use Rattle.mark_subjects.specs.MarkPlaces.{mark_span}
 use Rattle.mark_subjects.specs.Parts.{take_out, path_note, last_or}
+use Rattle.mark_subjects.specs.Stops.{bit_put}
 use Rattle.mark_diagnostics.specs.Told.{register_in}
 use Rattle.mark_diagnostics.specs.Releases.{release_text, in_place, release_written}
 
@@ -48,7 +50,7 @@ may_forward_in None s task i = false
 abbrev pub may_forward : Judged → (task index : ℕ) → Bool
 may_forward s task i = may_forward_in (slice_get s.program.code i) s task i
 
--- an instruction forwards the register
+-- an instruction writes the register
 abbrev pub written_in : Option Marked → (register : ℕ) → Bool
 written_in None r = false
 written_in (Some m) r = dests m.op r
@@ -56,6 +58,7 @@ written_in (Some m) r = dests m.op r
 abbrev pub writes : Judged → (index register : ℕ) → Bool
 writes s i r = written_in (slice_get s.program.code i) r
 
+-- and forwards it
 abbrev pub forwards_it : Judged → (index register : ℕ) → Bool
 forwards_it s i r = forwards s i && writes s i r
 
@@ -63,28 +66,14 @@ forwards_it s i r = forwards s i && writes s i r
 abbrev pub releases_last : Judged → (task register index : ℕ) → Bool
 releases_last s task r i = releases s i r && not (written_after s task i r)
 
-abbrev pub release_by : Judged → (task register : ℕ) → ℕ × ℕ → Option ℕ
-release_by s task r entry = if releases_last s task r entry.0 then Some entry.0 else None
-
-abbrev pub first_release : Judged → (task register : ℕ) → List (ℕ × ℕ) → Option ℕ
-first_release s task r [] = None
-first_release s task r (entry ∷ entries) = option_or (release_by s task r entry) (first_release s task r entries)
-
 abbrev pub last_release : Judged → (task register : ℕ) → Option ℕ
-last_release s task r = first_release s task r (entries_of s task)
+last_release s task r = option_map (λ e. e.0) (find (λ e. releases_last s task r e.0) (entries_of s task))
 
 abbrev pub forwards_last : Judged → (task register index : ℕ) → Bool
 forwards_last s task r i = forwards_it s i r && not (written_after s task i r)
 
-abbrev pub forward_by : Judged → (task register : ℕ) → ℕ × ℕ → Option ℕ
-forward_by s task r entry = if forwards_last s task r entry.0 then Some entry.0 else None
-
-abbrev pub first_forward : Judged → (task register : ℕ) → List (ℕ × ℕ) → Option ℕ
-first_forward s task r [] = None
-first_forward s task r (entry ∷ entries) = option_or (forward_by s task r entry) (first_forward s task r entries)
-
 abbrev pub last_forward : Judged → (task register : ℕ) → Option ℕ
-last_forward s task r = first_forward s task r (entries_of s task)
+last_forward s task r = option_map (λ e. e.0) (find (λ e. forwards_last s task r e.0) (entries_of s task))
 
 -- Else where the register is not written any more, as after a loop: the first instruction to which the task goes on from
 -- one that does not forward it and from which on it may be written, while from there on it may not; a task that begins
@@ -144,7 +133,7 @@ later s f path =
 
 -- the forward bit that is put there
 abbrev pub put_bit : Judged → Later → List Replacement
-put_bit s (Put at) = record { span = after (instruction_span s at); text = codes " !f" } ∷ []
+put_bit s (Put at) = bit_put s at ∷ []
 put_bit s _ = []
 
 -- Another way, on which the register is not written: from the mark on, the first place to which the task goes on from an
@@ -171,7 +160,7 @@ side s f = unless_released (last_release s f.task (register_in f.reg)) (first_si
 -- before an instruction, and after its label
 abbrev pub before_text : Option (List ℕ) → (line : ℕ) → List ℕ
 before_text None line = codes "before line " ++ decimal line
-before_text (Some label) line = codes "at " ++ label
+before_text (Some label) line = codes "at " ++ (label ++ (codes " (line " ++ (decimal line ++ codes ")")))
 
 abbrev pub put_release : Judged → (index : ℕ) → (name : List ℕ) → List ℕ
 put_release s j name = codes "put release " ++ (name ++ (codes " " ++ before_text (label_at s j) (instruction_span s j).line))

@@ -1,9 +1,9 @@
 -- A last update without a forward bit: later tasks wait for it, or for the release that comes next.
-use Rattle.std.specs.Prelude.{ℕ, false, not, ◌&&◌, List, ◌++◌, codes, Option, Some, None, if◌then◌else◌}
+use Rattle.std.specs.Prelude.{ℕ, false, not, ◌&&◌, List, [], ◌∷◌, ◌++◌, codes, Option, Some, None, if◌then◌else◌}
 use Rattle.std.specs.Fmt.{decimal}
 use Rattle.diagnostics.specs.declared.diagnostic.Help.{Help}
-use Rattle.mark_subjects.specs.Subjects.{Judged, registers_text, which, releases, inner_end, instruction_span, after}
-use Rattle.mark_subjects.specs.Parts.{by_text}
+use Rattle.mark_subjects.specs.Subjects.{Judged, registers_text, which, releases, inner_end, instruction_span}
+use Rattle.mark_subjects.specs.Stops.{bit_put}
 use Rattle.mark_diagnostics.specs.Sending.{is_none_left, writes}
 
 -- the instruction that comes next, if it releases all that this one writes
@@ -31,4 +31,4 @@ update_advice s i None = codes "add !f here"
 update_advice s i (Some k) = and_out (registers_text s (which (writes s i))) (instruction_span s k).line
 
 abbrev pub update_help : Judged → (index : ℕ) → Help
-update_help s i = by_text (update_advice s i (released_next s i)) (after (instruction_span s i)) (codes " !f")
+update_help s i = record { message = update_advice s i (released_next s i); replacements = bit_put s i ∷ [] }

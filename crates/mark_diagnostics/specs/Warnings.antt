@@ -32,7 +32,7 @@ use Rattle.exit_diagnostics.specs.Slots.{is_slot, slot_text}
 use Rattle.mark_diagnostics.specs.Together.{told_marks}
 use Rattle.mark_diagnostics.specs.Updates.{released_next, update_text, update_help}
 use Rattle.exit_diagnostics.specs.Remarks.{untaken, first_untaken, not_taken_help, no_exit_help, stop_remarks}
-use Rattle.exit_diagnostics.specs.Returning.{never_runs_help}
+use Rattle.exit_diagnostics.specs.Returning.{coming_back, never_runs_help}
 use Rattle.mark_subjects.specs.More.{more_note}
 
 abbrev pub code_of : Remark → Code
@@ -129,11 +129,19 @@ before_help s i registers = record {
 }
 
 -- code that no task reaches: a call before it may come back to it; one instruction may be meant as a delay slot
-abbrev pub called_text : (line : ℕ) → List ℕ
-called_text line = codes "let a task begin here, as a target: the call on line " ++ (decimal line ++ codes " may come back to it")
+abbrev pub coming_text : Judged → Option ℕ → List ℕ
+coming_text s None = codes "the task that comes back"
+coming_text s (Some task) = codes "task " ++ task_name s task
+
+abbrev pub called_text : (line : ℕ) → (task : List ℕ) → List ℕ
+called_text line task =
+    codes "let a task begin here, as a target of " ++ (task ++ (codes ": the call on line " ++ (decimal line ++ codes " may come back to it")))
+
+abbrev pub after_call_text : Judged → (call : ℕ) → List ℕ
+after_call_text s i = called_text (instruction_span s i).line (coming_text s (coming_back s i))
 
 abbrev pub stretch_text : Judged → (index : ℕ) → (others : List ℕ) → List ℕ
-stretch_text s i others = if is_end (back s (i - 1)) i then called_text (instruction_span s (i - 1)).line else others
+stretch_text s i others = if is_end (back s (i - 1)) i then after_call_text s (i - 1) else others
 
 -- words that propose to remove it, unless a place is given as @n, which would then be another
 abbrev pub removal : Judged → (words : List ℕ) → List ℕ

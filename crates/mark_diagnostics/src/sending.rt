@@ -1,8 +1,10 @@
 //! A register that is sent too early: what to do, and where it is written again.
 
 ghost use Rattle.std.specs.Prelude.{◌≡◌, ◌<◌, ◌++◌, IfOk, OnOk};
-ghost use Rattle.mark_subjects.specs.Subjects.{which};
-ghost use Rattle.mark_diagnostics.specs.Sending.{written_from, written_after, must_wait, is_none_left, may_forward, forwards_it, releases_last, release_by, first_release, last_release, forwards_last, forward_by, first_forward, last_forward, is_left, left_from, left_by, first_left, is_or, left_or, released_or, elsewhere, sent_by, put_or, later, put_bit, writes as writes_of, side_by, first_side, unless_released, side, before_text, put_release, put_text, is_text, left_text, nowhere_text, advice, side_text, is_sent, beside, whole_advice, forward_help, kept, release_help, again_text, again_note, early_notes};
+ghost use Rattle.std.specs.List.{find};
+ghost use Rattle.std.specs.Option.{option_copied};
+ghost use Rattle.mark_subjects.specs.Subjects.{entries_of, which};
+ghost use Rattle.mark_diagnostics.specs.Sending.{written_from, written_after, must_wait, is_none_left, may_forward, forwards_it, releases_last, last_release, forwards_last, last_forward, is_left, left_from, left_by, first_left, is_or, left_or, released_or, elsewhere, sent_by, put_or, later, put_bit, writes as writes_of, side_by, first_side, unless_released, side, before_text, put_release, put_text, is_text, left_text, nowhere_text, advice, side_text, is_sent, beside, whole_advice, forward_help, kept, release_help, again_text, again_note, early_notes};
 
 use crate::later::Later;
 use crate::release::{in_place, release_words, release_written};
@@ -14,7 +16,8 @@ use diagnostics::words::Words;
 use mark_checker::finding::Finding;
 use mark_subjects::mark_place::mark_span;
 use mark_subjects::parts::{last_or, path_note, registers_where, take_out};
-use mark_subjects::subject::{Made, Subject, after, has_number};
+use mark_subjects::put_stop::bit_put;
+use mark_subjects::subject::{Made, Subject, has_number};
 use mips_instructions::number::RegSet;
 use std::alloc::Global;
 use task_descriptor::descriptor::Marked;
@@ -98,34 +101,15 @@ fn releases_last(subject: &Subject, task: u32, register: u8, index: u32) -> bool
     subject.releases(index, register) && !written_after(subject, task, index, register)
 }
 
-/// An entry of a task that does so.
-fn release_by(subject: &Subject, task: u32, register: u8, entry: &(u32, RegSet)) -> Option<u32>
+/// The first entry of a task that does so.
+fn releasing_entry<'a>(subject: &'a Subject, task: u32, register: u8) -> Option<&'a (u32, RegSet)>
     requires { register < 34 }
-    ensures { result ≡ release_by subject.now task register entry.now }
+    ensures { option_copied result ≡ find (λ e. releases_last subject.now task register e.0) (entries_of subject.now task) }
 {
-    if releases_last(subject, task, register, entry.0) {
-        Some(entry.0)
-    } else {
-        None
-    }
-}
-
-/// The first of these.
-fn first_release(
-    subject: &Subject,
-    task: u32,
-    register: u8,
-    entries: &[(u32, RegSet)],
-) -> Option<u32>
-    requires { register < 34 }
-    ensures { result ≡ first_release subject.now task register entries.now }
-{
-    for entry in entries {
-        if let Some(index) = release_by(subject, task, register, entry) {
-            return Some(index);
-        }
-    }
-    None
+    let entries = subject.entries(task);
+    entries
+        .iter()
+        .find(|entry| releases_last(subject, task, register, entry.0))
 }
 
 /// The first release of a register after which the task does not write it.
@@ -133,7 +117,10 @@ fn last_release(subject: &Subject, task: u32, register: u8) -> Option<u32>
     requires { register < 34 }
     ensures { result ≡ last_release subject.now task register }
 {
-    first_release(subject, task, register, subject.entries(task))
+    match releasing_entry(subject, task, register) {
+        Some(entry) => Some(entry.0),
+        None => None,
+    }
 }
 
 /// Whether an instruction forwards a register, and the task does not write it after that.
@@ -144,34 +131,15 @@ fn forwards_last(subject: &Subject, task: u32, register: u8, index: u32) -> bool
     forwards_it(subject, index, register) && !written_after(subject, task, index, register)
 }
 
-/// An entry of a task that does so.
-fn forward_by(subject: &Subject, task: u32, register: u8, entry: &(u32, RegSet)) -> Option<u32>
+/// The first entry of a task that does so.
+fn forwarding_entry<'a>(subject: &'a Subject, task: u32, register: u8) -> Option<&'a (u32, RegSet)>
     requires { register < 34 }
-    ensures { result ≡ forward_by subject.now task register entry.now }
+    ensures { option_copied result ≡ find (λ e. forwards_last subject.now task register e.0) (entries_of subject.now task) }
 {
-    if forwards_last(subject, task, register, entry.0) {
-        Some(entry.0)
-    } else {
-        None
-    }
-}
-
-/// The first of these.
-fn first_forward(
-    subject: &Subject,
-    task: u32,
-    register: u8,
-    entries: &[(u32, RegSet)],
-) -> Option<u32>
-    requires { register < 34 }
-    ensures { result ≡ first_forward subject.now task register entries.now }
-{
-    for entry in entries {
-        if let Some(index) = forward_by(subject, task, register, entry) {
-            return Some(index);
-        }
-    }
-    None
+    let entries = subject.entries(task);
+    entries
+        .iter()
+        .find(|entry| forwards_last(subject, task, register, entry.0))
 }
 
 /// The first instruction that forwards a register, and after which the task does not write it.
@@ -179,7 +147,10 @@ fn last_forward(subject: &Subject, task: u32, register: u8) -> Option<u32>
     requires { register < 34 }
     ensures { result ≡ last_forward subject.now task register }
 {
-    first_forward(subject, task, register, subject.entries(task))
+    match forwarding_entry(subject, task, register) {
+        Some(entry) => Some(entry.0),
+        None => None,
+    }
 }
 
 /// Whether the end of an edge is an instruction from which on a task does not write a register any more.
@@ -330,9 +301,7 @@ fn add_bit(subject: &Subject, list: &mut Vec<Replacement>, later: Later) -> Made
     ensures { OnOk result (list.new.items ≡ list.old.items ++ put_bit subject.now later) }
 {
     if let Later::Put(at) = later {
-        let text = Words::of(subject.alloc(), " !f")?;
-        let span = after(subject.span(at));
-        list.push(Replacement { span, text })?;
+        list.push(bit_put(subject, at)?)?;
     }
     Ok(())
 }
@@ -403,7 +372,7 @@ fn before_words(alloc: Global, label: Option<Name>, line: u32) -> Made<Words>
     match label {
         Some(label) => {
             let label = label.as_str();
-            words!(in alloc; "at {label}")
+            words!(in alloc; "at {label} (line {line})")
         }
         None => words!(in alloc; "before line {line}"),
     }

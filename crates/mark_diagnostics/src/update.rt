@@ -7,10 +7,12 @@ ghost use Rattle.mark_diagnostics.specs.Updates.{released_by, released_next, onl
 
 use crate::sending::{is_none_left, writes};
 use diagnostics::diagnostic::Help;
+use diagnostics::listed::Listed;
 use diagnostics::words;
 use diagnostics::words::Words;
-use mark_subjects::parts::{by_text, registers_where, registers_words};
-use mark_subjects::subject::{Made, Subject, after};
+use mark_subjects::parts::{registers_where, registers_words};
+use mark_subjects::put_stop::bit_put;
+use mark_subjects::subject::{Made, Subject};
 use std::alloc::Global;
 
 /// Whether an instruction writes a register that another does not release.
@@ -105,8 +107,11 @@ fn update_advice(subject: &Subject, index: u32) -> Made<Words>
 pub(crate) fn update_help(subject: &Subject, index: u32) -> Made<Help>
     ensures { IfOk result (λ help. help ≡ update_help subject.now index) }
 {
-    let alloc = subject.alloc();
-    let advice = update_advice(subject, index)?;
-    let place = after(subject.span(index));
-    by_text(alloc, advice, place, Words::of(alloc, " !f")?)
+    let message = update_advice(subject, index)?;
+    let mut replacements = Vec::new(subject.alloc());
+    replacements.push(bit_put(subject, index)?)?;
+    Ok(Help {
+        message,
+        replacements: Listed::new(replacements),
+    })
 }

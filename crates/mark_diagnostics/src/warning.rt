@@ -6,7 +6,7 @@ ghost use Rattle.annotated_asm.specs.ProgramText.{parse};
 ghost use Rattle.annotator.specs.Least.{IsLeast};
 ghost use Rattle.mark_subjects.specs.Subjects.{targets_of, releases};
 ghost use Rattle.exit_diagnostics.specs.Remarks.{of_targets, of_start, of_step, of_task, stop_remarks};
-ghost use Rattle.mark_diagnostics.specs.Warnings.{code_of, span_of, never_text, was, sent_text, before_text, costly_text, goes_into_text, never_runs_text, not_taken_text, stop_text, message_of, is_never, created_in, produced, not_produced, is_before, still_released, sent_before, before_help, called_text, stretch_text, removal, onward_text, slot_or_else, slot_unreached_text, unreached_text, help_of, warning, warnings, AreMarkWarnings};
+ghost use Rattle.mark_diagnostics.specs.Warnings.{code_of, span_of, never_text, was, sent_text, before_text, costly_text, goes_into_text, never_runs_text, not_taken_text, stop_text, message_of, is_never, created_in, produced, not_produced, is_before, still_released, sent_before, before_help, coming_text, called_text, after_call_text, stretch_text, removal, onward_text, slot_or_else, slot_unreached_text, unreached_text, help_of, warning, warnings, AreMarkWarnings};
 
 use crate::error::MOST_SHOWN;
 use crate::mask::create_help;
@@ -20,7 +20,7 @@ use diagnostics::words;
 use diagnostics::words::Words;
 use exit_diagnostics::call::back;
 use exit_diagnostics::remark::{Remark, StopRemark};
-use exit_diagnostics::returning::never_runs_help;
+use exit_diagnostics::returning::{coming_back, never_runs_help};
 use exit_diagnostics::slot::{is_slot, slot_words};
 use exit_diagnostics::stop::{
     first_end, first_untaken, has_exit, has_indirect_exit, has_untaken, never_runs, no_exit_help,
@@ -322,11 +322,33 @@ fn before_help(subject: &Subject, index: u32, registers: &[u8]) -> Made<Help>
     })
 }
 
-/// What to do about code to which a call may come back.
-fn called_words(alloc: Global, line: u32) -> Made<Words>
-    ensures { IfOk result (λ words. words ≡ called_text line) }
+/// The task that comes back from a call, if it is known.
+fn coming_words(subject: &Subject, task: Option<u32>) -> Made<Words>
+    ensures { IfOk result (λ words. words ≡ coming_text subject.now task) }
 {
-    words!(in alloc; "let a task begin here, as a target: the call on line {line} may come back to it")
+    match task {
+        Some(task) => {
+            let name = subject.task(task);
+            words!(in subject.alloc(); "task {name}")
+        }
+        None => Words::of(subject.alloc(), "the task that comes back"),
+    }
+}
+
+/// To let a task begin where a call may come back to.
+fn called_words(alloc: Global, line: u32, task: &str) -> Made<Words>
+    ensures { IfOk result (λ words. words ≡ called_text line task.now) }
+{
+    words!(in alloc; "let a task begin here, as a target of {task}: the call on line {line} may come back to it")
+}
+
+/// What to do about code after a call.
+fn after_call_words(subject: &Subject, call: u32) -> Made<Words>
+    ensures { IfOk result (λ words. words ≡ after_call_text subject.now call) }
+{
+    let line = subject.span(call).line;
+    let task = coming_words(subject, coming_back(subject, call))?;
+    called_words(subject.alloc(), line, task.as_str())
 }
 
 /// What to do about code that no task reaches: for the call before it, or else.
@@ -335,7 +357,7 @@ fn stretch_words(subject: &Subject, index: u32, others: &str) -> Made<Words>
 {
     let before = index.saturating_sub(1);
     if is_end(back(subject, before), index) {
-        return called_words(subject.alloc(), subject.span(before).line);
+        return after_call_words(subject, before);
     }
     Words::of(subject.alloc(), others)
 }

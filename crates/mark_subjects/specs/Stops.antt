@@ -1,5 +1,5 @@
--- Stops that are written anew, and the stop that may be forgotten where an instruction goes on into the first instruction
--- of a task.
+-- Stops and forward bits that are written anew, and the stop that may be forgotten where an instruction goes on into the
+-- first instruction of a task.
 use Rattle.std.specs.Prelude.{ℕ, Bool, true, false, List, [], ◌++◌, codes, Option, Some, None}
 use Rattle.std.specs.Str.{byte}
 use Rattle.task_descriptor.specs.declared.descriptor.Stop.{Stop}
@@ -29,6 +29,21 @@ stop_put s i word = record {
   span = stop_place (stop_of s i) (instruction_span s i) (mark_from (byte "s") 0 (bytes_at s.rows (instruction_span s i)));
   text = blank_before (stop_of s i) ++ word;
 }
+
+-- A forward bit is written before the stop, as in the canonical text; where there is none, after the instruction.
+
+abbrev pub bit_place : Span → Option ℕ → Span
+bit_place span None = after span
+bit_place span (Some before) = record { line = span.line; column = column_after span.column before; width = 0 }
+
+abbrev pub bit_text : Option ℕ → List ℕ
+bit_text None = codes " !f"
+bit_text (Some before) = codes "!f "
+
+abbrev pub bit_put : Judged → (index : ℕ) → Replacement
+bit_put s i =
+    let found = mark_from (byte "s") 0 (bytes_at s.rows (instruction_span s i)) in
+    record { span = bit_place (instruction_span s i) found; text = bit_text found }
 
 -- the task that an inner edge leads into
 abbrev pub task_in : Judged → Option ℕ → Option ℕ

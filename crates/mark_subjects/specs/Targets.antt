@@ -33,9 +33,10 @@ new_by s task i taken = new_target s task (inner_end s i taken)
 abbrev pub new_targets : Judged → (task index : ℕ) → List ℕ
 new_targets s task i = both (new_by s task i false) (new_by s task i true)
 
--- with these, of which there are at most two, a task has at most 16 targets
+-- whether there are such targets
 abbrev pub lacks_some : Judged → (task index : ℕ) → Bool
 lacks_some s task i = is_some (new_by s task i false) || is_some (new_by s task i true)
 
+-- with these, of which there are at most two, a task has at most 16 targets
 abbrev pub may_stop : Judged → (task index : ℕ) → Bool
 may_stop s task i = not (lacks_some s task i) || nat_lt (length (targets_of s task)) 15

@@ -1,7 +1,7 @@
-//! Stops that are written anew, and the stop that may be forgotten.
+//! Stops and forward bits that are written anew, and the stop that may be forgotten.
 
 ghost use Rattle.std.specs.Prelude.{◌≡◌, IfOk};
-ghost use Rattle.mark_subjects.specs.Stops.{stop_width, stop_place, blank_before, stop_put, into, stop_word, missing_stop};
+ghost use Rattle.mark_subjects.specs.Stops.{stop_width, stop_place, blank_before, stop_put, bit_place, bit_text, bit_put, into, stop_word, missing_stop};
 
 use crate::mark_place::stop_mark;
 use crate::subject::{Made, Subject, after, column_after};
@@ -54,6 +54,42 @@ pub fn stop_put(subject: &Subject, index: u32, word: &str) -> Made<Replacement>
     Ok(Replacement {
         span: stop_place(stop, span, stop_mark(subject.rows(), span)),
         text: words!(in subject.alloc(); "{blank}{word}")?,
+    })
+}
+
+/// Where to write a forward bit, if a stop stands after this many bytes.
+fn bit_place(span: Span, stop: Option<usize>) -> Span
+    ensures { result ≡ bit_place span stop }
+{
+    match stop {
+        Some(before) => Span {
+            line: span.line,
+            column: column_after(span.column, before),
+            width: 0,
+        },
+        None => after(span),
+    }
+}
+
+/// What to write there.
+fn bit_text(stop: Option<usize>) -> &'static str
+    ensures { result.now ≡ bit_text stop }
+{
+    match stop {
+        Some(_) => "!f ",
+        None => " !f",
+    }
+}
+
+/// A forward bit that is written before the stop of an instruction, or after an instruction without one.
+pub fn bit_put(subject: &Subject, index: u32) -> Made<Replacement>
+    ensures { IfOk result (λ made. made ≡ bit_put subject.now index) }
+{
+    let span = subject.span(index);
+    let stop = stop_mark(subject.rows(), span);
+    Ok(Replacement {
+        span: bit_place(span, stop),
+        text: Words::of(subject.alloc(), bit_text(stop))?,
     })
 }
 

@@ -107,7 +107,7 @@ pub fn lacks_some(subject: &Subject, task: u32, index: u32) -> bool
     new_by(subject, task, index, false).is_some() || new_by(subject, task, index, true).is_some()
 }
 
-/// Whether a task has at most 16 targets with these.
+/// Whether a task has at most 16 targets with those that it lacks if it ends at an instruction.
 pub fn may_stop(subject: &Subject, task: u32, index: u32) -> bool
     ensures { result ≡ may_stop subject.now task index }
 {

@@ -2,8 +2,8 @@
 
 use crate::exports::{
     multiscalar_c_annotate, multiscalar_c_check, multiscalar_c_curve, multiscalar_c_demonstrate,
-    multiscalar_c_explain, multiscalar_c_print, multiscalar_c_replay, multiscalar_c_run_steps,
-    multiscalar_c_seq,
+    multiscalar_c_explain, multiscalar_c_print, multiscalar_c_replay,
+    multiscalar_c_replay_strictly, multiscalar_c_run_steps, multiscalar_c_seq,
 };
 
 // Two rounds are left out of the register that the mask lacks: rule 5 refuses it.
@@ -120,6 +120,21 @@ fn runs_machines(rt: HostRuntime) {
         &mut len,
     );
     assert!(rt; status < 4);
+    let status = multiscalar_c_replay_strictly(
+        rt.alloc(),
+        true,
+        2,
+        RIGHT,
+        b"",
+        b"assign A\nexec 0 : $8=5\n",
+        &mut out,
+        &mut len,
+    );
+    assert!(rt; status == 0);
+    assert!(rt;
+        out.as_slice()
+            .starts_with(b"as expected: 2 events; ".as_slice())
+    );
 }
 
 #[test]

@@ -65,9 +65,11 @@ token_help first =
     else (if first == byte "." then codes "a label begins with a letter or _; a directive has small letters"
     else codes "a line has names, registers, numbers, places, directives, marks and , : = ( ) -")))))
 
--- what to do about a byte that no text has: 239 begins a byte order mark, and 128 and more are of other alphabets
+-- what to do about a byte that cannot stand where it does: 239 begins a byte order mark, 13 is CR, and 128 and more are of
+-- other alphabets
 abbrev pub byte_help : (byte : ℕ) → List ℕ
 byte_help b =
     if b == 239 then codes "save the file as plain ASCII, without a byte order mark"
+    else (if b == 13 then codes "a CR stands only directly before the end of a line"
     else (if nat_lt b 128 then codes "a text has printable ASCII characters, spaces and tabs"
-    else codes "write an ASCII character in its place, such as - for a dash")
+    else codes "write an ASCII character in its place, such as - for a dash"))

@@ -1,10 +1,12 @@
 -- Texts that may be meant in place of what is wrong in a line.
-use Rattle.std.specs.Prelude.{ℕ, List, [], ◌∷◌, ◌++◌, filter, map, drop, length, nat_lt, codes, Bool, false, is_some, if◌then◌else◌, ◌==◌, ◌&&◌, ◌||◌}
+use Rattle.std.specs.Prelude.{ℕ, List, [], ◌∷◌, ◌++◌, filter, map, drop, length, nat_lt, codes, Bool, false, Option, Some, None, is_some, if◌then◌else◌, ◌==◌, ◌&&◌, ◌||◌}
 use Rattle.std.specs.Str.{byte, bytes_eq, str_to_ascii_lowercase}
+use Rattle.std.specs.Fmt.{decimal}
 use Rattle.program_tokens.specs.Numbers.{begins_with_digit}
 use Rattle.program_tokens.specs.Grammar.{is_name_start}
 use Rattle.mips_instructions.specs.InstructionTable.{word_of, every_mnemonic}
 use Rattle.diagnostics.specs.Near.{is_near}
+use Rattle.operand_forms.specs.BinaryNumbers.{binary_value}
 use Rattle.operand_forms.specs.ForeignWords.{instead}
 use Rattle.operand_forms.specs.Shapes.{directives, shape_of}
 use Rattle.syntax_tree.specs.declared.item.LineFaultKind.{LineFaultKind}
@@ -47,7 +49,8 @@ operand_candidates (b ∷ bs) =
     if b == byte "," then codes " " ∷ []
     else register_candidates (b ∷ bs) ++ ((codes "," ++ (b ∷ bs)) ∷ (codes "!" ++ (b ∷ bs)) ∷ [])
 
--- What is no token: it in small letters, the register of its digits, or the name of a label: `$L2` is L2.
+-- What is no token: it in small letters, the register of its digits, the name of a label, or the number of binary digits:
+-- `$L2` is L2, and `0b1111` is 15.
 abbrev pub is_dollar_name : List ℕ → Bool
 is_dollar_name (a ∷ b ∷ bs) = a == byte "$" && is_name_start b
 is_dollar_name _ = false
@@ -59,8 +62,13 @@ label_candidates meant = if is_dollar_name meant then drop 1 meant ∷ [] else [
 abbrev pub digit_candidates : List ℕ → List (List ℕ)
 digit_candidates meant = if bytes_eq meant (codes "+") then [] else (codes "$" ++ digits_of_register (drop 1 meant)) ∷ []
 
+abbrev pub number_candidates : Option ℕ → List (List ℕ)
+number_candidates None = []
+number_candidates (Some n) = decimal n ∷ []
+
 abbrev pub token_candidates : List ℕ → List (List ℕ)
-token_candidates meant = str_to_ascii_lowercase meant ∷ (digit_candidates meant ++ label_candidates meant)
+token_candidates meant =
+    str_to_ascii_lowercase meant ∷ (digit_candidates meant ++ (label_candidates meant ++ number_candidates (binary_value meant)))
 
 -- In place of a second `!f`: nothing.
 abbrev pub mark_candidates : List ℕ → List (List ℕ)

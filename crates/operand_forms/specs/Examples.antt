@@ -12,6 +12,7 @@ use Rattle.program_statements.specs.declared.fault.StatementFault.TheVariants as
 use Rattle.diagnostics.specs.Excerpt.{is_readable}
 use Rattle.diagnostics.specs.Quotations.{as_shown}
 use Rattle.operand_forms.specs.declared.shape.OperandShape.TheVariants as shape
+use Rattle.operand_forms.specs.BinaryNumbers.{binary_value}
 use Rattle.operand_forms.specs.Bytes.{span, whole_word}
 use Rattle.operand_forms.specs.Shapes.{shape_of}
 use Rattle.operand_forms.specs.Candidates.{label_candidates}
@@ -62,6 +63,13 @@ a_string = refl
 -- a label of a compiler
 pub a_dollar : label_candidates (codes "$L2") ≡ codes "L2" ∷ []
 a_dollar = refl
+
+-- binary digits; with 33 of them the number has more than 32 bits
+pub four_ones : binary_value (codes "0b1111") ≡ Some 15
+four_ones = refl
+
+pub too_many_bits : binary_value (codes "0b100000000000000000000000000000000") ≡ None
+too_many_bits = refl
 
 -- a directive that ends before _, and a mark in capitals
 pub a_directive : whole_word (codes "  .end_macro 2") (span 3 4) ≡ span 3 10

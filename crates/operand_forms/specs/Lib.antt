@@ -3,6 +3,7 @@ pub mod ShapeTexts
 pub mod Examples
 pub mod Rows
 pub mod Bytes
+pub mod BinaryNumbers
 pub mod Shapes
 pub mod ForeignWords
 pub mod Forms

@@ -73,7 +73,8 @@ places_and_numbers =
     ∷ ((codes " $8,$9,LABEL", codes "$,$,0"), codes "write the label of the instruction in place of F")
     ∷ ((codes " $8,$9,LABEL", codes "$,0,a"), codes "for 0 write A B,$0,F!; for another number write li $1,D and A B,$1,F!")
     ∷ ((codes " $8,$9,LABEL", codes "$,-,a"), codes "write li $1,D and A B,$1,F!")
-    ∷ ((codes ".word", codes "a+0"), codes "a word is a number: an address is loaded with la")
+    ∷ ((codes ".word", codes "a+0"), codes "a word is a number, not the address of a label: load the address with la where it is used; for a jump table write a branch for each case, or compile with -fno-jump-tables")
+    ∷ ((codes ".word", codes ".a"), codes "a word is a number, not the address of a label: load the address with la where it is used; for a jump table write a branch for each case, or compile with -fno-jump-tables")
     ∷ (([], codes "+0"), codes "write A C")
     ∷ (([], codes "$,+0"), codes "write A B,E!")
     ∷ (([], codes "$,$,+0"), codes "write A B,D,G!")
@@ -228,12 +229,12 @@ unfoldable pub foreign_row : (word form signs : List ℕ) → Option (List ℕ)
 foreign_row word form s = operand_row word form s of_others
 
 -- a constant, as in `size = 16`
-abbrev pub begins_name : (word : List ℕ) → Bool
-begins_name [] = false
-begins_name (b ∷ bs) = is_name_start b
+abbrev pub begins_as_name : (word : List ℕ) → Bool
+begins_as_name [] = false
+begins_as_name (b ∷ bs) = is_name_start b
 
 abbrev pub is_constant : (word signs : List ℕ) → Bool
-is_constant word s = begins_name word && (bytes_eq s (codes "=0") || bytes_eq s (codes "=-"))
+is_constant word s = begins_as_name word && (bytes_eq s (codes "=0") || bytes_eq s (codes "=-"))
 
 abbrev pub constant_row : (word signs : List ℕ) → Option (List ℕ)
 constant_row word s = if is_constant word s then Some (codes "there are no constants: write C where A is used") else None

@@ -171,12 +171,15 @@ pub fn token_help(first: u8) -> &'static str
     "a line has names, registers, numbers, places, directives, marks and , : = ( ) -"
 }
 
-/// What to do about a byte that no text has: 239 begins a byte order mark.
+/// What to do about a byte that cannot stand where it does: 239 begins a byte order mark.
 pub fn byte_help(byte: u8) -> &'static str
     ensures { result.now ≡ byte_help byte }
 {
     if byte == 239 {
         return "save the file as plain ASCII, without a byte order mark";
+    }
+    if byte == b'\r' {
+        return "a CR stands only directly before the end of a line";
     }
     if byte < 128 {
         return "a text has printable ASCII characters, spaces and tabs";

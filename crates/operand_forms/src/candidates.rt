@@ -4,12 +4,14 @@ ghost use Rattle.std.specs.Prelude.{◌≡◌, ◌++◌, ◌∷◌, [], map as e
 ghost use Rattle.program_tokens.specs.Numbers.{begins_with_digit};
 ghost use Rattle.mips_instructions.specs.InstructionTable.{word_of};
 ghost use Rattle.diagnostics.specs.Near.{is_near};
-ghost use Rattle.operand_forms.specs.Candidates.{is_known_word, near_statements, word_candidates, digits_of_register, register_candidates, operand_candidates, is_dollar_name, label_candidates, digit_candidates, token_candidates, mark_candidates, candidates};
+ghost use Rattle.operand_forms.specs.Candidates.{is_known_word, near_statements, word_candidates, digits_of_register, register_candidates, operand_candidates, is_dollar_name, label_candidates, digit_candidates, number_candidates, token_candidates, mark_candidates, candidates};
 
+use crate::binary_numbers::binary_value;
 use crate::foreign_words::instead;
 use crate::shape::{DIRECTIVES, OperandShape, shape_of};
 use crate::slices::after;
 use diagnostics::near::is_near;
+use diagnostics::words;
 use mips_instructions::instruction::{MNEMONICS, Mnemonic};
 use std::alloc::{AllocError, Global};
 use syntax_tree::item::LineFaultKind;
@@ -174,6 +176,18 @@ fn add_label(alloc: Global, list: &mut Vec<Vec<u8>>, meant: &[u8]) -> Result<(),
     Ok(())
 }
 
+/// Adds the decimal text of a number, if there is one.
+fn add_number(alloc: Global, list: &mut Vec<Vec<u8>>, number: Option<u32>) -> Result<(), AllocError>
+    ensures { OnOk result (each (λ text. text.items) list.new.items
+        ≡ each (λ text. text.items) list.old.items ++ number_candidates number) }
+{
+    if let Some(number) = number {
+        let text = words!(in alloc; "{number}")?;
+        return add(alloc, list, text.as_str().as_bytes(), &[]);
+    }
+    Ok(())
+}
+
 /// The texts that may be meant by what is no token.
 fn token_candidates(alloc: Global, meant: &[u8]) -> Result<Vec<Vec<u8>>, AllocError>
     ensures { IfOk result (λ list. each (λ text. text.items) list.items ≡ token_candidates meant.now) }
@@ -181,6 +195,7 @@ fn token_candidates(alloc: Global, meant: &[u8]) -> Result<Vec<Vec<u8>>, AllocEr
     let mut list = only(alloc, meant.to_ascii_lowercase(alloc)?)?;
     add_register(alloc, &mut list, meant)?;
     add_label(alloc, &mut list, meant)?;
+    add_number(alloc, &mut list, binary_value(meant))?;
     Ok(list)
 }
 

@@ -179,7 +179,7 @@ const WORDS: [(&str, &str); 85] = [
 ];
 
 /// Directives of other assemblers, marks, and what is no token, with what is written instead.
-const SIGNS: [(&str, &str); 72] = [
+const SIGNS: [(&str, &str); 73] = [
     ("dw", "write .word"),
     ("db", "write .byte"),
     (".dw", "write .word"),
@@ -191,6 +191,10 @@ const SIGNS: [(&str, &str); 72] = [
     (".short", "write .byte with the low and the high byte"),
     (".dword", "write .word with the low and then the high half"),
     (".quad", "write .word with the low and then the high half"),
+    (
+        ".gpword",
+        "a word is a number, not the address of a label: load the address with la where it is used; for a jump table write a branch for each case, or compile with -fno-jump-tables",
+    ),
     (
         ".float",
         "there is no floating point; write .word with the number's bits",
@@ -393,7 +397,7 @@ const OPERANDS: [((&str, &str), &str); 52] = [
     ((" $8,4($9)", "$"), "write an address as in 0($9)"),
     (
         (".word", "a"),
-        "a word is a number: an address is loaded with la",
+        "a word is a number, not the address of a label: load the address with la where it is used; for a jump table write a branch for each case, or compile with -fno-jump-tables",
     ),
     (
         (".byte", "a"),

@@ -2,6 +2,7 @@
 //! reads exactly these; the words of other assemblers, and the known words that are near an unknown one.
 #![tactic(auto)]
 
+mod binary_numbers;
 pub mod bytes;
 pub mod candidates;
 pub mod foreign_words;

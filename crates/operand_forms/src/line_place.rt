@@ -10,6 +10,7 @@ use crate::shape::{OperandShape, shape_of};
 use program_tokens::span::TokenSpan;
 use std::alloc::{AllocError, Global};
 use syntax_tree::item::LineFaultKind;
+use task_descriptor::name::begins_name;
 
 /// What stands after a label.
 const COLON: &[u8] = b":";
@@ -19,7 +20,7 @@ fn is_label(line: &[u8], name: TokenSpan, colon: TokenSpan) -> bool
     ensures { result ≡ is_label line.now name colon }
 {
     let first = byte_at(line, name);
-    (first == b'_' || first.is_ascii_alphabetic()) && bytes_at(line, colon) == COLON
+    begins_name(first) && bytes_at(line, colon) == COLON
 }
 
 /// The places after a line's labels.

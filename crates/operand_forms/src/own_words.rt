@@ -3,7 +3,7 @@
 ghost use Rattle.std.specs.Prelude.{◌≡◌, ◌++◌, IfOk, OnOk};
 ghost use Rattle.std.specs.List.{flat_map, list_any};
 ghost use Rattle.std.specs.Option.{option_map, option_or};
-ghost use Rattle.operand_forms.specs.OwnWords.{sign_of, signs, mark_text, marks_text, word_for, in_its_words, is_register_one, address_row, place_row, kind_row, foreign_row, begins_name, is_constant, constant_row, line_instead, line_words, own_words};
+ghost use Rattle.operand_forms.specs.OwnWords.{sign_of, signs, mark_text, marks_text, word_for, in_its_words, is_register_one, address_row, place_row, kind_row, foreign_row, begins_as_name, is_constant, constant_row, line_instead, line_words, own_words};
 
 use crate::bytes::{byte_at, bytes_at, whole_word};
 use crate::foreign_words::operand_row;
@@ -17,6 +17,7 @@ use diagnostics::quotation::as_shown;
 use diagnostics::words::Words;
 use program_tokens::span::TokenSpan;
 use std::alloc::{AllocError, Global};
+use task_descriptor::name::begins_name;
 
 // The tables: lines by the statement, or by all with these operands, or by any, and by the signs after the word: a number is
 // one of 0, a name one of a, and any other word one of its first byte. In a text A stands for the line's first word, B for
@@ -94,7 +95,7 @@ const ADDRESSES: [((&str, &str), &str); 34] = [
 ];
 
 /// Of places and numbers.
-const PLACES_AND_NUMBERS: [((&str, &str), &str); 30] = [
+const PLACES_AND_NUMBERS: [((&str, &str), &str); 31] = [
     (
         (" LABEL", "a+0"),
         "a place is one label: give the instruction that is meant a label of its own",
@@ -138,7 +139,11 @@ const PLACES_AND_NUMBERS: [((&str, &str), &str); 30] = [
     ((" $8,$9,LABEL", "$,-,a"), "write li $1,D and A B,$1,F!"),
     (
         (".word", "a+0"),
-        "a word is a number: an address is loaded with la",
+        "a word is a number, not the address of a label: load the address with la where it is used; for a jump table write a branch for each case, or compile with -fno-jump-tables",
+    ),
+    (
+        (".word", ".a"),
+        "a word is a number, not the address of a label: load the address with la where it is used; for a jump table write a branch for each case, or compile with -fno-jump-tables",
     ),
     (("", "+0"), "write A C"),
     (("", "$,+0"), "write A B,E!"),
@@ -419,17 +424,20 @@ fn first_of(first: Option<&'static str>, second: Option<&'static str>) -> Option
 }
 
 /// Whether a word begins as a name does.
-fn begins_name(word: &[u8]) -> bool
-    ensures { result ≡ begins_name word.now }
+fn begins_as_name(word: &[u8]) -> bool
+    ensures { result ≡ begins_as_name word.now }
 {
-    matches!(word, [b'_' | b'a'..=b'z' | b'A'..=b'Z', ..])
+    match word {
+        [first, ..] => begins_name(*first),
+        [] => false,
+    }
 }
 
 /// Whether a line with this word and these signs is a constant: a name, `=` and a number.
 fn is_constant(word: &[u8], signs: &[u8]) -> bool
     ensures { result ≡ is_constant word.now signs.now }
 {
-    begins_name(word) && (signs == "=0".as_bytes() || signs == "=-".as_bytes())
+    begins_as_name(word) && (signs == "=0".as_bytes() || signs == "=-".as_bytes())
 }
 
 /// What is written instead of a constant, if the line is one.

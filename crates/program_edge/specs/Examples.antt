@@ -24,7 +24,7 @@ use Rattle.program_edge.specs.Colouring.{colors_for}
 use Rattle.program_edge.specs.FileTexts.{but_there, opening_reason, program_name}
 use Rattle.program_edge.specs.Hints.{hint_for, hint_of}
 use Rattle.program_edge.specs.Refusals.{is_refusal}
-use Rattle.program_edge.specs.Telling.{said_of}
+use Rattle.program_edge.specs.Telling.{said_of, unread_fault}
 
 -- `-` is standard input, `./-` is not
 pub input : input_of (codes "-") ≡ 1
@@ -57,6 +57,11 @@ input_twice = refl
 pub missing : (unread : Unread) → string_bytes unread.path ≡ codes "a.s" → unread.reason ≡ NoSuchFile
     → said_of (Explained unread) ≡ codes "multiscalar: file a.s: no such file" ++ 10 ∷ []
 missing unread path reason = rw (path, reason) refl
+
+-- `check --least a.s`, where there is no such file
+pub missing_of_check : (workers : ℕ) (unread : Unread) → string_bytes unread.path ≡ codes "a.s" → unread.reason ≡ NoSuchFile
+    → said_of (unread_fault (Check Least workers) unread) ≡ codes "multiscalar: file a.s: no such file" ++ 10 ∷ []
+missing_of_check workers unread path reason = rw (path, reason) refl
 
 -- an open file is there, whatever a read of it says
 pub there : but_there (opening_reason kind.NotFound) ≡ Other

@@ -9,7 +9,8 @@ use Rattle.program_edge.specs.declared.unread.UnreadReason.{UnreadReason}
 use Rattle.program_edge.specs.declared.unread.UnreadReason.TheVariants as reason
 use Rattle.program_edge.specs.declared.unread.Unread.{Unread}
 use Rattle.jobs.specs.declared.job.Job.{Job}
-use Rattle.jobs.specs.declared.job.Job.TheVariants.{Explain}
+use Rattle.jobs.specs.declared.job.Job.TheVariants.{Check, Explain}
+use Rattle.jobs.specs.declared.job.CertificateSource.TheVariants.{Least}
 use Rattle.clap.specs.Values.{kind_of}
 use Rattle.command_line.specs.declared.words.UsageFault.{UsageFault}
 use Rattle.command_line.specs.declared.words.UsageFault.TheVariants as usage
@@ -88,10 +89,11 @@ IsTold fault status is_told output output' errors errors' =
     × Begins (if is_help fault then output else errors) (if is_help fault then output' else errors') (said_of fault)
     × Keeps (if is_help fault then errors else output) (if is_help fault then errors' else output')
 
--- the fault of a file that gives no text: only `explain` says why
+-- the fault of a file that gives no text: `explain` and `check --least` say why
 abbrev pub unread_fault : Job → Unread → Fault
 unread_fault (Explain name certificate script warnings format colors) unread =
     if bytes_eq (string_bytes unread.path) (string_bytes name) then NoProgram unread else Explained unread
+unread_fault (Check Least workers) unread = NoProgram unread
 unread_fault _ unread = File unread.path
 
 -- the fault of the words: of `clap`'s own faults the text that is made of it

@@ -19,7 +19,7 @@ use crate::texts::{NamedTexts, read_texts};
 use crate::told::{Answered, tell};
 use crate::unread::Unread;
 use command_line::request::Request;
-use jobs::job::{Job, Texts};
+use jobs::job::{CertificateSource, Job, Texts};
 use std::alloc::{AllocError, Global};
 use std::io::Write;
 use std::sync::Wait;
@@ -197,7 +197,7 @@ fn names_of(further: Vec<String>, program: String) -> Result<Vec<String>, AllocE
     Ok(names)
 }
 
-// The fault that is reported of a file that gives no text: only `explain` says why.
+// The fault that is reported of a file that gives no text: `explain` and `check --least` say why.
 fn fault_of_file(job: &Job, unread: Unread) -> Fault
     ensures { result ≡ unread_fault job.now unread }
 {
@@ -206,6 +206,10 @@ fn fault_of_file(job: &Job, unread: Unread) -> Fault
             Fault::NoProgram(unread)
         }
         Job::Explain { .. } => Fault::Explained(unread),
+        Job::Check {
+            certificate: CertificateSource::Least,
+            ..
+        } => Fault::NoProgram(unread),
         _ => Fault::File(unread.path),
     }
 }

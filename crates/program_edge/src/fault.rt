@@ -24,10 +24,10 @@ pub enum Fault {
     InputTwice,
     /// The file of this path can't be read, or is too long.
     File(String),
-    /// The certificate of `explain` can't be read, or is too long, for this reason.
+    /// The certificate or the script of `explain` can't be read, or is too long, for this reason.
     Explained(Unread),
-    /// The program of `explain` can't be read, or is too long, for this reason; of a folder the message also says how
-    /// to name its files.
+    /// The program of `explain` or of `check --least` can't be read, for this reason; of a folder the message also says
+    /// how to name its files.
     NoProgram(Unread),
     /// The job was not done.
     Serve(ServeFault),

@@ -1,15 +1,15 @@
--- Worked examples, computed by the checker: lengths, titles, a bar, marks, a stretch and its title.
+-- Worked examples, computed by the checker: lengths, titles, how a run stands, a bar, marks, a stretch and its title.
 use Rattle.std.specs.Prelude.{◌≡◌, ℕ, ◌+◌, ◌*◌, [], ◌∷◌, ◌++◌, Some, None, codes, replicate}
 use Rattle.std.specs.Fmt.{digits}
 use Rattle.std.proofs.Common.{refl}
-use Rattle.machine_model.specs.declared.event.Event.TheVariants.{Assign, Exec, Retire}
+use Rattle.machine_model.specs.declared.event.Event.TheVariants.{Assign, Exec, Drain, Retire}
 use Rattle.machine_model.specs.declared.event.Standing.TheVariants as standing
 use Rattle.task_lives.specs.declared.life.Ending.{Ending}
 use Rattle.task_lives.specs.declared.life.Ending.TheVariants.{Retired, Squashed, Dropped, Unfinished}
 use Rattle.task_lives.specs.declared.life.Life.{Life}
-use Rattle.run_picture.specs.declared.shape.Style.TheVariants.{Bar, Halted, Instruction}
+use Rattle.run_picture.specs.declared.shape.Style.TheVariants.{Arrow, Bar, Halted, Instruction}
 use Rattle.run_picture.specs.declared.shape.Geometry.TheVariants.{Rectangle, Line}
-use Rattle.run_picture.specs.declared.shape.Hover.TheVariants.{Nothing, OfLife, OfHalted}
+use Rattle.run_picture.specs.declared.shape.Hover.TheVariants.{Nothing, OfLife, OfHalted, OfDrain}
 use Rattle.run_picture.specs.declared.shape.Counted.TheVariants.{Events, Steps}
 use Rattle.run_picture.specs.Scales.{pixels_text, step_of, fitting_of}
 use Rattle.run_picture.specs.Bars.{bar_of, halted_unit_if}
@@ -18,6 +18,7 @@ use Rattle.run_picture.specs.Stretches.{hover_of, overlap, share_of}
 use Rattle.run_picture.specs.StretchTallies.{executed_from}
 use Rattle.run_picture.specs.ShapeText.{hover_text}
 use Rattle.run_picture.specs.Titles.{shown_name, title_text}
+use Rattle.run_picture.specs.WordsText.{standing_text}
 
 abbrev life : (task unit first last executed : ℕ) → Ending → Life
 life task unit first last executed ending = record {
@@ -55,6 +56,13 @@ name_with_signs = refl
 pub long_name : shown_name (replicate 61 97) ≡ replicate 60 97 ++ codes ".."
 long_name = refl
 
+pub unlisted : standing_text (standing.Unlisted 0x400010) ≡ codes "The run is unlisted: the head's task goes to 0x400010, which it does not list."
+unfolding digits
+unlisted = refl
+
+pub halted_run : standing_text standing.Halted ≡ codes "The run halted; the task that did so is counted as unfinished."
+halted_run = refl
+
 -- events 1 to 9 of 16, on unit 1: 72.5 pixels for each
 abbrev squashed : Life
 squashed = life 1 1 1 9 0 Squashed
@@ -82,6 +90,14 @@ said_of_halted = refl
 -- after a Retire the instruction at position 0 is one of unit 1
 pub marks_behind_retire : marks_of 2 4 (Assign 0 ∷ Retire ∷ Assign 0 ∷ Exec 0 ∷ []) ≡ record { style = Instruction; form = Line 110300 26100 110300 27000; hover = Nothing } ∷ []
 marks_behind_retire = refl
+
+-- in the second of four events unit 0, which has stopped, sends `$8`
+pub mark_of_drain : marks_of 2 4 (Assign 0 ∷ Drain 0 8 ∷ Retire ∷ Assign 0 ∷ []) ≡ record { style = Arrow; form = Line 52300 19300 52300 20600; hover = OfDrain Events 2 8 0 } ∷ []
+mark_of_drain = refl
+
+pub said_of_drain : hover_text [] (OfDrain Events 2 8 0) ≡ codes "<title>event 2: $8 is sent by unit 0, which has stopped</title>"
+unfolding digits
+said_of_drain = refl
 
 -- in stretches of 4 events, events 1 to 9 have 3, 4 and 2
 pub overlaps : overlap 4 0 squashed ∷ overlap 4 1 squashed ∷ overlap 4 2 squashed ∷ overlap 4 3 squashed ∷ [] ≡ 3 ∷ 4 ∷ 2 ∷ 0 ∷ []

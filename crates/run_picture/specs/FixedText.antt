@@ -5,7 +5,7 @@ use Rattle.std.specs.Prelude.{ℕ, List, [], ◌∷◌, ◌++◌, codes, flat_ma
 abbrev lines_text : List (List ℕ) → List ℕ
 lines_text lines = flat_map (λ line. line ++ 10 ∷ []) lines
 
--- the style of all shapes, light or dark, the patterns, the ground, and the legend of all bars
+-- the style of all shapes, light or dark, the patterns, the ground, and the legend of the bars of lives that ended
 unfoldable pub style_sheet : List ℕ
 style_sheet = lines_text (
     codes "<style>"
@@ -44,9 +44,10 @@ unfoldable pub marks_legend : List ℕ
 marks_legend = lines_text (
     codes "<rect class='unfinished' x='430' y='96' width='28' height='16'/><text x='466' y='109'>unfinished</text>"
     ∷ codes "<path class='instruction' d='M564 99v10M570 99v10M576 99v10'/><text x='586' y='109'>instruction</text>"
-    ∷ codes "<path class='transfer' d='M694 94V113'/><text x='706' y='109'>register to the next unit</text>"
-    ∷ codes "<path class='squash' d='M896 98h14l-7 11z'/><text x='918' y='109'>squash begins</text>"
-    ∷ codes "<rect class='halted' x='1038' y='96' width='28' height='16'/><text x='1074' y='109'>halted</text>"
+    ∷ codes "<path class='transfer' d='M694 94V113'/><text x='706' y='109'>register arrives</text>"
+    ∷ codes "<rect class='retired' x='836' y='96' width='16' height='16'/><path class='transfer' d='M844 99V112'/><text x='860' y='109'>sent at the exit</text>"
+    ∷ codes "<path class='squash' d='M982 98h14l-7 11z'/><text x='1004' y='109'>squash begins</text>"
+    ∷ codes "<rect class='halted' x='1116' y='96' width='28' height='16'/><text x='1152' y='109'>halted</text>"
     ∷ codes "</g>"
     ∷ [])
 

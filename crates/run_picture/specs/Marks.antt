@@ -1,8 +1,8 @@
--- The marks of single events: instructions, registers that go from one unit to the next, and where a squash
--- begins.
+-- The marks of single events: instructions, registers that go from one unit to the next or are sent by a stopped
+-- unit, and where a squash begins.
 use Rattle.std.specs.Prelude.{ℕ, ◌+◌, ◌-◌, List, [], ◌∷◌, ◌++◌, nat_eq, nat_lt, nat_le, if◌then◌else◌}
 use Rattle.machine_model.specs.declared.event.Event.{Event}
-use Rattle.machine_model.specs.declared.event.Event.TheVariants.{Exec, Transfer, Squash}
+use Rattle.machine_model.specs.declared.event.Event.TheVariants.{Exec, Transfer, Drain, Squash}
 use Rattle.machine_model.specs.HeadEvent.{unit_of, retired_after}
 use Rattle.run_picture.specs.declared.shape.Shape.{Shape}
 use Rattle.run_picture.specs.declared.shape.Style.{Style}
@@ -12,7 +12,7 @@ use Rattle.run_picture.specs.declared.shape.LabelText.TheVariants.{Register}
 use Rattle.run_picture.specs.declared.shape.Counted.{Counted}
 use Rattle.run_picture.specs.declared.shape.Counted.TheVariants.{Events}
 use Rattle.run_picture.specs.declared.shape.Hover.{Hover}
-use Rattle.run_picture.specs.declared.shape.Hover.TheVariants.{OfTransfer, OfSquash}
+use Rattle.run_picture.specs.declared.shape.Hover.TheVariants.{OfTransfer, OfDrain, OfSquash}
 use Rattle.run_picture.specs.Scales.{middle_of, top_of, room_of}
 use Rattle.run_picture.specs.Shapes.{line, label}
 
@@ -54,6 +54,11 @@ transfer_of counted units events number unit register =
     arrows_of events number (OfTransfer counted number register (unit_before units unit) unit) (unit_before units unit) unit
     ++ register_of events number unit register
 
+-- a short arrow down to the lower edge of the unit's bar
+abbrev pub drain_of : Counted → (events number unit register : ℕ) → Shape
+drain_of counted events number unit register =
+    arrow_of events number (OfDrain counted number register unit) (top_of unit + 4000 - 1300) (top_of unit + 4000)
+
 -- a mark above the bar of the unit after which a squash begins
 abbrev pub squash_of : Counted → (events number unit : ℕ) → Shape
 squash_of counted events number unit = record {
@@ -66,6 +71,7 @@ squash_of counted events number unit = record {
 abbrev pub marks_at : Counted → (units events number unit : ℕ) → Event → List Shape
 marks_at counted units events number unit (Exec k) = tick_of events number unit ∷ []
 marks_at counted units events number unit (Transfer k register) = transfer_of counted units events number unit register
+marks_at counted units events number unit (Drain k register) = drain_of counted events number unit register ∷ []
 marks_at counted units events number unit (Squash k) = squash_of counted events number unit ∷ []
 marks_at counted units events number unit _ = []
 

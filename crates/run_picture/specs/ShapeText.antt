@@ -14,7 +14,7 @@ use Rattle.run_picture.specs.declared.shape.StretchTally.{StretchTally}
 use Rattle.run_picture.specs.declared.shape.Counted.{Counted}
 use Rattle.run_picture.specs.declared.shape.Counted.TheVariants as counted
 use Rattle.run_picture.specs.declared.shape.Hover.{Hover}
-use Rattle.run_picture.specs.declared.shape.Hover.TheVariants.{Nothing, OfLife, OfHalted, OfTransfer, OfSquash, OfStretch}
+use Rattle.run_picture.specs.declared.shape.Hover.TheVariants.{Nothing, OfLife, OfHalted, OfTransfer, OfDrain, OfSquash, OfStretch}
 use Rattle.run_picture.specs.Scales.{pixels_text}
 use Rattle.run_picture.specs.Bars.{name_of}
 use Rattle.run_picture.specs.WordsText.{words_text}
@@ -101,6 +101,11 @@ tally_text t =
     codes ". On all units: instructions: " ++ (decimal t.executed ++ (codes "; tasks that end here: retired: " ++ (decimal t.retired ++ (codes ", squashed: " ++ (decimal t.squashed
     ++ (codes ", dropped: " ++ (decimal t.dropped ++ codes ". The column is of this unit alone.</title>")))))))
 
+-- that a unit which has stopped sends a register
+abbrev pub drained_text : (register unit : ℕ) → List ℕ
+drained_text register unit =
+    codes "$" ++ (decimal register ++ (codes " is sent by unit " ++ (decimal unit ++ codes ", which has stopped</title>")))
+
 abbrev pub hover_text : List Descriptor → Hover → List ℕ
 hover_text tasks Nothing = []
 hover_text tasks (OfLife life) = life_text (name_of tasks life.task) life (ending_text life.ending)
@@ -108,6 +113,7 @@ hover_text tasks (OfHalted life) = life_text (name_of tasks life.task) life (cod
 hover_text tasks (OfTransfer counts number register from unit) =
     when_text counts number
     ++ (codes "$" ++ (decimal register ++ (codes " goes from unit " ++ (decimal from ++ (codes " to unit " ++ (decimal unit ++ codes "</title>"))))))
+hover_text tasks (OfDrain counts number register unit) = when_text counts number ++ drained_text register unit
 hover_text tasks (OfSquash counts number unit) =
     when_text counts number ++ (codes "what follows unit " ++ (decimal unit ++ codes " is squashed</title>"))
 hover_text tasks (OfStretch counts first last tally) = stretch_text counts first last ++ tally_text tally

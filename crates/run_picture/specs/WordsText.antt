@@ -1,6 +1,6 @@
 -- What labels say.
-use Rattle.std.specs.Fmt.{decimal}
-use Rattle.std.specs.Prelude.{ℕ, List, [], ◌++◌, codes, length, take, flat_map, encode_utf8, nat_eq, nat_le, if◌then◌else◌}
+use Rattle.std.specs.Fmt.{decimal, digits}
+use Rattle.std.specs.Prelude.{ℕ, List, [], ◌++◌, false, codes, length, take, flat_map, encode_utf8, nat_eq, nat_le, if◌then◌else◌}
 use Rattle.machine_model.specs.declared.event.Standing.{Standing}
 use Rattle.machine_model.specs.declared.event.Standing.TheVariants as standing
 use Rattle.task_descriptor.specs.declared.descriptor.Descriptor.{Descriptor}
@@ -22,12 +22,23 @@ abbrev pub work_text : Tally → List ℕ
 work_text t =
     codes "; instructions of retired tasks: " ++ (decimal t.useful ++ (codes ", of squashed or dropped ones: " ++ decimal t.wasted))
 
--- how a run stands
+-- how a run stands, after the words "the run"
+abbrev pub how_it_stands : Standing → List ℕ
+how_it_stands standing.Running = codes "has not ended"
+how_it_stands standing.Halted = codes "halted"
+how_it_stands (standing.Trapped trap) = codes "trapped"
+how_it_stands (standing.Unlisted at) = codes "is unlisted: the head's task goes to 0x" ++ (digits 16 false at ++ codes ", which it does not list")
+
+-- of a run that halted, where its last task is counted; and the end of the sentence
+abbrev pub counted_as : Standing → List ℕ
+counted_as standing.Running = codes "."
+counted_as standing.Halted = codes "; the task that did so is counted as unfinished."
+counted_as (standing.Trapped trap) = codes "."
+counted_as (standing.Unlisted at) = codes "."
+
+-- how a run stands, as a sentence
 abbrev pub standing_text : Standing → List ℕ
-standing_text standing.Running = codes "The run has not ended."
-standing_text standing.Halted = codes "The run halted; the task that did so is counted as unfinished."
-standing_text (standing.Trapped trap) = codes "The run trapped."
-standing_text (standing.Unlisted at) = codes "The run is unlisted."
+standing_text stands = codes "The run " ++ (how_it_stands stands ++ counted_as stands)
 
 -- a name if it has at most `letters` letters, else its first `letters` letters and three points; letters are ASCII
 abbrev pub name_text : (name : List ℕ) (letters : ℕ) → List ℕ

@@ -1,4 +1,4 @@
-//! The shapes round the bars: the tally of the lives, lanes, the axis and a note.
+//! The shapes round the bars: the tally of the lives, how the run stands, lanes, the axis and a note.
 
 ghost use Rattle.std.specs.Prelude.{◌≡◌, ◌++◌, ◌<◌, OnOk};
 ghost use Rattle.run_picture.specs.Frame.{axis_of, lane_of, lanes_of, note_of, number_at, numbers_of, standing_of, sums_of};

@@ -1,9 +1,9 @@
-//! The marks of single events: instructions, registers that go from one unit to the next, and where a squash
-//! begins.
+//! The marks of single events: instructions, registers that go from one unit to the next or are sent by a stopped
+//! unit, and where a squash begins.
 
 ghost use Rattle.std.specs.Prelude.{◌≡◌, ◌+◌, ◌++◌, ◌%◌, ◌<◌, ◌≤◌, ◌^◌, OnOk, length};
 ghost use Rattle.machine_model.specs.HeadEvent.{retired_after, unit_of};
-ghost use Rattle.run_picture.specs.Marks.{arrow_of, arrows_of, by_room as style_by_room, marks_at, marks_of, register_of, squash_of, tick_of, transfer_of, unit_before};
+ghost use Rattle.run_picture.specs.Marks.{arrow_of, arrows_of, by_room as style_by_room, drain_of, marks_at, marks_of, register_of, squash_of, tick_of, transfer_of, unit_before};
 
 use crate::scale::{BAR_HEIGHT, middle, room, top};
 use crate::shape::{Counted, Geometry, Hover, LabelText, Shape, Style};
@@ -80,6 +80,11 @@ pub fn push_mark(
             let unit = unit_at(units, retired, position);
             push_transfer(shapes, counted, units, count, number, unit, register.get())
         }
+        Event::Drain(position, register) => {
+            let unit = unit_at(units, retired, position);
+            shapes.push(drain(counted, count, number, unit, register.get()))?;
+            Ok(())
+        }
         Event::Squash(position) => {
             let unit = unit_at(units, retired, position);
             shapes.push(squash(counted, count, number, unit))?;
@@ -114,6 +119,15 @@ fn tick(count: u32, number: u32, unit: u32) -> Shape
     let y = top(unit) + BAR_HEIGHT;
     let style = by_room(count, Style::FineInstruction, Style::Instruction);
     Shape::plain(style, Geometry::Line(x, y - 1_300, x, y - 400))
+}
+
+/// A short arrow down to the lower edge of the bar of the unit that sends a register.
+fn drain(counted: Counted, count: u32, number: u32, unit: u32, register: u8) -> Shape
+    ensures { result ≡ drain_of counted count number unit register }
+{
+    let hover = Hover::OfDrain(counted, number, register, unit);
+    let y = top(unit) + BAR_HEIGHT;
+    arrow(count, number, hover, y - 1_300, y)
 }
 
 /// A mark above the bar of the unit after which a squash begins.

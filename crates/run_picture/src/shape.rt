@@ -111,6 +111,8 @@ pub enum Hover {
     OfHalted(Life),
     /// In this event or step, numbered from 1, a register goes from one unit to another.
     OfTransfer(Counted, u32, u8, u32, u32),
+    /// In this event or step, numbered from 1, a register is sent by this unit, which has stopped.
+    OfDrain(Counted, u32, u8, u32),
     /// In this event or step, numbered from 1, what follows a unit is squashed.
     OfSquash(Counted, u32, u32),
     /// From this event or step to that one, numbered from 1, this happens in the run.

@@ -2,7 +2,7 @@
 
 ghost use Rattle.std.specs.Prelude.{◌≡◌, ◌+◌, ◌++◌, OnOk};
 ghost use Rattle.std.specs.String.{string_bytes};
-ghost use Rattle.run_picture.specs.ShapeText.{beginning_text, counted_text, course_text, end_text, ending_text, hover_text, life_text, place_text, shape_text, shapes_text, share_text, span_text, stretch_text, style_text, tally_text, when_text};
+ghost use Rattle.run_picture.specs.ShapeText.{beginning_text, counted_text, course_text, drained_text, end_text, ending_text, hover_text, life_text, place_text, shape_text, shapes_text, share_text, span_text, stretch_text, style_text, tally_text, when_text};
 
 use crate::bars::name_of;
 use crate::pixels::Pixels;
@@ -101,6 +101,10 @@ fn write_hover(text: &mut String, tasks: &[Descriptor], hover: Hover) -> Result<
                 "${register} goes from unit {from} to unit {to}</title>"
             )
         }
+        Hover::OfDrain(counted, number, register, unit) => {
+            write_when(text, counted, number)?;
+            write_drained(text, register, unit)
+        }
         Hover::OfSquash(counted, number, unit) => {
             write_when(text, counted, number)?;
             write!(text, "what follows unit {unit} is squashed</title>")
@@ -110,6 +114,16 @@ fn write_hover(text: &mut String, tasks: &[Descriptor], hover: Hover) -> Result<
             write_tally(text, tally)
         }
     }
+}
+
+/// Writes that a unit which has stopped sends a register, as the end of its title.
+fn write_drained(text: &mut String, register: u8, unit: u32) -> Result<(), AllocError>
+    ensures { OnOk result (string_bytes text.new ≡ string_bytes text.old ++ drained_text register unit) }
+{
+    write!(
+        text,
+        "${register} is sent by unit {unit}, which has stopped</title>"
+    )
 }
 
 /// Writes from which event or step to which one a stretch goes, as the beginning of its title.

@@ -39,9 +39,10 @@ text{fill:#e4e9ee}.quiet,.caption,.number{fill:#9aa7b4}.task{stroke:#1c2229}.pap
 const MARKS_LEGEND: &str =
     "<rect class='unfinished' x='430' y='96' width='28' height='16'/><text x='466' y='109'>unfinished</text>
 <path class='instruction' d='M564 99v10M570 99v10M576 99v10'/><text x='586' y='109'>instruction</text>
-<path class='transfer' d='M694 94V113'/><text x='706' y='109'>register to the next unit</text>
-<path class='squash' d='M896 98h14l-7 11z'/><text x='918' y='109'>squash begins</text>
-<rect class='halted' x='1038' y='96' width='28' height='16'/><text x='1074' y='109'>halted</text>
+<path class='transfer' d='M694 94V113'/><text x='706' y='109'>register arrives</text>
+<rect class='retired' x='836' y='96' width='16' height='16'/><path class='transfer' d='M844 99V112'/><text x='860' y='109'>sent at the exit</text>
+<path class='squash' d='M982 98h14l-7 11z'/><text x='1004' y='109'>squash begins</text>
+<rect class='halted' x='1116' y='96' width='28' height='16'/><text x='1152' y='109'>halted</text>
 </g>
 ";
 
@@ -53,7 +54,7 @@ const STRETCHES_LEGEND: &str =
 </g>
 ";
 
-/// The style sheet, the patterns, the ground, and the legend of all bars.
+/// The style sheet, the patterns, the ground, and the legend of the bars of lives that ended.
 #[tactic(auto, unfolding(crate::specs::FixedText::style_sheet))]
 pub(crate) fn style_sheet() -> &'static str
     ensures { result.now ≡ style_sheet }

@@ -2,7 +2,7 @@
 
 ghost use Rattle.std.specs.Prelude.{◌≡◌, ◌++◌, OnOk, flat_map, encode_utf8};
 ghost use Rattle.std.specs.String.{string_bytes};
-ghost use Rattle.run_picture.specs.WordsText.{lives_text, name_text, plural as plural_of, standing_text, work_text, words_text};
+ghost use Rattle.run_picture.specs.WordsText.{counted_as as counted_as_text, how_it_stands, lives_text, name_text, plural as plural_of, standing_text, work_text, words_text};
 
 use crate::bars::name_of;
 use crate::shape::LabelText;
@@ -21,7 +21,7 @@ pub(crate) fn write_words(
 {
     match words {
         LabelText::Sums(tally) => write_sums(text, tally),
-        LabelText::HowItStands(standing) => text.push_str(words_of_standing(standing)),
+        LabelText::HowItStands(standing) => write_standing(text, standing),
         LabelText::OfUnit(unit) => write!(text, "unit {unit}"),
         LabelText::EventNumber(number) => write!(text, "{number}"),
         LabelText::Task(task, letters) => write_name(text, name_of(tasks, task), letters),
@@ -45,15 +45,39 @@ pub(crate) fn write_words(
     }
 }
 
-/// How a run stands.
-fn words_of_standing(standing: Standing) -> &'static str
-    ensures { result.now ≡ standing_text standing }
+/// Writes how a run stands, as a sentence.
+fn write_standing(text: &mut String, standing: Standing) -> Result<(), AllocError>
+    ensures { OnOk result (string_bytes text.new ≡ string_bytes text.old ++ standing_text standing) }
+{
+    text.push_str("The run ")?;
+    write_how_it_stands(text, standing)?;
+    text.push_str(counted_as(standing))
+}
+
+/// Writes how a run stands, to follow the words "the run". An error means that memory was refused.
+pub fn write_how_it_stands(text: &mut String, standing: Standing) -> Result<(), AllocError>
+    ensures { OnOk result (string_bytes text.new ≡ string_bytes text.old ++ how_it_stands standing) }
 {
     match standing {
-        Standing::Running => "The run has not ended.",
-        Standing::Halted => "The run halted; the task that did so is counted as unfinished.",
-        Standing::Trapped(_) => "The run trapped.",
-        Standing::Unlisted(_) => "The run is unlisted.",
+        Standing::Running => text.push_str("has not ended"),
+        Standing::Halted => text.push_str("halted"),
+        Standing::Trapped(_) => text.push_str("trapped"),
+        Standing::Unlisted(address) => write!(
+            text,
+            "is unlisted: the head's task goes to 0x{address:x}, which it does not list"
+        ),
+    }
+}
+
+/// Where the last task of a run that halted is counted, and the end of the sentence.
+fn counted_as(standing: Standing) -> &'static str
+    ensures { result.now ≡ counted_as_text standing }
+{
+    match standing {
+        Standing::Running => ".",
+        Standing::Halted => "; the task that did so is counted as unfinished.",
+        Standing::Trapped(_) => ".",
+        Standing::Unlisted(_) => ".",
     }
 }
 

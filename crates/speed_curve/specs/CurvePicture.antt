@@ -1,6 +1,6 @@
 -- The picture of a curve, as the text of an SVG file.
 use Rattle.std.specs.Fmt.{decimal}
-use Rattle.std.specs.Prelude.{ℕ, ◌+◌, ◌-◌, ◌*◌, ◌/◌, Option, Some, None, List, [], ◌∷◌, ◌++◌, codes, flat_map, length, nat_le, if◌then◌else◌}
+use Rattle.std.specs.Prelude.{ℕ, ◌+◌, ◌-◌, ◌*◌, Option, Some, None, List, [], ◌∷◌, ◌++◌, codes, flat_map, length, nat_le, if◌then◌else◌}
 use Rattle.machine_model.specs.declared.event.Standing.{Standing}
 use Rattle.machine_model.specs.declared.event.Standing.TheVariants.{Halted}
 use Rattle.speed_curve.specs.declared.row.Row.{Row}
@@ -133,13 +133,10 @@ abbrev pub runs_text : List Row → List ℕ
 runs_text [] = []
 runs_text (one ∷ more) = beside_text one (one ∷ more)
 
--- the whole text
-unfoldable pub curve_text : List Row → List ℕ
-curve_text rows = fixed_text ++ (runs_text rows ++ (codes "</svg>" ++ 10 ∷ []))
-
--- the line above the title, and the whole text with it
+-- the line above the title
 abbrev pub caption_line : (caption : List ℕ) → List ℕ
 caption_line caption = codes "<text class='quiet' x='88' y='18'>" ++ (caption ++ (codes "</text>" ++ 10 ∷ []))
 
-unfoldable pub said_curve_text : (caption : List ℕ) → List Row → List ℕ
-said_curve_text caption rows = fixed_text ++ (caption_line caption ++ (runs_text rows ++ (codes "</svg>" ++ 10 ∷ [])))
+-- the whole text
+unfoldable pub curve_text : (caption : List ℕ) → List Row → List ℕ
+curve_text caption rows = fixed_text ++ (caption_line caption ++ (runs_text rows ++ (codes "</svg>" ++ 10 ∷ [])))

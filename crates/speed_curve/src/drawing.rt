@@ -2,7 +2,7 @@
 
 ghost use Rattle.std.specs.Prelude.{◌≡◌, ◌<◌, ◌≤◌, ◌^◌, ◌++◌, IfOk, OnOk, flat_map, length};
 ghost use Rattle.std.specs.String.{string_bytes};
-ghost use Rattle.speed_curve.specs.CurvePicture.{beside_text, caption_line, column_text, columns_text, curve_text, rate_line, rate_point, runs_text, said_curve_text, level_text, scale_label, scale_line, scale_lines, scale_text, speed_line, speed_point};
+ghost use Rattle.speed_curve.specs.CurvePicture.{beside_text, caption_line, column_text, columns_text, curve_text, rate_line, rate_point, runs_text, level_text, scale_label, scale_line, scale_lines, scale_text, speed_line, speed_point};
 
 use crate::columns::{write_column, write_rate_point, write_speed_point};
 use crate::hundredths::Hundredths;
@@ -15,20 +15,10 @@ use std::alloc::{AllocError, Global};
 /// of its own. Above, one line joins how many instructions retired in a step, and a dashed one how many times as many
 /// steps the run on one unit took, which is the first row; below, a bar says which share was thrown away. All are
 /// rounded as in the table (`crate::table`), and a run has a speed-up where it has one there. The row of n units
-/// stands in column n, and there are as many columns as rows. The error says that memory was refused.
-pub fn draw(alloc: Global, rows: &[Row]) -> Result<String, AllocError>
-    ensures { IfOk result (λ text. string_bytes text ≡ curve_text rows.now) }
-{
-    let mut text = String::from_str(alloc, fixed_text())?;
-    write_runs(&mut text, rows)?;
-    text.push_str("</svg>\n")?;
-    Ok(text)
-}
-
-/// Draws the results of runs as `draw` does, with a line above the title: `caption`, which is text of SVG. The error says
-/// that memory was refused.
-pub fn draw_said(alloc: Global, caption: &str, rows: &[Row]) -> Result<String, AllocError>
-    ensures { IfOk result (λ text. string_bytes text ≡ said_curve_text caption.now rows.now) }
+/// stands in column n, and there are as many columns as rows. `caption`, which is text of SVG, stands above the title.
+/// The error says that memory was refused.
+pub fn draw(alloc: Global, caption: &str, rows: &[Row]) -> Result<String, AllocError>
+    ensures { IfOk result (λ text. string_bytes text ≡ curve_text caption.now rows.now) }
 {
     let mut text = String::from_str(alloc, fixed_text())?;
     write_caption(&mut text, caption)?;

@@ -1,5 +1,5 @@
 -- Worked examples, computed by the checker: the steps of events, a life in steps, the bar of the task that halted, the
--- strips of waits, the marks of events, their titles, and what a predictor is called.
+-- strips of waits, the marks of events, their titles, how a run ended, and what a predictor is called.
 use Rattle.std.specs.Prelude.{◌≡◌, ℕ, List, [], ◌∷◌, ◌++◌, true, false, Bool, codes, replicate}
 use Rattle.std.specs.Fmt.{digits}
 use Rattle.std.proofs.Common.{refl}
@@ -30,7 +30,7 @@ use Rattle.step_picture.specs.Bars.{bar_of}
 use Rattle.step_picture.specs.Strips.{begun, shape_of, strip_text, strips_of, waits_on}
 use Rattle.step_picture.specs.Marks.{marks_from, marks_of}
 use Rattle.step_picture.specs.PredictorText.{list_text, predictor_text}
-use Rattle.step_picture.specs.StepPicture.{predicted_text}
+use Rattle.step_picture.specs.StepPicture.{ending_text, predicted_text}
 use Rattle.step_picture.specs.SaidText.{life_text, reason_text, waited_text}
 
 -- six steps on two units: the task after the first one takes two registers, and is squashed in the last step
@@ -153,3 +153,6 @@ predicted_first = refl
 pub said_of_long_list : list_text (replicate 25 3) ≡ codes "3,3,3,3,3,3,3,3,3,3,3,3,3,3,3,3,3,3,3,3,3,3,3,3,&#8230;"
 unfolding digits
 said_of_long_list = refl
+
+pub out_of_budget : ending_text standing.Running ≡ codes "is out of budget"
+out_of_budget = refl

@@ -5,7 +5,7 @@ use Rattle.std.specs.Prelude.{ℕ, List, [], ◌∷◌, ◌++◌, codes, flat_ma
 abbrev lines_text : List (List ℕ) → List ℕ
 lines_text lines = flat_map (λ line. line ++ 10 ∷ []) lines
 
--- the style of all shapes, light or dark, the patterns, the ground, and the legend of all bars
+-- the style of all shapes, light or dark, the patterns, the ground, and the legend of the bars of lives that ended
 unfoldable pub style_sheet : List ℕ
 style_sheet = lines_text (
     codes "<style>"
@@ -54,7 +54,8 @@ single_legend = lines_text (
 unfoldable pub marks_legend : List ℕ
 marks_legend = lines_text (
     codes "<path class='instruction' d='M810 97v10M816 97v10M822 97v10'/><text x='832' y='107'>instruction</text>"
-    ∷ codes "<path class='transfer' d='M802 120V137'/><text x='814' y='133'>register to the next unit; from the last one, to unit 0</text>"
+    ∷ codes "<rect class='retired' x='936' y='94' width='16' height='16'/><path class='transfer' d='M944 97V110'/><text x='960' y='107'>register sent at the exit</text>"
+    ∷ codes "<path class='transfer' d='M802 120V137'/><text x='814' y='133'>register arrives; at unit 0, from the last unit</text>"
     ∷ [])
 
 -- that the marks of more than 300 steps are not drawn

@@ -24,6 +24,7 @@ use Rattle.run_picture.specs.Bars.{halted_unit, names_of}
 use Rattle.run_picture.specs.Stretches.{length_of, stretches_of}
 use Rattle.run_picture.specs.ShapeText.{shapes_text}
 use Rattle.run_picture.specs.Titles.{called_text, title_text}
+use Rattle.run_picture.specs.WordsText.{how_it_stands}
 use Rattle.run_picture.specs.Picture.{height_of, root_text}
 use Rattle.step_picture.specs.Numbers.{all_in_steps, count_of, executed_steps, steps_of}
 use Rattle.step_picture.specs.Bars.{bars_text}
@@ -87,24 +88,23 @@ abbrev pub heading_text : (name : List ℕ) → (units count : ℕ) → List ℕ
 heading_text name units count =
     codes "<text class='title' x='88' y='46'>" ++ (title_text name counted.Steps units count ++ (codes "</text>" ++ 10 ∷ []))
 
--- how the run ended
+-- how many tasks retired and were squashed
+abbrev pub outcome_text : Tally → List ℕ
+outcome_text tally =
+    codes "<text class='quiet' x='88' y='72'>tasks retired: " ++ (decimal tally.retired ++ (codes ", squashed: " ++ (decimal tally.squashed
+    ++ codes "; the run ")))
+
+-- how the run ended: one that has not ended was out of budget
 abbrev pub ending_text : Standing → List ℕ
 ending_text standing.Running = codes "is out of budget"
-ending_text standing.Halted = codes "halted"
-ending_text (standing.Trapped trap) = codes "trapped"
-ending_text (standing.Unlisted at) = codes "is unlisted"
-
-abbrev pub outcome_text : Tally → (ending : List ℕ) → List ℕ
-outcome_text tally ending =
-    codes "<text class='quiet' x='88' y='72'>tasks retired: " ++ (decimal tally.retired ++ (codes ", squashed: " ++ (decimal tally.squashed
-    ++ (codes "; the run " ++ ending))))
+ending_text stands = how_it_stands stands
 
 abbrev pub predicted_text : Prediction → List ℕ
 predicted_text predict = codes "; predictor: " ++ (predictor_text predict ++ (codes "</text>" ++ 10 ∷ []))
 
 -- how the tasks and the run ended, and the predictor
 abbrev pub caption_text : Prediction → Standing → Tally → List ℕ
-caption_text predict standing tally = outcome_text tally (ending_text standing) ++ predicted_text predict
+caption_text predict standing tally = outcome_text tally ++ (ending_text standing ++ predicted_text predict)
 
 abbrev pub lines_text : (name : List ℕ) → (units count : ℕ) → Prediction → Standing → Tally → List ℕ
 lines_text name units count predict standing tally = heading_text name units count ++ caption_text predict standing tally

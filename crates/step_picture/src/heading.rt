@@ -12,6 +12,7 @@ use machine_model::event::Standing;
 use run_picture::drawing::{MOST_SINGLE, height, write_root};
 use run_picture::shape::Counted;
 use run_picture::title::{write_called, write_title};
+use run_picture::words_text::write_how_it_stands;
 use std::alloc::AllocError;
 use task_lives::tally::Tally;
 
@@ -97,7 +98,8 @@ fn write_caption(
 ) -> Result<(), AllocError>
     ensures { OnOk result (string_bytes text.new ≡ string_bytes text.old ++ caption_text predict.now standing tally) }
 {
-    write_outcome(text, tally, ending(standing))?;
+    write_outcome(text, tally)?;
+    write_ending(text, standing)?;
     write_predicted(text, predict)
 }
 
@@ -110,28 +112,28 @@ fn write_heading(text: &mut String, name: &str, units: u32, count: u32) -> Resul
     text.push_str("</text>\n")
 }
 
-/// How a run ended.
-fn ending(standing: Standing) -> &'static str
-    ensures { result.now ≡ ending_text standing }
-{
-    match standing {
-        Standing::Running => "is out of budget",
-        Standing::Halted => "halted",
-        Standing::Trapped(_) => "trapped",
-        Standing::Unlisted(_) => "is unlisted",
-    }
-}
-
-/// Writes how many tasks retired and were squashed, and how the run ended.
-fn write_outcome(text: &mut String, tally: Tally, ending: &str) -> Result<(), AllocError>
-    ensures { OnOk result (string_bytes text.new ≡ string_bytes text.old ++ outcome_text tally ending.now) }
+/// Writes how many tasks retired and were squashed.
+fn write_outcome(text: &mut String, tally: Tally) -> Result<(), AllocError>
+    ensures { OnOk result (string_bytes text.new ≡ string_bytes text.old ++ outcome_text tally) }
 {
     let retired = tally.retired;
     let squashed = tally.squashed;
     write!(
         text,
-        "<text class='quiet' x='88' y='72'>tasks retired: {retired}, squashed: {squashed}; the run {ending}"
+        "<text class='quiet' x='88' y='72'>tasks retired: {retired}, squashed: {squashed}; the run "
     )
+}
+
+/// Writes how a run ended. One that has not ended was out of budget.
+fn write_ending(text: &mut String, standing: Standing) -> Result<(), AllocError>
+    ensures { OnOk result (string_bytes text.new ≡ string_bytes text.old ++ ending_text standing) }
+{
+    match standing {
+        Standing::Running => text.push_str("is out of budget"),
+        Standing::Halted => write_how_it_stands(text, standing),
+        Standing::Trapped(_) => write_how_it_stands(text, standing),
+        Standing::Unlisted(_) => write_how_it_stands(text, standing),
+    }
 }
 
 /// Writes how the next task was predicted, as the end of the line.

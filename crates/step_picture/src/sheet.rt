@@ -48,7 +48,8 @@ const SINGLE_LEGEND: &str =
 /// What the marks of the events look like.
 const MARKS_LEGEND: &str =
     "<path class='instruction' d='M810 97v10M816 97v10M822 97v10'/><text x='832' y='107'>instruction</text>
-<path class='transfer' d='M802 120V137'/><text x='814' y='133'>register to the next unit; from the last one, to unit 0</text>
+<rect class='retired' x='936' y='94' width='16' height='16'/><path class='transfer' d='M944 97V110'/><text x='960' y='107'>register sent at the exit</text>
+<path class='transfer' d='M802 120V137'/><text x='814' y='133'>register arrives; at unit 0, from the last unit</text>
 ";
 
 /// That more steps than have room for marks have none.
@@ -63,7 +64,7 @@ const SUMMED_LEGEND: &str =
 <text class='quiet' x='88' y='133'>over 2,000 steps, no waits, instructions, registers or squashes are drawn</text>
 ";
 
-/// The style sheet, the patterns, the ground, and the legend of all bars.
+/// The style sheet, the patterns, the ground, and the legend of the bars of lives that ended.
 #[tactic(auto, unfolding(crate::specs::FixedText::style_sheet))]
 pub(crate) fn style_sheet() -> &'static str
     ensures { result.now ≡ style_sheet }

@@ -35,7 +35,7 @@ p.s:3:4: error: task A forwards $8 here and may write it again [rule 6]
 p.s:6:1: note: $8 is written again here, on the path 3 -> 4 -> 5 -> 6
     6 | addiu $8,$8,2
       | ^~~~~~~~~~~~~
-p.s:3:17: help: remove !f here, and put !f on line 6; put release $8 at C, on the path that does not write it
+p.s:3:17: help: remove !f here, and put !f on line 6; put release $8 at C (line 7), on the path that does not write it
 ";
 
 // The tab stands as a tab below the line too, and the line break is left out.

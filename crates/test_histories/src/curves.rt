@@ -6,7 +6,7 @@ use speed_curve::row::Row;
 use std::alloc::Global;
 use std::process::Abort;
 
-/// What stands after the fixed part, as `fuzz/curve_picture.py` computes it for these rows.
+/// What stands after the caption, as `fuzz/curve_picture.py` computes it for these rows.
 const TWO_COLUMNS: &str = "<text class='scale' x='78' y='500'>0.00</text>
 <path class='grid' d='M88 424H1248'/>
 <text class='scale' x='78' y='428'>0.20</text>
@@ -38,7 +38,9 @@ const TWO_COLUMNS: &str = "<text class='scale' x='78' y='500'>0.00</text>
 ";
 
 fn picture(rt: &impl Abort, alloc: Global, rows: &[Row]) -> String {
-    draw(alloc, rows).ok().expect(rt, "room for a picture")
+    draw(alloc, "a caption", rows)
+        .ok()
+        .expect(rt, "room for a picture")
 }
 
 fn row(units: u32, steps: u32, retired: u32, wasted: u32, standing: Standing) -> Row {
@@ -59,6 +61,9 @@ fn columns_of_two_rows(rt: HostRuntime) {
     ];
     let text = picture(&rt, rt.alloc(), &rows);
     assert!(rt; text.starts_with("<svg xmlns='http://www.w3.org/2000/svg' viewBox='0 0 1280 720'"));
+    assert!(rt;
+        text.contains(">units</text>\n<text class='quiet' x='88' y='18'>a caption</text>\n")
+    );
     assert!(rt; text.ends_with(TWO_COLUMNS));
 }
 
@@ -67,7 +72,7 @@ fn columns_of_two_rows(rt: HostRuntime) {
 fn nothing_to_draw(rt: HostRuntime) {
     let none: [Row; 0] = [];
     let text = picture(&rt, rt.alloc(), &none);
-    assert!(rt; text.ends_with(">units</text>\n</svg>\n"));
+    assert!(rt; text.ends_with(">a caption</text>\n</svg>\n"));
     let text = picture(&rt, rt.alloc(), &[row(1, 0, 0, 0, Standing::Running)]);
     assert!(rt; text.contains("<polyline class='curve' points='668,496 '/>"));
 }

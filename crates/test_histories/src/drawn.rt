@@ -82,17 +82,23 @@ fn bars_of_two_rounds(rt: HostRuntime) {
     );
 }
 
-// Six instructions, four registers and a squash are marked; unit 1 takes each register from unit 0.
+// Six instructions, four registers and a squash are marked; unit 1 takes each register from unit 0. In event 9, from
+// 668 to 740.5, unit 0 sends `$10`.
 #[test]
 fn marks_of_two_rounds(rt: HostRuntime) {
     let events = two_rounds(&rt);
     let text = picture(&rt, rt.alloc(), COUNT, COUNT_CERTIFICATE, 2, &events);
     expect_times(&rt, text.as_str(), "<line class='instruction' ", 6);
-    expect_times(&rt, text.as_str(), "<line class='transfer' ", 4);
+    expect_times(&rt, text.as_str(), "<line class='transfer' ", 5);
     expect_piece(
         &rt,
         text.as_str(),
         "<line class='transfer' x1='414.25' y1='206.00' x2='414.25' y2='234.00'><title>event 5: $8 goes from unit 0 to unit 1</title></line>\n<text class='register' x='419.25' y='225.00'>$8</text>",
+    );
+    expect_piece(
+        &rt,
+        text.as_str(),
+        "<line class='transfer' x1='704.25' y1='193.00' x2='704.25' y2='206.00'><title>event 9: $10 is sent by unit 0, which has stopped</title></line>",
     );
     expect_piece(
         &rt,

@@ -10,7 +10,7 @@ use test_programs::programs::{
 };
 
 // The proposal forwards $10 as well, since no path writes it again.
-const PROPOSALS: [AnswerRow<'static>; 4] = [
+const PROPOSALS: [AnswerRow<'static>; 3] = [
     AnswerRow {
         words: "annotate a.s",
         program: COUNT_BARE,
@@ -29,20 +29,7 @@ const PROPOSALS: [AnswerRow<'static>; 4] = [
         expected: COUNT_CERTIFICATE_WIDE,
         ..EMPTY
     },
-    AnswerRow {
-        words: "annotate --emit marks a.s",
-        program: LAID_OUT,
-        expected: LAID_OUT_MARKED,
-        ..EMPTY
-    },
 ];
-
-// Register 8 is written last by the second instruction of `li`, register 9 by the one after it.
-const LAID_OUT: &str =
-    ".task A create=- targets=B # !f\r\n.task B create=$5 targets=-\r\nA:\tli $t0, 70000\t# two\r\naddiu $9,$8,1!s\nB: out $9\nhalt\n";
-
-const LAID_OUT_MARKED: &str =
-    ".task A create=$8,$9 targets=B # !f\r\n.task B create=- targets=-\r\nA:\tli $t0, 70000 !f\t# two\r\naddiu $9,$8,1 !f!s\nB: out $9\nhalt\n";
 
 #[test]
 fn annotates_count(rt: HostRuntime) {

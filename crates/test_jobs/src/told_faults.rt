@@ -1,4 +1,4 @@
-//! The message about each fault, and its stream.
+//! Messages about faults that no row of examples can show, and the stream that each gets.
 
 use crate::answers::words_of;
 use crate::held_back::HeldBack;
@@ -43,54 +43,18 @@ fn fault_of(rt: &impl Abort, alloc: Global, words: &str) -> Fault {
 #[test]
 fn tells_of_words(rt: HostRuntime) {
     expect_line(&rt, rt.alloc(), &Fault::NoText, "multiscalar: 1 Words\n");
-    expect_line(&rt, rt.alloc(), &Fault::Predict, "multiscalar: 2 Predict\n");
-    expect_line(&rt, rt.alloc(), &Fault::Emit, "multiscalar: 3 Emit\n");
     let line = "multiscalar: 4 OutOfMemory\n";
     expect_line(&rt, rt.alloc(), &Fault::OutOfMemory, line);
-    let line = "multiscalar: 5 InputTwice: only one file can be - (standard input)\n";
-    expect_line(&rt, rt.alloc(), &Fault::InputTwice, line);
-    let line = "error: a file is missing: give CERT, or --least in its place
-
-Usage: multiscalar check [OPTIONS] PROGRAM CERT
-       multiscalar check [OPTIONS] --least PROGRAM...
-
-For more information, try '--help'.
-";
-    let missing = fault_of(&rt, rt.alloc(), "check a.s");
-    expect_line(&rt, rt.alloc(), &missing, line);
 }
 
 #[test]
-fn tells_of_files(rt: HostRuntime) {
-    let path = text(&rt, rt.alloc(), "a.s");
-    expect_line(
-        &rt,
-        rt.alloc(),
-        &Fault::File(path),
-        "multiscalar: file a.s\n",
-    );
+fn tells_of_a_long_file(rt: HostRuntime) {
     let unread = Unread {
         path: text(&rt, rt.alloc(), "a.cert"),
         reason: UnreadReason::TooLong,
     };
     let line = "multiscalar: file a.cert: longer than 134217728 bytes\n";
     expect_line(&rt, rt.alloc(), &Fault::Explained(unread), line);
-}
-
-#[test]
-fn tells_of_programs(rt: HostRuntime) {
-    let missing = Unread {
-        path: text(&rt, rt.alloc(), "a.s"),
-        reason: UnreadReason::NoSuchFile,
-    };
-    let line = "multiscalar: file a.s: no such file\n";
-    expect_line(&rt, rt.alloc(), &Fault::NoProgram(missing), line);
-    let folder = Unread {
-        path: text(&rt, rt.alloc(), "src"),
-        reason: UnreadReason::IsDirectory,
-    };
-    let line = "multiscalar: file src: is a directory; name its files, as in src/*.s\n";
-    expect_line(&rt, rt.alloc(), &Fault::NoProgram(folder), line);
 }
 
 #[test]

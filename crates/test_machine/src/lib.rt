@@ -1,7 +1,9 @@
-//! Tests of the calls of a port, of a unit and of the machine, and of runs in steps. The expected values
+//! Tests of the calls of a port, of a unit and of the machine, of runs in steps, and of bells. The expected values
 //! follow from the machine's own rules, worked out by hand.
 #![tactic(auto)]
 
+#[cfg(test)]
+mod bells;
 #[cfg(test)]
 mod bursts;
 #[cfg(test)]

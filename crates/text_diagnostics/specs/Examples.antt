@@ -1,11 +1,11 @@
 -- Worked examples, computed by the checker.
-use Rattle.std.specs.Prelude.{◌≡◌, ℕ, [], ◌∷◌, true, codes, Some, None, refl}
+use Rattle.std.specs.Prelude.{◌≡◌, ℕ, List, [], ◌∷◌, true, codes, Some, None, refl}
 use Rattle.std.specs.Str.{is_utf8, chars}
 use lib.Utf8.{encode}
 use Rattle.program_tokens.specs.Numbers.{number_of, magnitude_of, number_in}
 use Rattle.program_tokens.specs.Registers.{register_of, register_named}
 use Rattle.program_tokens.specs.Grammar.{line_tokens, tokens_after, token_of, kind_of}
-use Rattle.program_tokens.specs.Spans.{spans_after}
+use Rattle.program_tokens.specs.Spans.{line_spans, spans_after}
 use Rattle.program_tokens.specs.declared.span.TokenSpan.{TokenSpan}
 use Rattle.program_statements.specs.Operands.{base_at, operand_at, after_one, after_two, operands_of}
 use Rattle.program_statements.specs.Rows.{three, imm, branch_two, nop, halt}
@@ -20,6 +20,7 @@ use Rattle.syntax_tree.specs.declared.item.Item.{Item}
 use Rattle.operand_forms.specs.Candidates.{candidates, word_candidates}
 use Rattle.operand_forms.specs.ForeignWords.{instead, word_instead, sign_instead, operand_row, operand_instead}
 use Rattle.text_diagnostics.specs.Mending.{goes_further, mended, may_be_label}
+use Rattle.text_diagnostics.specs.Commas.{lacks_commas, commas_in}
 use Rattle.text_diagnostics.specs.Comments.{is_meant, comment_words}
 use Rattle.text_diagnostics.specs.Sections.{fault_in, line_kind, meant_after}
 
@@ -63,6 +64,14 @@ small_letters = refl
 pub after_hash : comment_words Text (codes "addiu $8,$8,#1") (at 13 0) ≡ Some (codes "# begins a comment: write 1")
 unfolding comment_words is_meant fault_in line_tokens tokens_after token_of kind_of number_of magnitude_of number_in register_of register_named operands_of after_one after_two operand_at base_at imm as_shown is_readable is_utf8 chars encode
 after_hash = refl
+
+-- two commas are missing, before `$9` and before `$10`
+abbrev pub without_commas : List ℕ
+without_commas = codes "addu $8 $9 $10"
+
+pub both_commas : commas_in Text without_commas (line_spans without_commas) (at 9 2) ≡ Some (codes ",$9,$10")
+unfolding lacks_commas fault_in line_tokens tokens_after token_of kind_of number_of magnitude_of number_in register_of register_named operands_of after_one after_two operand_at base_at spans_after three as_shown is_readable is_utf8 chars encode
+both_commas = refl
 
 pub missing_operand : mended kind.Operand Text (codes "addu $8,$9") (at 11 0) ≡ []
 unfolding mended candidates

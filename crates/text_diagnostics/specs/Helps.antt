@@ -34,6 +34,7 @@ use Rattle.operand_forms.specs.ForeignWords.{instead, operand_instead}
 use Rattle.operand_forms.specs.OwnWords.{own_words}
 use Rattle.operand_forms.specs.LinePlaces.{word_in, shape_named}
 use Rattle.text_diagnostics.specs.Comments.{comment_words}
+use Rattle.text_diagnostics.specs.Commas.{rest_place, several_commas}
 use Rattle.text_diagnostics.specs.Starts.{start_name, start_words}
 use Rattle.text_diagnostics.specs.Mending.{mended, may_be_label}
 use Rattle.text_diagnostics.specs.Messages.{is_no_mark}
@@ -57,11 +58,15 @@ abbrev pub begins_with_mark : List ℕ → Bool
 begins_with_mark [] = false
 begins_with_mark (b ∷ bs) = b == byte "!"
 
+abbrev pub number_text : (text : List ℕ) → List ℕ
+number_text text = codes "numbers are decimal, or hexadecimal after 0x: write " ++ text
+
 abbrev pub mending_text : (text : List ℕ) → List ℕ
 mending_text text =
     if bytes_eq text (codes " ") then codes "remove it"
     else if begins_with_comma text then codes "a comma is missing: write " ++ text
     else if begins_with_mark text then codes "write " ++ text
+    else if begins_with_digit text then number_text text
     else meant_text text
 
 -- where a word of another section may stand
@@ -148,8 +153,22 @@ help_by words span [] = in_words words
 help_by words span (text ∷ []) = by_text (mending_text text) span text
 help_by words span (text ∷ others) = in_words (meant_text (either text others))
 
+abbrev pub mending_help : LineFaultKind → (n : ℕ) → Section → (line : List ℕ) → Reading → Place → Help
+mending_help k n here line r at = help_by (line_words k here line r at) (span_in n at) (mended k here line at)
+
+-- several commas that are missing, or wrong, are told together
+abbrev pub commas_text : (text : List ℕ) → List ℕ
+commas_text text = codes "one comma separates two operands: write " ++ text
+
+abbrev pub commas_help : (n : ℕ) → List Place → Place → (text : List ℕ) → Help
+commas_help n places at text = by_text (commas_text text) (span_in n (rest_place at places)) text
+
+abbrev pub line_help_by : (commas : Option (List ℕ)) → LineFaultKind → (n : ℕ) → Section → (line : List ℕ) → Reading → Place → Help
+line_help_by (Some text) k n here line r at = commas_help n r.places at text
+line_help_by None k n here line r at = mending_help k n here line r at
+
 abbrev pub line_help : LineFaultKind → (n : ℕ) → Section → (line : List ℕ) → Reading → Place → Help
-line_help k n here line r at = help_by (line_words k here line r at) (span_in n at) (mended k here line at)
+line_help k n here line r at = line_help_by (several_commas k here line r at) k n here line r at
 
 -- Of an item.
 

@@ -3,6 +3,7 @@ pub mod Mistakes
 pub mod Sections
 pub mod Mending
 pub mod Comments
+pub mod Commas
 pub mod Starts
 pub mod Messages
 pub mod Places

@@ -24,6 +24,11 @@ use Rattle.text_diagnostics.specs.Mending.{is_unclosed}
 
 -- Of a line that cannot be read.
 
+-- a byte that cannot stand where it does: 13 is CR, which can stand elsewhere
+abbrev pub byte_message : (byte : ℕ) → List ℕ
+byte_message b =
+    if b == 13 then codes "a CR cannot stand here" else codes "a program text cannot have the byte " ++ decimal b
+
 -- a word that begins a statement of another section, and any other
 abbrev pub mnemonic_message : Section → (is_ours : Bool) → (word : List ℕ) → List ℕ
 mnemonic_message section.Text true word = codes ".text cannot hold " ++ word
@@ -58,7 +63,7 @@ mark_message false true t meant = codes "there is no mark " ++ meant
 mark_message false false t meant = second_message t meant
 
 unfoldable pub line_message : LineFaultKind → Section → (line : List ℕ) → Reading → TokenSpan → List ℕ
-line_message kind.NotAscii here line r at = codes "a program text cannot have the byte " ++ decimal (byte_at line at)
+line_message kind.NotAscii here line r at = byte_message (byte_at line at)
 line_message kind.Token here line r at = token_message (byte_at line at) (quoted (bytes_at line at))
 line_message kind.Mnemonic here line r at =
     mnemonic_message here (is_some (shape_of (bytes_at line at))) (quoted (bytes_at line at))

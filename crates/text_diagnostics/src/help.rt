@@ -10,8 +10,9 @@ ghost use Rattle.operand_forms.specs.OwnWords.{own_words};
 ghost use Rattle.diagnostics.specs.Helps.{in_words};
 ghost use Rattle.text_diagnostics.specs.Comments.{comment_words};
 ghost use Rattle.text_diagnostics.specs.Starts.{start_name, start_words};
-ghost use Rattle.text_diagnostics.specs.Helps.{meant_text, either, mending_text, move_help, section_help, word_help, token_words, stop_words, mark_words, form_words, operand_words, number_help, general_words, words_of_line, line_words, help_by, line_help, is_mark_of, mark_place, mark_help, is_loaded, is_code, is_near_said, is_near_label, near_item, name_words, said_help, near_help, item_words, item_help};
+ghost use Rattle.text_diagnostics.specs.Helps.{meant_text, either, number_text, mending_text, move_help, section_help, word_help, token_words, stop_words, mark_words, form_words, operand_words, number_help, general_words, words_of_line, line_words, help_by, commas_text, commas_help, mending_help, line_help, is_mark_of, mark_place, mark_help, is_loaded, is_code, is_near_said, is_near_label, near_item, name_words, said_help, near_help, item_words, item_help};
 
+use crate::commas::{rest_place, several_commas};
 use crate::comment::comment_words;
 use crate::mending::{may_be_label, mended};
 use crate::message::is_no_mark;
@@ -68,6 +69,13 @@ fn either(alloc: Global, first: &Words, others: &[Words]) -> Result<Words, Alloc
     Ok(Words::new(text))
 }
 
+/// How numbers are written, and the one that is meant.
+fn number_text(alloc: Global, text: &str) -> Result<Words, AllocError>
+    ensures { IfOk result (λ words. words ≡ number_text text.now) }
+{
+    words!(in alloc; "numbers are decimal, or hexadecimal after 0x: write {text}")
+}
+
 /// The help that names the one text that mends a line.
 fn mending_text(alloc: Global, text: &str) -> Result<Words, AllocError>
     ensures { IfOk result (λ words. words ≡ mending_text text.now) }
@@ -76,6 +84,7 @@ fn mending_text(alloc: Global, text: &str) -> Result<Words, AllocError>
         b" " => Words::of(alloc, "remove it"),
         [b',', ..] => words!(in alloc; "a comma is missing: write {text}"),
         [b'!', ..] => words!(in alloc; "write {text}"),
+        [b'0'..=b'9', ..] => number_text(alloc, text),
         _ => meant_text(alloc, text),
     }
 }
@@ -330,6 +339,49 @@ fn help_by(alloc: Global, words: Words, span: Span, mended: &[Words]) -> Result<
     }
 }
 
+/// Where commas stand, and the operands with them.
+fn commas_text(alloc: Global, text: &Words) -> Result<Words, AllocError>
+    ensures { IfOk result (λ words. words ≡ commas_text text.now) }
+{
+    words!(in alloc; "one comma separates two operands: write {text}")
+}
+
+/// What to do about a line whose commas are missing, or wrong, from a place on.
+fn commas_help(
+    alloc: Global,
+    number: u32,
+    places: &[Place],
+    place: Place,
+    text: Words,
+) -> Result<Help, AllocError>
+    ensures { IfOk result (λ help. help ≡ commas_help number places.now place text) }
+{
+    let message = commas_text(alloc, &text)?;
+    by_text(
+        alloc,
+        message,
+        span_in(number, rest_place(place, places)),
+        text,
+    )
+}
+
+/// What to do about a line: a text that mends it, or words.
+fn mending_help(
+    alloc: Global,
+    kind: LineFaultKind,
+    number: u32,
+    section: Section,
+    line: &[u8],
+    reading: &Reading,
+    place: Place,
+) -> Result<Help, AllocError>
+    ensures { IfOk result (λ help. help ≡ mending_help kind number section line.now reading.now place) }
+{
+    let words = line_words(alloc, kind, section, line, reading, place)?;
+    let texts = mended(alloc, kind, section, line, place)?;
+    help_by(alloc, words, span_in(number, place), &texts)
+}
+
 /// What to do about a line that cannot be read.
 pub(crate) fn line_help(
     alloc: Global,
@@ -342,9 +394,10 @@ pub(crate) fn line_help(
 ) -> Result<Help, AllocError>
     ensures { IfOk result (λ help. help ≡ line_help kind number section line.now reading.now place) }
 {
-    let words = line_words(alloc, kind, section, line, reading, place)?;
-    let texts = mended(alloc, kind, section, line, place)?;
-    help_by(alloc, words, span_in(number, place), &texts)
+    match several_commas(alloc, kind, section, line, reading, place)? {
+        Some(text) => commas_help(alloc, number, reading.places.as_slice(), place, text),
+        None => mending_help(alloc, kind, number, section, line, reading, place),
+    }
 }
 
 /// Whether a token is a stop, or the mark `!f`.

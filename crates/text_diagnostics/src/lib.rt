@@ -2,6 +2,7 @@
 //! and what to do.
 #![tactic(auto)]
 
+mod commas;
 mod comment;
 mod help;
 mod known;

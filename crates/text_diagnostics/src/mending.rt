@@ -19,7 +19,7 @@ use std::alloc::{AllocError, Global};
 use syntax_tree::item::LineFaultKind;
 
 /// A line with a text in place of a part.
-fn replaced(
+pub(crate) fn replaced(
     alloc: Global,
     line: &[u8],
     place: TokenSpan,

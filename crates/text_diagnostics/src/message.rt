@@ -3,7 +3,7 @@
 ghost use Rattle.std.specs.Prelude.{◌≡◌, is_some, IfOk};
 ghost use Rattle.std.specs.Option.{option_copied};
 ghost use Rattle.diagnostics.specs.Quotations.{quoted};
-ghost use Rattle.text_diagnostics.specs.Messages.{mnemonic_message, token_message, operand_message, is_no_mark, second_message, mark_message, line_message, nameless_message, item_message};
+ghost use Rattle.text_diagnostics.specs.Messages.{byte_message, mnemonic_message, token_message, operand_message, is_no_mark, second_message, mark_message, line_message, nameless_message, item_message};
 
 use crate::mending::is_unclosed;
 use crate::mistake::Kind;
@@ -22,6 +22,16 @@ use std::alloc::{AllocError, Global};
 use syntax_tree::item::LineFaultKind;
 use syntax_tree::unknown_names::UsedAs;
 use syntax_tree::whole_faults::Limit;
+
+/// Of a byte that cannot stand where it does: a CR can stand elsewhere.
+fn byte_message(alloc: Global, byte: u8) -> Result<Words, AllocError>
+    ensures { IfOk result (λ words. words ≡ byte_message byte) }
+{
+    if byte == b'\r' {
+        return Words::of(alloc, "a CR cannot stand here");
+    }
+    words!(in alloc; "a program text cannot have the byte {byte}")
+}
 
 /// Of a word that begins no statement here: one of another section, or any other.
 fn mnemonic_message(
@@ -127,10 +137,7 @@ pub(crate) fn line_message(
     let tokens = reading.tokens.as_slice();
     let meant = quoted(alloc, bytes)?;
     match kind {
-        LineFaultKind::NotAscii => {
-            let byte = byte_at(line, place);
-            words!(in alloc; "a program text cannot have the byte {byte}")
-        }
+        LineFaultKind::NotAscii => byte_message(alloc, byte_at(line, place)),
         LineFaultKind::Token => token_message(alloc, byte_at(line, place), &meant),
         LineFaultKind::Mnemonic => {
             mnemonic_message(alloc, section, shape_of(bytes).is_some(), &meant)

@@ -10,7 +10,5 @@ mod predicting;
 pub mod predictor;
 pub mod report;
 pub mod runner;
-#[cfg(test)]
-mod tests;
 pub mod turn;
 mod turns;

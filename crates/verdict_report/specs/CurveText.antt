@@ -6,7 +6,7 @@ use Rattle.machine_model.specs.declared.event.Standing.TheVariants.{Running, Hal
 use Rattle.speed_curve.specs.Curve.{AreRows}
 use Rattle.speed_curve.specs.TableText.{table_text}
 use Rattle.speed_curve.specs.declared.row.Row.{Row}
-use Rattle.speed_curve.specs.CurvePicture.{said_curve_text}
+use Rattle.speed_curve.specs.CurvePicture.{curve_text}
 use Rattle.jobs.specs.declared.job.Prediction.{Prediction}
 use Rattle.jobs.specs.declared.job.CurveEmit.{CurveEmit}
 use Rattle.jobs.specs.declared.job.CurveEmit.TheVariants.{Table, Picture}
@@ -30,7 +30,7 @@ rows_status (row ∷ rows) = if nat_eq (end_status row.standing) 0 then rows_sta
 -- the rows as a table or as a picture with this line above it
 abbrev pub rows_text : (caption : List ℕ) → CurveEmit → List Row → List ℕ
 rows_text caption Table rows = table_text rows
-rows_text caption Picture rows = said_curve_text caption rows
+rows_text caption Picture rows = curve_text caption rows
 
 -- the report of the runs of a program of this name in which nothing is found
 pub record IsCurveReport (units budget : ℕ) (predict : Prediction) (emit : CurveEmit) (name : List ℕ) (p : Listing) (report : Report) : Type 0 where

@@ -3,7 +3,7 @@ ghost use Rattle.std.specs.Prelude.{◌≡◌, ◌≤◌, IfOk, true, false};
 ghost use Rattle.std.specs.Io.KnownBytes.{Appends, Keeps};
 ghost use Rattle.std.specs.String.{string_bytes};
 ghost use Rattle.speed_curve.specs.Curve.{AreRows};
-ghost use Rattle.speed_curve.specs.CurvePicture.{said_curve_text};
+ghost use Rattle.speed_curve.specs.CurvePicture.{curve_text};
 ghost use Rattle.verdict_report.specs.RunText.{predictor_of as predictor_by};
 ghost use Rattle.verdict_report.specs.CurveCaption.{caption_text};
 ghost use Rattle.verdict_report.specs.CurveText.{IsCurveReport, IsNamedCurveText, end_status as end_status_of, rows_status as rows_status_of, rows_text as rows_text_of};
@@ -21,7 +21,7 @@ use machine_model::event::Standing;
 use mark_checker::accept::Accepted;
 use report_texts::judging::{Judged, judge};
 use report_texts::report::JobReport;
-use speed_curve::drawing::draw_said;
+use speed_curve::drawing::draw;
 use speed_curve::row::{Row, row_of};
 use speed_curve::table::write;
 use std::alloc::{AllocError, Global};
@@ -176,11 +176,11 @@ fn picture(
     predict: &Prediction,
     rows: &[Row],
 ) -> Result<Vec<u8>, AllocError>
-    ensures { IfOk result (λ bytes. bytes.items ≡ said_curve_text (caption_text title.now budget predict.now) rows.now) }
+    ensures { IfOk result (λ bytes. bytes.items ≡ curve_text (caption_text title.now budget predict.now) rows.now) }
 {
     let mut caption = String::new(alloc);
     write_caption(&mut caption, title, budget.get(), predict)?;
-    let picture = draw_said(alloc, caption.as_str(), rows)?;
+    let picture = draw(alloc, caption.as_str(), rows)?;
     Ok(picture.into_bytes())
 }
 

@@ -1,7 +1,7 @@
-//! What rings.
+//! Which bells ring for workers that were called.
 
-use crate::bell::Bell;
-use crate::called::Called;
+use unit_turns::bell::Bell;
+use unit_turns::called::Called;
 
 #[test]
 fn each_called_bell_rings_once(rt: HostRuntime) {
