@@ -31,7 +31,8 @@ echo "== install.sh"
 inside 'cd /srv/multiscalar-*/ && sh install.sh /srv/installed && /srv/installed/bin/multiscalar --version'
 echo "== the library"
 python3 "$top/library/test/shown.py" "$system"/srv/multiscalar-*/docs/LIBRARY.md "$system/srv"
-tried='status=0; ./a > said || status=$?; [ $status = 1 ] && cmp said a.txt'
+# In braces, since `;` would go on where gcc failed, with the program that an earlier line built.
+tried='{ status=0; ./a > said || status=$?; [ $status = 1 ] && cmp said a.txt; }'
 inside "cd /srv && gcc -Wall -Wextra -I multiscalar-*/include a.c multiscalar-*/lib/libmultiscalar.a -o a && $tried"
 inside "cd /srv && gcc -I installed/include a.c -L installed/lib -lmultiscalar -Wl,-rpath,/srv/installed/lib -o a && $tried"
 inside 'cd /srv && gcc -I installed/include multiscalar-*/examples/example.c installed/lib/libmultiscalar.a -o example && ./example multiscalar-*/examples/count/program.s'
@@ -39,10 +40,11 @@ inside "cd /srv && cp multiscalar-*/examples/five-findings/program.s a.s && PYTH
 inside 'cd /srv/installed/share/multiscalar/python && python3 -m unittest -q test_multiscalar'
 echo "== the page"
 has_page=
-for page in "$system"/srv/multiscalar-*/multiscalar.html; do [ -f "$page" ] && has_page=1; done
+if [ -f "$(echo "$system"/srv/multiscalar-*/multiscalar.html)" ]; then has_page=yes; fi
 if [ -n "$has_page" ]; then
     inside 'cd /srv/multiscalar-*/ && grep -q "^page sha256 $(sha256sum multiscalar.html | cut -d" " -f1)$" MANIFEST && cmp multiscalar.html /srv/installed/share/doc/multiscalar/multiscalar.html && wc -c multiscalar.html'
 else
+    inside 'cd /srv && ! grep "^page " multiscalar-*/MANIFEST && [ ! -e installed/share/doc/multiscalar/multiscalar.html ]'
     echo "this release has none: web/build.sh makes it, before release/build.sh"
 fi
 echo "== the package"
