@@ -66,7 +66,16 @@ def picture(rows, said):
     for style, numbers in (("curve", rates), ("speed", speeds)):
         points = (f"{x},{height(number, top)} " for x, number in zip(middles, numbers) if number is not None)
         text += f"<polyline class='{style}' points='{''.join(points)}'/>\n"
-    return text + "".join(column(*of_run, top, HIGH // lines) for of_run in zip(rows, middles, rates, speeds)) + "</svg>\n"
+    under, over = (sides([None if number is None else way * height(number, top) for number in numbers]) for way, numbers in ((1, rates), (-1, speeds)))
+    return text + "".join(column(*of_run, top, HIGH // lines) for of_run in zip(rows, middles, rates, speeds, under, over)) + "</svg>\n"
+
+
+def sides(points):
+    """Where numbers under points stand, from them: at the left or the right of a line that goes steeply down from or up to one."""
+    steep = WIDTH * 3 // 4 // len(points)
+    for before, here, after in zip([None, *points], points, [*points[1:], None]):
+        falls = [point is not None and here is not None and point - here > steep for point in (after, before)]
+        yield -20 if falls[0] else 20 if falls[1] else 0
 
 
 def speed_up(one, row):
@@ -95,7 +104,7 @@ def free(y, step, gap):
     return y
 
 
-def column(row, x, rate, speed, top, gap):
+def column(row, x, rate, speed, side, side_of_speed, top, gap):
     """A run: what is said of it, its bar, its points, and its numbers."""
     units, steps, retired, wasted, end = row
     share = ratio(100 * wasted, retired + wasted)
@@ -110,8 +119,8 @@ def column(row, x, rate, speed, top, gap):
     )
     if speed is not None:
         above = height(speed, top)
-        text += f"<path class='faster' d='M-4 {above}v-4h8v8h-8z'/>\n{label('value', 0, free(above - 12, -1, gap), speed)}"
-    return text + label("value", 0, under, rate) + label("value", 0, 648, f"{share}%") + f"<text class='number' x='0' y='672'>{units}</text></g>\n"
+        text += f"<path class='faster' d='M-4 {above}v-4h8v8h-8z'/>\n{label('value', side_of_speed, free(above - 12, -1, gap), speed)}"
+    return text + label("value", side, under, rate) + label("value", 0, 648, f"{share}%") + f"<text class='number' x='0' y='672'>{units}</text></g>\n"
 
 
 def foreign(svg):

@@ -4,15 +4,17 @@
 Takes random programs whose marks are right, plants wrong marks, and lays the text out anew: labels on
 lines of their own or before their statement, blanks, comments, blank lines. It reads the log of each: its errors
 must be what the model tells, at the same places; each path must be a path inside the task that leads where the rule
-says, and none may be shorter; one that is told in short, since a stop may mend it and the one before, has none. Then it
-makes the changes of each fix alone, and what the error stands for must be gone; of one that puts a stop where a task goes
-on into a target, that edge.
+says, and none may be shorter; one that is told in short, since a stop may mend it and the one before, has none. Where a
+task ends at a place where no task begins, and no other stop may be meant, it must say to remove the stop exactly where
+each task that reaches it goes right without it. Then it makes the changes of each fix alone, and what the error stands for
+must be gone; of one that puts a stop where a task goes on into a target, that edge.
 Of a refused text the model's first fault must be told. Every third program is explained together with a certificate:
 that of the program, one with a wrong mask or a line too few, or a text that is none. It asks for no warnings, which
 `costly_marks.py` compares. PROGRAM is the built `multiscalar`.
 """
 import argparse
 import collections
+import copy
 import functools
 import json
 import os
@@ -25,7 +27,7 @@ import time
 
 import accepted as generator
 from accepted import accepted
-from model import CertFault, Fault, REGNAMES, TOK, assemble, cert_parse, cert_text, certify, dests, exits, inner, print_program, verdict
+from model import CertFault, Fault, REGNAMES, TOK, assemble, cert_parse, cert_text, certify, dests, exits, inner, members, print_program, verdict
 
 R = random.Random()
 MASK = {5, 8}
@@ -249,6 +251,26 @@ def paths_of(result):
     return [[region_of(step["location"])[0] for step in flow["threadFlows"][0]["locations"]] for flow in result["codeFlows"]]
 
 
+def needless(program, task, index):
+    """Whether a task, and each other one that reaches a stop, goes right without it, as far as exits are concerned."""
+    bare, begins = copy.copy(program), {it[1] for it in program.tasks}
+    bare.code = [*program.code[:index], (*program.code[index][:2], None), *program.code[index + 1:]]
+    listed = [set(it[3]) for k, it in enumerate(program.tasks) if k == task or index in members(program, it[1])]
+    reached = members(bare, index)
+    stays = all(j < len(bare.code) for i in reached for j in inner(bare, i))
+    ends = all(bare.code[i][2] == "s" for i in reached if bare.code[i][0][0] in ("jr", "jalr"))
+    return stays and ends and all(begins.intersection(*listed) >= set(exits(bare, i)) for i in reached)
+
+
+def removes_wrongly(program, error, result):
+    """Whether the help for an exit removes a stop that is needed, or lets a task begin after one that is not."""
+    if error[2] != 9:
+        return False
+    advice = re.split("; if it is meant to go on, |; else ", result["relatedLocations"][-1]["message"]["text"])[-1]
+    removes = re.match(r"remove !s[tn]?: the task then goes on, ", advice)
+    return bool(removes or advice.startswith("let ")) and bool(removes) != needless(program, *error[:2])
+
+
 def differs(program, text, results):
     """What is wrong with what was said of a program; None where nothing is."""
     code, errors = places(text)[1], told(program)
@@ -260,6 +282,8 @@ def differs(program, text, results):
             return f"the rule or the place of {error}"
         if not re.fullmatch(sentence(program, error, text) + r"\.", result["message"]["text"]):
             return f"the sentence of {error}"
+        if removes_wrongly(program, error, result):
+            return f"the stop of {error}"
         advice = [it["description"]["text"] for it in result["fixes"] if STOP.match(it["description"]["text"])]
         in_short = bool(advice) and error != next(it for it in errors if it[0] == error[0])
         if any(("; if it is meant to go on, " in it) == in_short for it in advice):
@@ -338,7 +362,7 @@ def plant(text):
     for _ in range(R.choice([0, 1, 1, 2, 3])):
         lines = text.split("\n")
         k = R.randrange(len(lines))
-        line, kind = lines[k], R.randrange(7)
+        line, kind = lines[k], R.randrange(8)
         if kind == 0:
             line = re.sub(r"create=\$\d+,?", "create=", line)
             line = line.replace("create= ", "create=- ")
@@ -354,6 +378,8 @@ def plant(text):
             line += f",@{R.randrange(12)}" if "targets=-" not in line else ""
         elif kind == 6 and re.match(r"(j|beq|bne) ", line):
             line = re.sub(r"[\w@]+( !.*)?$", lambda m: f"@{R.randrange(40)}" + (m.group(1) or ""), line, count=1)
+        elif kind == 7 and line and not re.match(r"\.|halt", line) and not line.endswith(":") and "!s" not in line:
+            line += R.choice([" !s", " !st", " !sn"]) if re.match("b", line) else " !s"
         lines[k] = line
         text = "\n".join(lines)
     return text

@@ -60,7 +60,7 @@ def shown(machine, acting):
     ring = head, len(machine.commits), *machine.counts(), len(output), output[-1] if output else None
     values = {f"ring.{name}": value for name, value in zip(RING, ring)}
     for number in range(machine.units):
-        names = (f"ring.unit{number}.{name}" for name in UNIT)
+        names = (f"ring.unit{number}.unit{number}_{name}" for name in UNIT)
         values |= zip(names, of_unit(machine, (number - head) % machine.units, acting))
     return values
 

@@ -10,7 +10,7 @@ use Rattle.mark_subjects.specs.Subjects.{Judged, task_name, targets_of, entries_
 use Rattle.mark_subjects.specs.Parts.{in_words, by_text, written, note_at, way_notes}
 use Rattle.mark_subjects.specs.Targets.{entries_listed, both}
 use Rattle.exit_diagnostics.specs.Slots.{slot_or}
-use Rattle.exit_diagnostics.specs.Meant.{meant, meant_help}
+use Rattle.exit_diagnostics.specs.Meant.{meant, or_needless, meant_help}
 
 -- a note on a place, if an instruction is there
 abbrev pub begins_text : Judged → Option ℕ → List ℕ
@@ -101,24 +101,26 @@ targets_help s task targets =
     if nat_le (length targets) 16 then written (targets_span s task) (targets_text s targets)
     else in_words (codes "a task has at most 16 targets: let task " ++ (task_name s task ++ codes " go on to fewer places"))
 
--- where no task begins, a delay slot or another stop may be meant; else one is to begin, and to be a target
+-- where no task begins, a delay slot or another stop may be meant, or none, if the stop is needless; else one is to begin,
+-- and to be a target
 abbrev pub listed_too : (name : List ℕ) → List ℕ
 listed_too name = codes ", and make it a target of task " ++ name
 
-abbrev pub begin_help : Judged → Finding → (to : ℕ) → Help
-begin_help s f j =
-    slot_or s f.index j (meant_help s f.index (meant s f.task f.index j) (task_to_begin s j (listed_too (task_name s f.task))))
+abbrev pub begin_help : Judged → Finding → (needless : Bool) → (to : ℕ) → Help
+begin_help s f needless j =
+    slot_or s f.index j
+    (meant_help s f.index (or_needless (meant s f.task f.index j) needless) (task_to_begin s j (listed_too (task_name s f.task))))
 
 -- these places are no targets; at the first of them where no task begins, one is to begin
-abbrev pub unlisted_help_by : Judged → Finding → (places : List ℕ) → Option ℕ → Help
-unlisted_help_by s f places None = targets_help s f.task (entries_listed s f.task ++ places)
-unlisted_help_by s f places (Some j) = begin_help s f j
+abbrev pub unlisted_help_by : Judged → Finding → (needless : Bool) → (places : List ℕ) → Option ℕ → Help
+unlisted_help_by s f needless places None = targets_help s f.task (entries_listed s f.task ++ places)
+unlisted_help_by s f needless places (Some j) = begin_help s f needless j
 
-abbrev pub unlisted_help : Judged → Finding → (places : List ℕ) → Help
-unlisted_help s f places = unlisted_help_by s f places (find (λ j. not (is_entry s j)) places)
+abbrev pub unlisted_help : Judged → Finding → (needless : Bool) → (places : List ℕ) → Help
+unlisted_help s f needless places = unlisted_help_by s f needless places (find (λ j. not (is_entry s j)) places)
 
-abbrev pub exit_help : Judged → Finding → Help
-exit_help s f = unlisted_help s f (lacking s f)
+abbrev pub exit_help : Judged → Finding → (needless : Bool) → Help
+exit_help s f needless = unlisted_help s f needless (lacking s f)
 
 -- Rule 10: where the instruction leads without ending the task, if no instruction is there; else 0.
 

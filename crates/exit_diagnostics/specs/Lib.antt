@@ -1,5 +1,7 @@
 pub mod Slots
 pub mod Meant
+pub mod Needless
+pub mod NeedlessSteps
 pub mod Exits
 pub mod Calls
 pub mod StopFits

@@ -10,11 +10,12 @@ use Rattle.task_descriptor.specs.declared.descriptor.Stop.TheVariants as stop
 use Rattle.mark_checker.specs.Rules.{stops_always}
 use Rattle.diagnostics.specs.declared.diagnostic.Help.{Help}
 use Rattle.exit_diagnostics.specs.declared.meant_stop.MeantStop.{MeantStop}
-use Rattle.exit_diagnostics.specs.declared.meant_stop.MeantStop.TheVariants.{This, Edge, Next, AtHalt}
+use Rattle.exit_diagnostics.specs.declared.meant_stop.MeantStop.TheVariants.{This, Edge, Next, AtHalt, Needless}
 use Rattle.mark_subjects.specs.Subjects.{Judged, targets_of, is_entry, is_branch, stop_of, exit_end, inner_end, place_text, instruction_span}
 use Rattle.mark_subjects.specs.MarkPlaces.{mark_span}
 use Rattle.mark_subjects.specs.Parts.{in_words, take_out}
-use Rattle.mark_subjects.specs.Stops.{stop_put}
+use Rattle.mark_subjects.specs.Stops.{stop_put, stop_out}
+use Rattle.mark_subjects.specs.Steps.{stop_name}
 use Rattle.exit_diagnostics.specs.Slots.{is_halt}
 
 -- where an edge of an instruction leads, whatever its stop
@@ -63,6 +64,11 @@ meant s task i j =
     if is_branch s i && nat_lt j (length s.program.code) then edge_meant (to_target s task i false) (to_target s task i true)
     else if stops_always (stop_of s i) then later_meant s task j else This
 
+-- where none of these is meant, none at all may be, if the stop should not be there (Needless.antt)
+abbrev pub or_needless : MeantStop → (needless : Bool) → MeantStop
+or_needless This true = Needless
+or_needless other needless = other
+
 -- What to do: write the stop that may be meant, or else what there is to do with the stop that is there.
 
 abbrev pub edge_stop : (taken : Bool) → List ℕ
@@ -83,6 +89,10 @@ next_advice line rest = codes "move !s to line " ++ (decimal line ++ (codes ", w
 abbrev pub halt_advice : (line : ℕ) → (rest : List ℕ) → List ℕ
 halt_advice line rest = codes "remove !s: the task then ends at the halt on line " ++ (decimal line ++ (codes "; or " ++ rest))
 
+abbrev pub needless_advice : (word : List ℕ) → (rest : List ℕ) → List ℕ
+needless_advice word rest =
+    codes "remove " ++ (word ++ (codes ": the task then goes on, and ends only at targets or a halt; or " ++ rest))
+
 abbrev pub meant_help : Judged → (index : ℕ) → MeantStop → (rest : List ℕ) → Help
 meant_help s i This rest = in_words rest
 meant_help s i (Edge taken target) rest = record {
@@ -96,4 +106,8 @@ meant_help s i (Next j) rest = record {
 meant_help s i (AtHalt j) rest = record {
   message = halt_advice (instruction_span s j).line rest;
   replacements = take_out (mark_span (byte "s") s.rows (instruction_span s i));
+}
+meant_help s i Needless rest = record {
+  message = needless_advice (stop_name (stop_of s i)) rest;
+  replacements = stop_out s i;
 }

@@ -7,7 +7,7 @@ ghost use Rattle.mark_subjects.specs.Subjects.{task_name, place_text, targets_of
 ghost use Rattle.mark_subjects.specs.Targets.{entries_listed};
 ghost use Rattle.exit_diagnostics.specs.Exits.{begins_text, place_note, labelled_text, unlabelled_text, begin_by, task_to_begin, unlisted, edge_text, why_not, exit_text, exit_to, exits_text, exit_said, exit_message, lacking, exit_notes, targets_help, listed_too, begin_help, unlisted_help, exit_help, is_beyond, beyond, last_text, beyond_help, is_taken, wrong_number, wrong_target, wrong_but_taken, target_help};
 
-use crate::meant::{meant, meant_help};
+use crate::meant::{meant, meant_help, or_needless};
 use crate::slot::slot_or;
 use diagnostics::diagnostic::{Help, Note};
 use diagnostics::words;
@@ -275,32 +275,33 @@ fn target_to_begin(subject: &Subject, task: u32, index: u32) -> Made<Words>
 }
 
 /// What to do about an exit to a place where no task begins.
-fn begin_help(subject: &Subject, finding: &Finding, to: u32) -> Made<Help>
-    ensures { IfOk result (λ help. help ≡ begin_help subject.now finding.now to) }
+fn begin_help(subject: &Subject, finding: &Finding, needless: bool, to: u32) -> Made<Help>
+    ensures { IfOk result (λ help. help ≡ begin_help subject.now finding.now needless to) }
 {
     let message = target_to_begin(subject, finding.task, to)?;
-    let stop = meant(subject, finding.task, finding.index, to);
+    let other = meant(subject, finding.task, finding.index, to);
+    let stop = or_needless(other, needless);
     let help = meant_help(subject, finding.index, stop, message)?;
     let help = slot_or(subject, finding.index, to, help)?;
     Ok(help)
 }
 
 /// What to do about an exit to these places, which are no targets.
-fn unlisted_help(subject: &Subject, finding: &Finding, places: &[u32]) -> Made<Help>
-    ensures { IfOk result (λ help. help ≡ unlisted_help subject.now finding.now places.now) }
+fn unlisted_help(subject: &Subject, finding: &Finding, needless: bool, places: &[u32]) -> Made<Help>
+    ensures { IfOk result (λ help. help ≡ unlisted_help subject.now finding.now needless places.now) }
 {
     if let Some(index) = first_without(subject, places) {
-        return begin_help(subject, finding, *index);
+        return begin_help(subject, finding, needless, *index);
     }
     listing_help(subject, finding.task, places)
 }
 
-/// What to do about an exit to places that are no targets.
-pub fn exit_help(subject: &Subject, finding: &Finding) -> Made<Help>
-    ensures { IfOk result (λ help. help ≡ exit_help subject.now finding.now) }
+/// What to do about an exit to places that are no targets; the stop there may be needless.
+pub fn exit_help(subject: &Subject, finding: &Finding, needless: bool) -> Made<Help>
+    ensures { IfOk result (λ help. help ≡ exit_help subject.now finding.now needless) }
 {
     let places = lacking(subject, finding)?;
-    let help = unlisted_help(subject, finding, &places)?;
+    let help = unlisted_help(subject, finding, needless, &places)?;
     Ok(help)
 }
 

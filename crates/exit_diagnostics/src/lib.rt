@@ -7,6 +7,7 @@ pub mod entering;
 pub mod exit;
 pub mod meant;
 pub mod meant_stop;
+pub mod needless;
 pub mod remark;
 pub mod returning;
 pub mod slot;

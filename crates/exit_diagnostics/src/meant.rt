@@ -2,9 +2,9 @@
 
 ghost use Rattle.std.specs.Prelude.{◌≡◌, ◌==◌, ◌&&◌, IfOk};
 ghost use Rattle.std.specs.List.{list_any};
-ghost use Rattle.exit_diagnostics.specs.declared.meant_stop.MeantStop.TheVariants.{Edge, Next, AtHalt};
+ghost use Rattle.exit_diagnostics.specs.declared.meant_stop.MeantStop.TheVariants.{Edge, Next, AtHalt, Needless};
 ghost use Rattle.mark_subjects.specs.Subjects.{targets_of, is_entry};
-ghost use Rattle.exit_diagnostics.specs.Meant.{way, target_in, to_target, edge_meant, has_stop, leads_to_targets, halts, later_meant, meant, edge_stop, edge_name, edge_advice, next_advice, halt_advice, meant_help};
+ghost use Rattle.exit_diagnostics.specs.Meant.{way, target_in, to_target, edge_meant, has_stop, leads_to_targets, halts, later_meant, meant, or_needless, edge_stop, edge_name, edge_advice, next_advice, halt_advice, needless_advice, meant_help};
 
 use crate::meant_stop::MeantStop;
 use crate::slot::is_halt;
@@ -15,7 +15,8 @@ use diagnostics::words;
 use diagnostics::words::Words;
 use mark_subjects::mark_place::mark_span;
 use mark_subjects::parts::{in_words, place_words, take_out};
-use mark_subjects::put_stop::stop_put;
+use mark_subjects::put_stop::{stop_out, stop_put};
+use mark_subjects::step::stop_name;
 use mark_subjects::subject::{Made, Subject};
 use mark_subjects::targets::is_among;
 use std::alloc::Global;
@@ -128,6 +129,16 @@ pub fn meant(subject: &Subject, task: u32, index: u32, to: u32) -> MeantStop
     MeantStop::This
 }
 
+/// The stop that may be meant, or none where the one that is there should not be there.
+pub fn or_needless(meant: MeantStop, needless: bool) -> MeantStop
+    ensures { result ≡ or_needless meant needless }
+{
+    match (meant, needless) {
+        (MeantStop::This, true) => MeantStop::Needless,
+        _ => meant,
+    }
+}
+
 /// The stop of an edge of a branch.
 fn edge_stop(taken: bool) -> &'static str
     ensures { result.now ≡ edge_stop taken }
@@ -161,6 +172,13 @@ fn halt_advice(alloc: Global, line: u32, rest: &str) -> Made<Words>
     ensures { IfOk result (λ words. words ≡ halt_advice line rest.now) }
 {
     words!(in alloc; "remove !s: the task then ends at the halt on line {line}; or {rest}")
+}
+
+/// What to do: to remove the stop, or else.
+fn needless_advice(alloc: Global, word: &str, rest: &str) -> Made<Words>
+    ensures { IfOk result (λ words. words ≡ needless_advice word.now rest.now) }
+{
+    words!(in alloc; "remove {word}: the task then goes on, and ends only at targets or a halt; or {rest}")
 }
 
 /// That the stop of another edge is written.
@@ -205,6 +223,18 @@ fn halt_help(subject: &Subject, index: u32, halt: u32, rest: &str) -> Made<Help>
     })
 }
 
+/// That the stop is removed.
+fn needless_help(subject: &Subject, index: u32, rest: &str) -> Made<Help>
+    ensures { IfOk result (λ help. help ≡ meant_help subject.now index Needless rest.now) }
+{
+    let word = stop_name(subject.stop(index));
+    let replacements = stop_out(subject, index)?;
+    Ok(Help {
+        message: needless_advice(subject.alloc(), word, rest)?,
+        replacements: Listed::new(replacements),
+    })
+}
+
 /// What to do: to write the stop that may be meant, or else.
 pub fn meant_help(subject: &Subject, index: u32, meant: MeantStop, rest: Words) -> Made<Help>
     ensures { IfOk result (λ help. help ≡ meant_help subject.now index meant rest) }
@@ -216,5 +246,6 @@ pub fn meant_help(subject: &Subject, index: u32, meant: MeantStop, rest: Words) 
         }
         MeantStop::Next(next) => next_help(subject, index, next, rest.as_str()),
         MeantStop::AtHalt(halt) => halt_help(subject, index, halt, rest.as_str()),
+        MeantStop::Needless => needless_help(subject, index, rest.as_str()),
     }
 }

@@ -11,4 +11,6 @@ pub enum MeantStop {
     Next(u32),
     /// None: the next instruction, at this index, is a halt, which ends the task.
     AtHalt(u32),
+    /// None: without it the tasks that reach the instruction go right.
+    Needless,
 }

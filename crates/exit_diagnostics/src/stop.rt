@@ -25,7 +25,7 @@ use mips_instructions::number::RegSet;
 use task_descriptor::descriptor::{Descriptor, Stop};
 
 /// Whether an instruction is a jump to an address in a register.
-fn is_indirect(op: &Op) -> bool
+pub(crate) fn is_indirect(op: &Op) -> bool
     ensures { result ≡ is_indirect_of op.now }
 {
     matches!(op, Op::JumpReg(_) | Op::JumpLinkReg(_, _))

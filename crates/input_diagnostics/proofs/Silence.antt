@@ -15,9 +15,10 @@ use Rattle.diagnostics.specs.declared.diagnostic.Source.TheVariants.{Certificate
 use Rattle.diagnostics.specs.More.{more_note}
 use Rattle.input_diagnostics.specs.Saying.{most_shown, row_at}
 use Rattle.input_diagnostics.specs.ScriptErrors.{errors_in, is_trace, script_errors, ends_with_return, IsRead}
-use Rattle.input_diagnostics.specs.RefusedCertificates.{refused_error}
+use Rattle.input_diagnostics.specs.declared.refused.LineSlip.{LineSlip}
+use Rattle.input_diagnostics.specs.RefusedCertificates.{header_by, header_errors, header_slip, line_errors, refused_error}
 use Rattle.input_diagnostics.specs.CertificateErrors.{Serves}
-use Rattle.input_diagnostics.specs.Misfits.{ProgramView, own_findings, told_from, misfit_errors}
+use Rattle.input_diagnostics.specs.Misfits.{Comparison, own_findings, told_from, misfit_errors}
 use Rattle.input_diagnostics.specs.Stale.{other_task, stale_or_misfit, fit_errors}
 
 -- ---- scripts
@@ -66,46 +67,60 @@ silent_list p text list said law =
 
 -- ---- certificates
 
-told_none : (p : Listing) (cert least : List (List (ℕ × ℕ))) (digits : ℕ) (lines : ProgramView) (fs : List Finding) (more : List Diagnostic)
-    → take most_shown (told_from p cert least digits lines None fs) ++ more ≡ [] → fs ≡ []
-told_none p cert least digits lines [] more e = refl
-told_none p cert least digits lines (f ∷ fs) more e = absurd cc
+told_none : (c : Comparison) (fs : List Finding) (more : List Diagnostic) → take most_shown (told_from c None fs) ++ more ≡ [] → fs ≡ []
+told_none c [] more e = refl
+told_none c (f ∷ fs) more e = absurd cc
 
-silent_misfit : (p : Listing) (cert least : List (List (ℕ × ℕ))) (digits : ℕ) (lines : ProgramView) → (misfit_errors p cert least digits lines ≡ []) ↔ (own_findings p cert ≡ [])
-silent_misfit p cert least digits lines = (
-  λ e. told_none p cert least digits lines (own_findings p cert) _ e,
-  λ none. ap (λ (fs : List Finding). take most_shown (told_from p cert least digits lines None fs) ++ more_note Certificate (length (told_from p cert least digits lines None fs) - most_shown) (codes "error") (codes "errors")) none,
+silent_misfit : (c : Comparison) → (misfit_errors c ≡ []) ↔ (own_findings c.program c.cert ≡ [])
+silent_misfit c = (
+  λ e. told_none c (own_findings c.program c.cert) _ e,
+  λ none. ap (λ (fs : List Finding). take most_shown (told_from c None fs) ++ more_note Certificate (length (told_from c None fs) - most_shown) (codes "error") (codes "errors")) none,
 )
 
 -- a certificate of another text has a finding
-silent_some : (p : Listing) (cert least : List (List (ℕ × ℕ))) (digits : ℕ) (lines : ProgramView) (f : Finding) (fs : List Finding) (other : Option ℕ)
-    → (misfit_errors p cert least digits lines ≡ []) ↔ ((f ∷ fs) ≡ [])
-    → (stale_or_misfit p cert least digits lines other ≡ []) ↔ ((f ∷ fs) ≡ [])
-silent_some p cert least digits lines f fs None masks = masks
-silent_some p cert least digits lines f fs (Some task) masks = (λ e. absurd cc, λ e. absurd cc)
+silent_some : (c : Comparison) (f : Finding) (fs : List Finding) (other : Option ℕ)
+    → (misfit_errors c ≡ []) ↔ ((f ∷ fs) ≡ []) → (stale_or_misfit c other ≡ []) ↔ ((f ∷ fs) ≡ [])
+silent_some c f fs None masks = masks
+silent_some c f fs (Some task) masks = (λ e. absurd cc, λ e. absurd cc)
 
-silent_by : (p : Listing) (cert least : List (List (ℕ × ℕ))) (digits : ℕ) (lines : ProgramView) (fs : List Finding) (other : Option ℕ)
-    → (misfit_errors p cert least digits lines ≡ []) ↔ (fs ≡ [])
-    → (stale_or_misfit p cert least digits lines (if length fs == 0 then None else other) ≡ []) ↔ (fs ≡ [])
-silent_by p cert least digits lines [] other masks = masks
-silent_by p cert least digits lines (f ∷ fs) other masks =
-    subst (λ (none : Bool). (stale_or_misfit p cert least digits lines (if none then None else other) ≡ []) ↔ ((f ∷ fs) ≡ []))
-    (sym (some_items f fs)) (silent_some p cert least digits lines f fs other masks)
+silent_by : (c : Comparison) (fs : List Finding) (other : Option ℕ)
+    → (misfit_errors c ≡ []) ↔ (fs ≡ []) → (stale_or_misfit c (if length fs == 0 then None else other) ≡ []) ↔ (fs ≡ [])
+silent_by c [] other masks = masks
+silent_by c (f ∷ fs) other masks =
+    subst (λ (none : Bool). (stale_or_misfit c (if none then None else other) ≡ []) ↔ ((f ∷ fs) ≡ []))
+    (sym (some_items f fs)) (silent_some c f fs other masks)
 
-silent_fit : (p : Listing) (cert least : List (List (ℕ × ℕ))) (digits : ℕ) (lines : ProgramView) → (fit_errors p cert least digits lines ≡ []) ↔ (own_findings p cert ≡ [])
-silent_fit p cert least digits lines =
-    silent_by p cert least digits lines (own_findings p cert) (other_task cert least (length p.tasks)) (silent_misfit p cert least digits lines)
+silent_fit : (c : Comparison) → (fit_errors c ≡ []) ↔ (own_findings c.program c.cert ≡ [])
+silent_fit c =
+    silent_by c (own_findings c.program c.cert) (other_task c.cert c.least (length c.program.tasks)) (silent_misfit c)
+
+-- whichever of two lists it is, the first is not empty
+one_said : (first : Bool) (x : Diagnostic) (xs others : List Diagnostic) → (others ≡ [] → ⊥) → (if first then x ∷ xs else others) ≡ [] → ⊥
+one_said true x xs others some e = cc
+one_said false x xs others some e = some e
+
+header_said : (slip : Option LineSlip) (text : List ℕ) → header_by slip text ≡ [] → ⊥
+header_said None text e = cc
+header_said (Some slip) text e = cc
+
+first_line_said : (text : List ℕ) → header_errors text ≡ [] → ⊥
+first_line_said text e =
+    one_said (length text == 0) _ _ _
+    (one_said (ends_with_return (row_at (lines text) 1)) _ _ _ (header_said (header_slip (lines text)) text)) e
+
+line_said : (p : Listing) (text : List ℕ) (n : ℕ) → line_errors p text n ≡ [] → ⊥
+line_said p text n e = one_said (ends_with_return (row_at (lines text) n)) _ _ _ (λ none. cc) e
 
 pub refused_said : (p : Listing) (text : List ℕ) (why : CertFault) → (why ≡ fault.OutOfMemory → ⊥) → refused_error p text why ≡ [] → ⊥
-refused_said p text fault.Header other e = cc
-refused_said p text (fault.Line n) other e = cc
+refused_said p text fault.Header other e = first_line_said text e
+refused_said p text (fault.Line n) other e = line_said p text n e
 refused_said p text (fault.TaskName n) other e = cc
 refused_said p text fault.MissingTask other e = cc
 refused_said p text fault.Shape other e = cc
 refused_said p text fault.OutOfMemory other e = other refl
 
-pub silent_certificate : (p : Listing) (cert least : List (List (ℕ × ℕ))) (digits : ℕ) (lines : ProgramView) (list : List Diagnostic)
-    (read : Result (List (List (ℕ × ℕ))) CertFault) → list ≡ fit_errors p cert least digits lines → read ≡ Ok cert → (list ≡ []) ↔ Serves p read
-silent_certificate p cert least digits lines list read said is =
-    subst (λ (r : Result (List (List (ℕ × ℕ))) CertFault). (list ≡ []) ↔ Serves p r) (sym is)
-    (subst (λ (ds : List Diagnostic). (ds ≡ []) ↔ (own_findings p cert ≡ [])) (sym said) (silent_fit p cert least digits lines))
+pub silent_certificate : (c : Comparison) (list : List Diagnostic) (read : Result (List (List (ℕ × ℕ))) CertFault)
+    → list ≡ fit_errors c → read ≡ Ok c.cert → (list ≡ []) ↔ Serves c.program read
+silent_certificate c list read said is =
+    subst (λ (r : Result (List (List (ℕ × ℕ))) CertFault). (list ≡ []) ↔ Serves c.program r) (sym is)
+    (subst (λ (ds : List Diagnostic). (ds ≡ []) ↔ (own_findings c.program c.cert ≡ [])) (sym said) (silent_fit c))

@@ -9,7 +9,7 @@ use Rattle.input_diagnostics.specs.Misfits.{ProgramView, own_findings}
 use Rattle.input_diagnostics.specs.Stale.{fit_errors}
 
 abbrev pub errors_by : Listing → ProgramView → (least : List (List (ℕ × ℕ))) → (text : List ℕ) → Result (List (List (ℕ × ℕ))) CertFault → List Diagnostic
-errors_by p lines least text (Ok cert) = fit_errors p cert least (digits_in text) lines
+errors_by p lines least text (Ok cert) = fit_errors (record { program = p; cert = cert; least = least; digits = digits_in text; lines = lines })
 errors_by p lines least text (Err fault) = refused_error p text fault
 
 -- what is wrong with the text of a certificate: why it is refused, or where it does not fit the program, which has this least

@@ -22,7 +22,7 @@ use Rattle.input_diagnostics.specs.declared.mistaken.Mistaken.TheVariants.{Certi
 use Rattle.input_diagnostics.specs.MistakenTexts.{mistaken_kind}
 use Rattle.input_diagnostics.specs.ScriptErrors.{script_errors}
 use Rattle.input_diagnostics.specs.RefusedCertificates.{refused_error, task_error}
-use Rattle.input_diagnostics.specs.Misfits.{misfit_error}
+use Rattle.input_diagnostics.specs.Misfits.{Comparison, misfit_error}
 use Rattle.input_diagnostics.specs.Stale.{other_task as other_among, stale_error}
 use Rattle.input_diagnostics.specs.Unfit.{unfit_error}
 
@@ -171,6 +171,13 @@ pub comment_first : map told (refused_error program (codes "# masks\ncert 2\ntas
     ≡ (at 1 1 7, codes "a certificate has no comments", Some (codes "remove the line")) ∷ []
 comment_first = refl
 
+-- the comments of several lines together, and beside them no mask without zeros in front
+pub comment_lines : map told (refused_error program (codes "cert 2\n# masks\ntask MAIN\n1 700\n2 0 # all\n") (fault.Line 2))
+    ≡ (at 2 1 7, codes "a certificate has no comments", Some (codes "remove the line"))
+    ∷ (at 5 5 5, codes "a certificate has no comments", Some (codes "remove it, with any spaces before it"))
+    ∷ []
+comment_lines = refl
+
 -- a text without a first line, as a program
 pub no_first_line : map told (refused_error program (codes "# a sum\nMAIN: halt\n") fault.Header)
     ≡ (at 1 1 7, codes "the first line is neither cert 2 nor cert 1", Some (codes "begin with the line cert 2, or cert 1 if masks have 8 digits, and end it with LF")) ∷ []
@@ -230,8 +237,12 @@ pub index_twice : map told (refused_error program (codes "cert 1\ntask MAIN\n1 0
     ≡ (at 4 1 1, codes "this index is not above that of the line before", Some (codes "make a new one: multiscalar annotate --emit keep PROGRAM > CERT")) ∷ []
 index_twice = refl
 
+-- a certificate beside the program and a least certificate
+abbrev beside : (cert least : List (List (ℕ × ℕ))) → Comparison
+beside cert least = record { program = program; cert = cert; least = least; digits = 16; lines = record { rows = []; code = [] } }
+
 -- the mask of LOOP at 2 lacks $8 and $10
-pub lacking : told (misfit_error program (((0, 0) ∷ []) ∷ ((1, 0x700) ∷ (2, 0x200) ∷ []) ∷ []) (((0, 0) ∷ []) ∷ ((1, 0x700) ∷ (2, 0x700) ∷ []) ∷ []) 16 (record { rows = []; code = [] })
+pub lacking : told (misfit_error (beside (((0, 0) ∷ []) ∷ ((1, 0x700) ∷ (2, 0x200) ∷ []) ∷ []) (((0, 0) ∷ []) ∷ ((1, 0x700) ∷ (2, 0x700) ∷ []) ∷ []))
     (record { task = 1; index = 2; rule = rule.LacksDestination; reg = Some 8 })
     (record { task = 1; index = 2; rule = rule.LacksDestination; reg = Some 8 } ∷ record { task = 1; index = 2; rule = rule.LacksNext; reg = Some 10 } ∷ []))
     ≡ (at 6 3 16, codes "the mask of task LOOP at index 2 lacks $8,$10", Some (codes "write 0000000000000700"))
@@ -239,7 +250,7 @@ unfolding digits members
 lacking = refl
 
 -- the mask of LOOP at 2 is too large, and so the right one at 1 lacks what it has
-pub idle : told (misfit_error program (((0, 0) ∷ []) ∷ ((1, 0x200) ∷ (2, 0x300) ∷ []) ∷ []) (((0, 0) ∷ []) ∷ ((1, 0x200) ∷ (2, 0x200) ∷ []) ∷ []) 16 (record { rows = []; code = [] })
+pub idle : told (misfit_error (beside (((0, 0) ∷ []) ∷ ((1, 0x200) ∷ (2, 0x300) ∷ []) ∷ []) (((0, 0) ∷ []) ∷ ((1, 0x200) ∷ (2, 0x200) ∷ []) ∷ []))
     (record { task = 1; index = 1; rule = rule.LacksNext; reg = Some 8 })
     (record { task = 1; index = 1; rule = rule.LacksNext; reg = Some 8 } ∷ []))
     ≡ (at 5 3 16, codes "the mask of task LOOP at index 1 lacks $8: the mask at index 2 has it, though nothing writes it from there on", Some (codes "write 0000000000000200 at index 2"))
@@ -265,7 +276,7 @@ pub other : other_among (((0, 0) ∷ []) ∷ ((1, 0) ∷ []) ∷ []) (((0, 0) �
 other = refl
 
 -- an instruction was put into MAIN
-pub stale : told (stale_error program (((0, 0) ∷ []) ∷ ((1, 0) ∷ []) ∷ []) (((0, 0) ∷ (1, 0) ∷ []) ∷ ((2, 0) ∷ []) ∷ []) 0)
+pub stale : told (stale_error (beside (((0, 0) ∷ []) ∷ ((1, 0) ∷ []) ∷ []) (((0, 0) ∷ (1, 0) ∷ []) ∷ ((2, 0) ∷ []) ∷ [])) 0)
     ≡ (at 2 1 9, codes "this certificate is of another text: task MAIN has 2 instructions here, 1 there", Some (codes "make a new one: multiscalar annotate --emit keep PROGRAM > CERT"))
 unfolding digits
 stale = refl

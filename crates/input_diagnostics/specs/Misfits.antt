@@ -34,6 +34,19 @@ is_own f = nat_le (number_of f.rule) 4
 abbrev pub own_findings : Listing → (cert : List (List (ℕ × ℕ))) → List Finding
 own_findings p cert = filter is_own (all_rules p cert)
 
+-- the lines of the program text, and where each instruction stands in them
+pub record ProgramView : Type 0 where
+  pub rows : List (List ℕ)
+  pub code : List Span
+
+-- a certificate whose masks have `digits` digits, beside its program, the program's least certificate, and the lines of its text
+pub record Comparison : Type 0 where
+  pub program : Listing
+  pub cert : List (List (ℕ × ℕ))
+  pub least : List (List (ℕ × ℕ))
+  pub digits : ℕ
+  pub lines : ProgramView
+
 -- ---- where it is
 
 -- `count` lines or columns further on (no number of one is greater than the greatest `usize`)
@@ -56,16 +69,11 @@ index_width index = length (decimal index)
 abbrev pub task_name : Listing → (task : ℕ) → List ℕ
 task_name p task = name_at (slice_get p.tasks task)
 
--- the line of a task; the index of an entry; the mask of an entry, which has `digits` digits
-abbrev pub span_by : Rule → Listing → (cert : List (List (ℕ × ℕ))) → (digits : ℕ) → Finding → Span
-span_by rule.EntryWithoutMask p cert digits f = span (task_line cert f.task) 0 (5 + length (task_name p f.task))
-span_by rule.NextWithoutMask p cert digits f = span (entry_line cert f.task f.index) 0 (index_width f.index)
-span_by _ p cert digits f = span (entry_line cert f.task f.index) (further (index_width f.index) 1) digits
-
--- the lines of the program text, and where each instruction stands in them
-pub record ProgramView : Type 0 where
-  pub rows : List (List ℕ)
-  pub code : List Span
+-- the line of a task; the index of an entry; the mask of an entry
+abbrev pub span_by : Rule → Comparison → Finding → Span
+span_by rule.EntryWithoutMask c f = span (task_line c.cert f.task) 0 (5 + length (task_name c.program f.task))
+span_by rule.NextWithoutMask c f = span (entry_line c.cert f.task f.index) 0 (index_width f.index)
+span_by _ c f = span (entry_line c.cert f.task f.index) (further (index_width f.index) 1) c.digits
 
 abbrev pub instruction_in : (rows : List (List ℕ)) → Span → List ℕ
 instruction_in rows s = take s.width (drop (s.column - 1) (row_at rows s.line))
@@ -129,20 +137,20 @@ idle_message name f group None = lacks_message name f.index (missing_text group)
 idle_message name f group (Some other) = idle_words name f.index (register_in f.reg) other
 
 -- the index of the entry that has a register for no reason
-abbrev pub idle_index : (cert least : List (List (ℕ × ℕ))) → Finding → Option ℕ
-idle_index cert least f = option_map (λ place. (entry_at (list_of cert f.task) place).0) (first_idle cert least f)
+abbrev pub idle_index : Comparison → Finding → Option ℕ
+idle_index c f = option_map (λ place. (entry_at (list_of c.cert f.task) place).0) (first_idle c.cert c.least f)
 
-abbrev pub lacking_message : (cert least : List (List (ℕ × ℕ))) → (name : List ℕ) → Finding → (group : List Finding) → List ℕ
-lacking_message cert least name f group =
-    if wanting cert least f == 0 then idle_message name f group (idle_index cert least f)
-    else lacks_message name f.index (registers_text (wanting cert least f))
+abbrev pub lacking_message : Comparison → (name : List ℕ) → Finding → (group : List Finding) → List ℕ
+lacking_message c name f group =
+    if wanting c.cert c.least f == 0 then idle_message name f group (idle_index c f)
+    else lacks_message name f.index (registers_text (wanting c.cert c.least f))
 
-abbrev pub message_by : Rule → (cert least : List (List (ℕ × ℕ))) → (name : List ℕ) → Finding → (group : List Finding) → List ℕ
-message_by rule.EntryWithoutMask cert least name f group =
+abbrev pub message_by : Rule → Comparison → (name : List ℕ) → Finding → (group : List Finding) → List ℕ
+message_by rule.EntryWithoutMask c name f group =
     codes "task " ++ (name ++ (codes " has no mask at its entry, index " ++ decimal f.index))
-message_by rule.NextWithoutMask cert least name f group =
+message_by rule.NextWithoutMask c name f group =
     codes "task " ++ (name ++ (codes " goes on from index " ++ (decimal f.index ++ codes " to an instruction without a mask")))
-message_by _ cert least name f group = lacking_message cert least name f group
+message_by _ c name f group = lacking_message c name f group
 
 -- whether a mask can be written in `digits` digits: 8 digits are those of registers 0 to 31
 abbrev pub is_short : (digits mask : ℕ) → Bool
@@ -167,27 +175,27 @@ least_help index digits mask at =
     then by_text (codes "write " ++ (hexadecimal digits mask ++ (codes " at index " ++ decimal index))) at (hexadecimal digits mask)
     else anew
 
-abbrev pub idle_help : (cert least : List (List (ℕ × ℕ))) → (digits task : ℕ) → (place : Option ℕ) → Help
-idle_help cert least digits task None = anew
-idle_help cert least digits task (Some place) =
-    let index = (entry_at (list_of cert task) place).0 in
-    least_help index digits (mask_or_none (list_of least task) index) (entry_span cert task place digits)
+abbrev pub idle_help : Comparison → (task : ℕ) → (place : Option ℕ) → Help
+idle_help c task None = anew
+idle_help c task (Some place) =
+    let index = (entry_at (list_of c.cert task) place).0 in
+    least_help index c.digits (mask_or_none (list_of c.least task) index) (entry_span c.cert task place c.digits)
 
-abbrev pub lacking_help : (cert least : List (List (ℕ × ℕ))) → (digits : ℕ) → Span → Finding → Help
-lacking_help cert least digits at f =
-    if wanting cert least f == 0 then idle_help cert least digits f.task (first_idle cert least f)
-    else mask_help digits (mask_or_none (list_of least f.task) f.index) at
+abbrev pub lacking_help : Comparison → Span → Finding → Help
+lacking_help c at f =
+    if wanting c.cert c.least f == 0 then idle_help c f.task (first_idle c.cert c.least f)
+    else mask_help c.digits (mask_or_none (list_of c.least f.task) f.index) at
 
-abbrev pub help_by : Rule → (cert least : List (List (ℕ × ℕ))) → (digits : ℕ) → Span → Finding → Help
-help_by rule.EntryWithoutMask cert least digits at f = anew
-help_by rule.NextWithoutMask cert least digits at f = anew
-help_by _ cert least digits at f = lacking_help cert least digits at f
+abbrev pub help_by : Rule → Comparison → Span → Finding → Help
+help_by rule.EntryWithoutMask c at f = anew
+help_by rule.NextWithoutMask c at f = anew
+help_by _ c at f = lacking_help c at f
 
-abbrev pub misfit_error : Listing → (cert least : List (List (ℕ × ℕ))) → (digits : ℕ) → ProgramView → Finding → (group : List Finding) → Diagnostic
-misfit_error p cert least digits lines f group =
-    let at = span_by f.rule p cert digits f in
-    error Certificate (code_by f.rule) at (message_by f.rule cert least (task_name p f.task) f group)
-    (instruction_note lines f.index) (help_by f.rule cert least digits at f)
+abbrev pub misfit_error : Comparison → Finding → (group : List Finding) → Diagnostic
+misfit_error c f group =
+    let at = span_by f.rule c f in
+    error Certificate (code_by f.rule) at (message_by f.rule c (task_name c.program f.task) f group)
+    (instruction_note c.lines f.index) (help_by f.rule c at f)
 
 -- a finding that is reported together with the one before it
 abbrev pub goes_on : (before : Option Finding) → Finding → Bool
@@ -195,15 +203,14 @@ goes_on None f = false
 goes_on (Some g) f = is_same_mask g f
 
 -- the diagnostics for some findings
-abbrev pub told_from : Listing → (cert least : List (List (ℕ × ℕ))) → (digits : ℕ) → ProgramView → (before : Option Finding) → List Finding → List Diagnostic
-told_from p cert least digits lines before [] = []
-told_from p cert least digits lines before (f ∷ fs) =
-    (if goes_on before f then [] else misfit_error p cert least digits lines f (take_while (is_same_mask f) (f ∷ fs)) ∷ [])
-    ++ told_from p cert least digits lines (Some f) fs
+abbrev pub told_from : Comparison → (before : Option Finding) → List Finding → List Diagnostic
+told_from c before [] = []
+told_from c before (f ∷ fs) =
+    (if goes_on before f then [] else misfit_error c f (take_while (is_same_mask f) (f ∷ fs)) ∷ [])
+    ++ told_from c (Some f) fs
 
--- an error for each mask that is missing or lacks registers, in a certificate of masks with `digits` digits, beside
--- the program's least one
-abbrev pub misfit_errors : Listing → (cert least : List (List (ℕ × ℕ))) → (digits : ℕ) → ProgramView → List Diagnostic
-misfit_errors p cert least digits lines =
-    let told = told_from p cert least digits lines None (own_findings p cert) in
+-- an error for each mask that is missing or lacks registers
+abbrev pub misfit_errors : Comparison → List Diagnostic
+misfit_errors c =
+    let told = told_from c None (own_findings c.program c.cert) in
     take most_shown told ++ more_note Certificate (length told - most_shown) (codes "error") (codes "errors")

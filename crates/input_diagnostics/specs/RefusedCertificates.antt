@@ -19,6 +19,7 @@ use Rattle.diagnostics.specs.Quotations.{as_shown, quoted}
 use Rattle.input_diagnostics.specs.declared.refused.LineSlip.{LineSlip}
 use Rattle.input_diagnostics.specs.declared.refused.LineSlip.TheVariants.{Comment, Tab, Space, Unended, Name, Empty, First, Form, Index, Capitals, High, Incomplete, Mask}
 use Rattle.diagnostics.specs.Helps.{in_words, by_text}
+use Rattle.diagnostics.specs.More.{more_note}
 use Rattle.input_diagnostics.specs.Saying.{error, row_at, span, return_error, most_shown}
 use Rattle.input_diagnostics.specs.ScriptErrors.{is_tab, stray_space, is_between, separator_help, ends_with_return}
 
@@ -112,12 +113,16 @@ line_slip (Some slip) ended n digits row = slip
 abbrev pub mask_span : (n : ℕ) → (row : List ℕ) → (k : ℕ) → Span
 mask_span n row k = span n (k + 1) (length row - (k + 1))
 
+-- what stands after `task `
+abbrev pub name_span : (n : ℕ) → (row : List ℕ) → Span
+name_span n row = span n 5 (length row - 5)
+
 abbrev pub slip_span : (n : ℕ) → (row : List ℕ) → LineSlip → Span
 slip_span n row (Comment k) = span n k (length row - k)
 slip_span n row (Tab k) = span n k 1
 slip_span n row (Space k) = span n k 1
 slip_span n row Unended = span n (length row) 0
-slip_span n row Name = span n 5 (length row - 5)
+slip_span n row Name = name_span n row
 slip_span n row Empty = span n 0 0
 slip_span n row First = span n 0 (length row)
 slip_span n row Form = span n 0 (length row)
@@ -205,47 +210,59 @@ slip_error code digits n next row slip =
     let at = slip_span n row slip in
     error Certificate code at (slip_message digits row slip) [] (slip_help digits at next row slip)
 
-abbrev pub line_error : Listing → (text : List ℕ) → (n : ℕ) → Diagnostic
-line_error p text n =
-    let row = row_at (lines text) n in
-    if ends_with_return row then return_error Certificate Line n row
-    else slip_error Line (digits_in text) n (next_name p (lines text) n) row
-    (line_slip (common_slip row) (is_ended text n) n (digits_in text) row)
+-- ---- lines that are told together: those with comments, and those whose mask lacks zeros in front
 
--- what is wrong with a line as an entry
-abbrev pub row_slip : (digits : ℕ) → (row : List ℕ) → LineSlip
-row_slip digits row = slip_by digits (position is_space row) row
+abbrev pub is_comment : LineSlip → Bool
+is_comment (Comment k) = true
+is_comment _ = false
 
 abbrev pub is_incomplete_slip : LineSlip → Bool
 is_incomplete_slip (Incomplete k) = true
 is_incomplete_slip _ = false
 
--- the diagnostic for line n, where the mask after the first `k` bytes and a space lacks zeros in front
-abbrev pub incomplete_error : (digits n : ℕ) → (row : List ℕ) → (k : ℕ) → Diagnostic
-incomplete_error digits n row k =
-    let at = mask_span n row k in
-    error Certificate Line at (no_mask_message digits) [] (completed_help digits at (drop (k + 1) row))
+-- both are of one of these kinds; a slip of another kind is not even like itself
+abbrev pub is_alike : (slip other : LineSlip) → Bool
+is_alike slip other = (is_comment slip && is_comment other) || (is_incomplete_slip slip && is_incomplete_slip other)
 
-abbrev pub incomplete_by : (digits n : ℕ) → (row : List ℕ) → LineSlip → List Diagnostic
-incomplete_by digits n row (Incomplete k) = incomplete_error digits n row k ∷ []
-incomplete_by digits n row _ = []
+-- what is wrong with line n, if it ends with LF
+abbrev pub row_slip : (digits n : ℕ) → (row : List ℕ) → LineSlip
+row_slip digits n row = line_slip (common_slip row) true n digits row
 
--- of line n, if it stands after line `last`
-abbrev pub incomplete_after : (digits last n : ℕ) → (row : List ℕ) → List Diagnostic
-incomplete_after digits last n row = if nat_lt last n then incomplete_by digits n row (row_slip digits row) else []
+-- the diagnostic for line n, if it stands after line `last` and is like a line with this slip
+abbrev pub alike_after : LineSlip → (digits last n : ℕ) → (row : List ℕ) → List Diagnostic
+alike_after slip digits last n row =
+    if nat_lt last n && is_alike slip (row_slip digits n row)
+    then slip_error Line digits n None row (row_slip digits n row) ∷ [] else []
 
 -- and of all lines after line `last`; line n is the first of these rows
-abbrev pub incomplete_from : (digits last n : ℕ) → (rows : List (List ℕ)) → List Diagnostic
-incomplete_from digits last n [] = []
-incomplete_from digits last n (row ∷ rows) =
-    incomplete_after digits last n row ++ incomplete_from digits last (n + 1) rows
+abbrev pub alike_from : LineSlip → (digits last n : ℕ) → (rows : List (List ℕ)) → List Diagnostic
+alike_from slip digits last n [] = []
+alike_from slip digits last n (row ∷ rows) =
+    alike_after slip digits last n row ++ alike_from slip digits last (n + 1) rows
 
--- the diagnostics for line n; if its mask lacks zeros in front, then also for the masks after it that do, up to 1,000
+-- how many are shown after the first: five comments are shown in all
+abbrev pub most_alike : LineSlip → ℕ
+most_alike slip = if is_comment slip then 4 else most_shown - 1
+
+-- of the lines after line n, which has this slip, those that are like it
+abbrev pub alike_errors : (text : List ℕ) → (n : ℕ) → LineSlip → List Diagnostic
+alike_errors text n slip =
+    let alike = alike_from slip (digits_in text) n 1 (lines text) in
+    take (most_alike slip) alike ++ more_note Certificate (length alike - most_alike slip) (codes "error") (codes "errors")
+
+-- the diagnostics for line n, which has this slip, and for those told together with it
+abbrev pub slip_errors : Code → (text : List ℕ) → (n : ℕ) → (next : Option (List ℕ)) → LineSlip → List Diagnostic
+slip_errors code text n next slip =
+    slip_error code (digits_in text) n next (row_at (lines text) n) slip
+    ∷ (if is_alike slip slip then alike_errors text n slip else [])
+
+-- the diagnostics for line n, which has no form that a line may have
 abbrev pub line_errors : Listing → (text : List ℕ) → (n : ℕ) → List Diagnostic
 line_errors p text n =
-    line_error p text n
-    ∷ (if is_incomplete_slip (row_slip (digits_in text) (row_at (lines text) n))
-    then take (most_shown - 1) (incomplete_from (digits_in text) n 1 (lines text)) else [])
+    let row = row_at (lines text) n in
+    if ends_with_return row then return_error Certificate Line n row ∷ []
+    else slip_errors Line text n (next_name p (lines text) n)
+    (line_slip (common_slip row) (is_ended text n) n (digits_in text) row)
 
 -- the first line of a text
 abbrev pub header_message : (row : List ℕ) → List ℕ
@@ -269,15 +286,16 @@ first_line_error row =
     error Certificate Header (span 1 0 (length row)) (header_message row) []
     (in_words (codes "begin with the line cert 2, or cert 1 if masks have 8 digits, and end it with LF"))
 
-abbrev pub header_by : Option LineSlip → (row : List ℕ) → Diagnostic
-header_by None row = first_line_error row
-header_by (Some slip) row = slip_error Header 16 1 None row slip
+abbrev pub header_by : Option LineSlip → (text : List ℕ) → List Diagnostic
+header_by None text = first_line_error (row_at (lines text) 1) ∷ []
+header_by (Some slip) text = slip_errors Header text 1 None slip
 
-abbrev pub header_error : (text : List ℕ) → (rows : List (List ℕ)) → Diagnostic
-header_error text rows =
-    if length text == 0 then empty_error
-    else (if ends_with_return (row_at rows 1) then return_error Certificate Header 1 (row_at rows 1)
-    else header_by (header_slip rows) (row_at rows 1))
+abbrev pub header_errors : (text : List ℕ) → List Diagnostic
+header_errors text =
+    let row = row_at (lines text) 1 in
+    if length text == 0 then empty_error ∷ []
+    else (if ends_with_return row then return_error Certificate Header 1 row ∷ []
+    else header_by (header_slip (lines text)) text)
 
 -- another task than the next one: its name may be written wrong, or lines are missing or too many
 abbrev pub is_task : Listing → (name : List ℕ) → Bool
@@ -300,20 +318,24 @@ another_message named known =
     codes "this looks like a certificate of another program: the program has " ++ (decimal known
     ++ (codes " of the " ++ (decimal named ++ codes " tasks that it names")))
 
+-- at the name in line n
+abbrev pub error_at_name : (rows : List (List ℕ)) → (n : ℕ) → (message : List ℕ) → Help → Diagnostic
+error_at_name rows n message help = error Certificate TaskName (name_span n (row_at rows n)) message [] help
+
 abbrev pub another_error : (rows : List (List ℕ)) → (n named known : ℕ) → Diagnostic
-another_error rows n named known =
-    error Certificate TaskName (span n 5 (length (row_at rows n) - 5)) (another_message named known) [] anew
+another_error rows n named known = error_at_name rows n (another_message named known) anew
 
 abbrev pub task_message : (next : Option (List ℕ)) → List ℕ
 task_message None = codes "the program has no further task"
 task_message (Some name) = codes "the program's next task is " ++ name
 
+abbrev pub task_help : Listing → (n : ℕ) → (row : List ℕ) → (next : Option (List ℕ)) → Help
+task_help p n row next = if is_task p (drop 5 row) then anew else name_help (name_span n row) next
+
 abbrev pub name_error : Listing → (rows : List (List ℕ)) → (n : ℕ) → Diagnostic
 name_error p rows n =
-    let row = row_at rows n in
-    let at = span n 5 (length row - 5) in
     let next = next_name p rows n in
-    error Certificate TaskName at (task_message next) [] (if is_task p (drop 5 row) then anew else name_help at next)
+    error_at_name rows n (task_message next) (task_help p n (row_at rows n) next)
 
 unfoldable pub task_error : Listing → (rows : List (List ℕ)) → (n : ℕ) → Diagnostic
 task_error p rows n =
@@ -352,7 +374,7 @@ shape_error rows =
 
 -- the diagnostics for a text that is refused
 abbrev pub refused_error : Listing → (text : List ℕ) → CertFault → List Diagnostic
-refused_error p text fault.Header = header_error text (lines text) ∷ []
+refused_error p text fault.Header = header_errors text
 refused_error p text (fault.Line n) = line_errors p text n
 refused_error p text (fault.TaskName n) = task_error p (lines text) n ∷ []
 refused_error p text fault.MissingTask = missing_error p (lines text) ∷ []

@@ -4,6 +4,7 @@ ghost use Rattle.std.specs.Prelude.{◌≡◌, ◌↔◌, [], IfOk};
 ghost use Rattle.mask_certificate.specs.CertificateReading.{cert_parse, names_of};
 ghost use Rattle.input_diagnostics.specs.CertificateErrors.{certificate_errors, Serves};
 
+use crate::compared::Compared;
 use crate::program_lines::ProgramLines;
 use crate::refused::{digits_in, refused_error};
 use crate::stale::fit_errors;
@@ -23,6 +24,7 @@ use task_descriptor::program::Program;
 /// # Errors
 ///
 /// `AllocError` where memory was refused.
+#[tactic(auto, using(crate::proofs::Silence::refused_said))]
 pub fn certificate_errors(
     alloc: Global,
     text: &[u8],
@@ -35,7 +37,8 @@ pub fn certificate_errors(
 {
     match read(alloc, text, program) {
         Ok(cert) => {
-            let list = fit_errors(alloc, program, &cert, least, digits_in(text), lines)?;
+            let compared = Compared::new(program, &cert, least, digits_in(text), lines);
+            let list = fit_errors(alloc, &compared)?;
             Ok(list)
         }
         Err(CertFault::OutOfMemory) => Err(AllocError),

@@ -2,6 +2,7 @@
 #![tactic(auto)]
 
 pub mod certificate;
+mod compared;
 mod larger;
 mod lines;
 mod meant;

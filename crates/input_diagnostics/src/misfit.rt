@@ -9,6 +9,7 @@ ghost use Rattle.mask_certificate.specs.CertificateText.{hexadecimal};
 ghost use Rattle.input_diagnostics.specs.Larger.{entry_at, registers_text};
 ghost use Rattle.input_diagnostics.specs.Misfits.{is_own, own_findings, further, task_line, entry_line, index_width, span_by, instruction_in, note_by, instruction_note, lacks, is_same_mask, register_in, with_missing, missing_text, code_by, lacks_message, idle_words, idle_message, idle_index, lacking_message, message_by, is_short, mask_help, entry_span, least_help, idle_help, lacking_help, help_by, misfit_error, goes_on, told_from, misfit_errors};
 
+use crate::compared::Compared;
 use crate::larger::{entry_at, first_idle, mask_or_none, wanting, write_mask};
 use crate::lines::row_at;
 use crate::program_lines::ProgramLines;
@@ -89,17 +90,16 @@ fn index_width(alloc: Global, index: u32) -> Result<usize, AllocError>
 /// What is meant.
 fn span_of(
     alloc: Global,
-    program: &Program,
-    cert: &Cert,
-    digits: usize,
+    compared: &Compared<'_, '_>,
     finding: &Finding,
 ) -> Result<Span, AllocError>
-    ensures { IfOk result (λ at. at ≡ span_by finding.now.rule program.now cert.now digits finding.now) }
+    ensures { IfOk result (λ at. at ≡ span_by finding.now.rule compared.now finding.now) }
 {
+    let cert = compared.cert();
     let width = index_width(alloc, finding.index)?;
     match finding.rule {
         Rule::EntryWithoutMask => {
-            let name = task_name(program, finding.task);
+            let name = task_name(compared.program(), finding.task);
             Ok(span(task_line(cert, finding.task), 0, 5 + name.len()))
         }
         Rule::NextWithoutMask => {
@@ -108,7 +108,7 @@ fn span_of(
         _ => Ok(span(
             entry_line(cert, finding.task, finding.index),
             width.saturating_add(1),
-            digits,
+            compared.digits(),
         )),
     }
 }
@@ -309,11 +309,11 @@ fn idle_message(
 }
 
 /// The index of the entry that has a register for no reason.
-fn idle_index(cert: &Cert, least: &Cert, finding: &Finding) -> Option<u32>
-    ensures { result ≡ idle_index cert.now least.now finding.now }
+fn idle_index(compared: &Compared<'_, '_>, finding: &Finding) -> Option<u32>
+    ensures { result ≡ idle_index compared.now finding.now }
 {
-    match first_idle(cert, least, finding) {
-        Some(place) => Some(entry_at(cert.list(finding.task), place).0),
+    match first_idle(compared.cert(), compared.least(), finding) {
+        Some(place) => Some(entry_at(compared.cert().list(finding.task), place).0),
         None => None,
     }
 }
@@ -321,17 +321,16 @@ fn idle_index(cert: &Cert, least: &Cert, finding: &Finding) -> Option<u32>
 /// What a mask lacks.
 fn lacking_message(
     alloc: Global,
-    cert: &Cert,
-    least: &Cert,
+    compared: &Compared<'_, '_>,
     name: &str,
     finding: &Finding,
     findings: &[Finding],
 ) -> Result<Words, AllocError>
-    ensures { IfOk result (λ words. words ≡ lacking_message cert.now least.now name.now finding.now findings.now) }
+    ensures { IfOk result (λ words. words ≡ lacking_message compared.now name.now finding.now findings.now) }
 {
-    let registers = wanting(cert, least, finding);
+    let registers = wanting(compared.cert(), compared.least(), finding);
     if registers == 0 {
-        let idle = idle_index(cert, least, finding);
+        let idle = idle_index(compared, finding);
         return idle_message(alloc, name, finding, findings, idle);
     }
     let text = lacks_message(alloc, name, finding.index, registers)?;
@@ -341,13 +340,12 @@ fn lacking_message(
 /// What is wrong.
 fn message_by(
     alloc: Global,
-    cert: &Cert,
-    least: &Cert,
+    compared: &Compared<'_, '_>,
     name: &str,
     finding: &Finding,
     findings: &[Finding],
 ) -> Result<Words, AllocError>
-    ensures { IfOk result (λ words. words ≡ message_by finding.now.rule cert.now least.now name.now finding.now findings.now) }
+    ensures { IfOk result (λ words. words ≡ message_by finding.now.rule compared.now name.now finding.now findings.now) }
 {
     let index = finding.index;
     match finding.rule {
@@ -358,7 +356,7 @@ fn message_by(
             in alloc;
             "task {name} goes on from index {index} to an instruction without a mask"
         ),
-        _ => lacking_message(alloc, cert, least, name, finding, findings),
+        _ => lacking_message(alloc, compared, name, finding, findings),
     }
 }
 
@@ -454,20 +452,19 @@ fn least_help(
 /// What to do where an entry of the task has a register for no reason.
 fn idle_help(
     alloc: Global,
-    cert: &Cert,
-    least: &Cert,
-    digits: usize,
+    compared: &Compared<'_, '_>,
     task: u32,
     place: Option<usize>,
 ) -> Result<Help, AllocError>
-    ensures { IfOk result (λ help. help ≡ idle_help cert.now least.now digits task place) }
+    ensures { IfOk result (λ help. help ≡ idle_help compared.now task place) }
 {
     match place {
         Some(place) => {
+            let cert = compared.cert();
             let index = entry_at(cert.list(task), place).0;
-            let mask = mask_or_none(least, task, index).bits();
-            let at = entry_span(alloc, cert, task, place, digits)?;
-            least_help(alloc, index, digits, mask, at)
+            let mask = mask_or_none(compared.least(), task, index).bits();
+            let at = entry_span(alloc, cert, task, place, compared.digits())?;
+            least_help(alloc, index, compared.digits(), mask, at)
         }
         None => anew(alloc),
     }
@@ -476,57 +473,50 @@ fn idle_help(
 /// What to do about a mask that lacks registers.
 fn lacking_help(
     alloc: Global,
-    cert: &Cert,
-    least: &Cert,
-    digits: usize,
+    compared: &Compared<'_, '_>,
     at: Span,
     finding: &Finding,
 ) -> Result<Help, AllocError>
-    ensures { IfOk result (λ help. help ≡ lacking_help cert.now least.now digits at finding.now) }
+    ensures { IfOk result (λ help. help ≡ lacking_help compared.now at finding.now) }
 {
-    if wanting(cert, least, finding) == 0 {
-        let place = first_idle(cert, least, finding);
-        return idle_help(alloc, cert, least, digits, finding.task, place);
+    let least = compared.least();
+    if wanting(compared.cert(), least, finding) == 0 {
+        let place = first_idle(compared.cert(), least, finding);
+        return idle_help(alloc, compared, finding.task, place);
     }
     let mask = mask_or_none(least, finding.task, finding.index).bits();
-    mask_help(alloc, digits, mask, at)
+    mask_help(alloc, compared.digits(), mask, at)
 }
 
 /// What to do.
 fn help_of(
     alloc: Global,
-    cert: &Cert,
-    least: &Cert,
-    digits: usize,
+    compared: &Compared<'_, '_>,
     at: Span,
     finding: &Finding,
 ) -> Result<Help, AllocError>
-    ensures { IfOk result (λ help. help ≡ help_by finding.now.rule cert.now least.now digits at finding.now) }
+    ensures { IfOk result (λ help. help ≡ help_by finding.now.rule compared.now at finding.now) }
 {
     match finding.rule {
         Rule::EntryWithoutMask | Rule::NextWithoutMask => anew(alloc),
-        _ => lacking_help(alloc, cert, least, digits, at, finding),
+        _ => lacking_help(alloc, compared, at, finding),
     }
 }
 
 /// The diagnostic for a finding, and for those that are reported together with it.
 fn misfit_error(
     alloc: Global,
-    program: &Program,
-    cert: &Cert,
-    least: &Cert,
-    digits: usize,
-    lines: &ProgramLines<'_>,
+    compared: &Compared<'_, '_>,
     finding: &Finding,
     findings: &[Finding],
 ) -> Result<Diagnostic, AllocError>
-    ensures { IfOk result (λ said. said ≡ misfit_error program.now cert.now least.now digits lines.now finding.now findings.now) }
+    ensures { IfOk result (λ said. said ≡ misfit_error compared.now finding.now findings.now) }
 {
-    let at = span_of(alloc, program, cert, digits, finding)?;
-    let name = task_name(program, finding.task);
-    let message = message_by(alloc, cert, least, name, finding, findings)?;
-    let notes = instruction_note(alloc, lines, finding.index)?;
-    let help = help_of(alloc, cert, least, digits, at, finding)?;
+    let at = span_of(alloc, compared, finding)?;
+    let name = task_name(compared.program(), finding.task);
+    let message = message_by(alloc, compared, name, finding, findings)?;
+    let notes = instruction_note(alloc, compared.lines(), finding.index)?;
+    let help = help_of(alloc, compared, at, finding)?;
     let code = code_by(finding.rule);
     Ok(error(Source::Certificate, code, at, message, notes, help))
 }
@@ -545,11 +535,7 @@ fn goes_on(before: Option<Finding>, finding: &Finding) -> bool
 fn add_error(
     alloc: Global,
     list: &mut Vec<Diagnostic>,
-    program: &Program,
-    cert: &Cert,
-    least: &Cert,
-    digits: usize,
-    lines: &ProgramLines<'_>,
+    compared: &Compared<'_, '_>,
     finding: &Finding,
     findings: &[Finding],
     most: usize,
@@ -557,12 +543,11 @@ fn add_error(
     requires { length list.old.items ≤ most }
     ensures room { OnOk result (length list.new.items ≤ most) }
     ensures added { OnOk result (list.new.items ≡ take most (list.old.items
-        ++ misfit_error program.now cert.now least.now digits lines.now finding.now (take_while (is_same_mask finding.now) findings.now) ∷ [])) }
+        ++ misfit_error compared.now finding.now (take_while (is_same_mask finding.now) findings.now) ∷ [])) }
 {
     if list.len() < most {
         let group = same_mask(alloc, finding, findings)?;
-        let said = misfit_error(alloc, program, cert, least, digits, lines, finding, &group)?;
-        list.push(said)?;
+        list.push(misfit_error(alloc, compared, finding, &group)?)?;
     }
     Ok(())
 }
@@ -570,16 +555,12 @@ fn add_error(
 /// The diagnostics for some findings, at most `most` errors, and how many errors there are.
 fn told_of(
     alloc: Global,
-    program: &Program,
-    cert: &Cert,
-    least: &Cert,
-    digits: usize,
-    lines: &ProgramLines<'_>,
+    compared: &Compared<'_, '_>,
     findings: &[Finding],
     most: usize,
 ) -> Result<(Vec<Diagnostic>, usize), AllocError>
-    ensures first { IfOk result (λ told. told.0.items ≡ take most (told_from program.now cert.now least.now digits lines.now None findings.now)) }
-    ensures count { IfOk result (λ told. told.1 ≡ length (told_from program.now cert.now least.now digits lines.now None findings.now)) }
+    ensures first { IfOk result (λ told. told.0.items ≡ take most (told_from compared.now None findings.now)) }
+    ensures count { IfOk result (λ told. told.1 ≡ length (told_from compared.now None findings.now)) }
 {
     let mut list = Vec::new(alloc);
     let mut count = 0;
@@ -587,9 +568,7 @@ fn told_of(
     let mut rest = findings;
     while let [finding, others @ ..] = rest {
         if !goes_on(before, finding) {
-            add_error(
-                alloc, &mut list, program, cert, least, digits, lines, finding, rest, most,
-            )?;
+            add_error(alloc, &mut list, compared, finding, rest, most)?;
             count += 1;
         }
         before = Some(*finding);
@@ -598,22 +577,16 @@ fn told_of(
     Ok((list, count))
 }
 
-/// An error for each mask that is missing or lacks registers, in a certificate whose masks have `digits` digits.
+/// An error for each mask that is missing or lacks registers, in a certificate with these findings.
 pub(crate) fn misfit_errors(
     alloc: Global,
-    program: &Program,
-    cert: &Cert,
-    least: &Cert,
-    digits: usize,
-    lines: &ProgramLines<'_>,
+    compared: &Compared<'_, '_>,
     findings: &[Finding],
 ) -> Result<Vec<Diagnostic>, AllocError>
-    requires { findings.now ≡ own_findings program.now cert.now }
-    ensures { IfOk result (λ list. list.items ≡ misfit_errors program.now cert.now least.now digits lines.now) }
+    requires { findings.now ≡ own_findings compared.now.program compared.now.cert }
+    ensures { IfOk result (λ list. list.items ≡ misfit_errors compared.now) }
 {
-    let (mut list, count) = told_of(
-        alloc, program, cert, least, digits, lines, findings, MOST_SHOWN,
-    )?;
+    let (mut list, count) = told_of(alloc, compared, findings, MOST_SHOWN)?;
     let more = count.saturating_sub(MOST_SHOWN);
     add_more(
         alloc,

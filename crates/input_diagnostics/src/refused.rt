@@ -1,15 +1,16 @@
 //! Diagnostics for the text of a certificate that is refused.
 
-ghost use Rattle.std.specs.Prelude.{◌≡◌, ◌+◌, ◌-◌, ◌≤◌, ◌++◌, ◌∷◌, [], false, map as each, position, take, drop, length, if◌then◌else◌, IfOk, OnOk};
+ghost use Rattle.std.specs.Prelude.{◌≡◌, ◌+◌, ◌-◌, ◌≤◌, ◌++◌, ◌∷◌, [], false, None, map as each, position, take, drop, length, if◌then◌else◌, IfOk, OnOk};
 ghost use Rattle.std.specs.List.{count_by, list_all, list_any};
 ghost use Rattle.std.specs.Option.{option_map};
 ghost use Rattle.std.specs.Str.{str_to_ascii_lowercase};
 ghost use Rattle.mask_certificate.specs.CertificateReading.{is_space, index_in, is_mask_digit};
 ghost use Rattle.event_script.specs.EventScript.{lines};
-ghost use Rattle.input_diagnostics.specs.declared.refused.LineSlip.TheVariants.{Capitals, High, Incomplete};
-ghost use Rattle.input_diagnostics.specs.Saying.{most_shown, row_at};
+ghost use Rattle.diagnostics.specs.declared.code.Code.TheVariants.{Line};
+ghost use Rattle.input_diagnostics.specs.declared.refused.LineSlip.TheVariants.{Capitals, High};
+ghost use Rattle.input_diagnostics.specs.Saying.{row_at};
 ghost use Rattle.input_diagnostics.specs.ScriptErrors.{is_tab, stray_space};
-ghost use Rattle.input_diagnostics.specs.RefusedCertificates.{anew, is_task_row, next_name, bare, is_zero, is_incomplete, completed, bare_mask, mask_slip, no_mask_message, slip_by, word_slip, is_hash, space_slip, tab_slip, comment_slip, common_slip, line_slip, mask_span, slip_span, slip_message, slip_words, name_help, first_help, small_help, completed_help, comment_words, comment_help, slip_help, digits_in, is_ended, slip_error, line_error, row_slip, is_incomplete_slip, incomplete_error, incomplete_by, incomplete_after, incomplete_from, line_errors, header_message, empty_error, is_first_line, header_slip, first_line_error, header_by, header_error, is_task, is_known_row, is_of_another, another_message, another_error, task_message, name_error, task_error, missing_error, index_of, shape_line, shape_message, shape_error, refused_error};
+ghost use Rattle.input_diagnostics.specs.RefusedCertificates.{anew, is_task_row, next_name, bare, is_zero, is_incomplete, completed, bare_mask, mask_slip, no_mask_message, slip_by, word_slip, is_hash, space_slip, tab_slip, comment_slip, common_slip, line_slip, mask_span, name_span, slip_span, slip_message, slip_words, name_help, first_help, small_help, completed_help, comment_words, comment_help, slip_help, digits_in, is_ended, slip_error, is_comment, is_incomplete_slip, is_alike, row_slip, alike_from, most_alike, alike_errors, slip_errors, line_errors, header_message, empty_error, is_first_line, header_slip, first_line_error, header_by, header_errors, is_task, is_known_row, is_of_another, another_message, error_at_name, another_error, task_message, task_help, name_error, task_error, missing_error, index_of, shape_line, shape_message, shape_error, refused_error};
 
 use crate::lines::{lines_of, row_at};
 use crate::saying::{MOST_SHOWN, plain_error, return_error, span};
@@ -18,6 +19,7 @@ use crate::slip::{stray_space, tab_in};
 use diagnostics::code::Code;
 use diagnostics::diagnostic::{Diagnostic, Help, Source, Span};
 use diagnostics::helps::{by_text, in_words};
+use diagnostics::more::add_more;
 use diagnostics::quotation::{as_shown, quoted};
 use diagnostics::words;
 use diagnostics::words::Words;
@@ -66,6 +68,15 @@ pub(crate) fn anew(alloc: Global) -> Result<Help, AllocError>
 {
     let words = "make a new one: multiscalar annotate --emit keep PROGRAM > CERT";
     Ok(in_words(alloc, Words::of(alloc, words)?))
+}
+
+/// A list of one diagnostic.
+pub(crate) fn alone(alloc: Global, said: Diagnostic) -> Result<Vec<Diagnostic>, AllocError>
+    ensures { IfOk result (λ list. list.items ≡ said ∷ []) }
+{
+    let mut list = Vec::new(alloc);
+    list.push(said)?;
+    Ok(list)
 }
 
 /// Whether a line is the line of a task.
@@ -330,6 +341,13 @@ fn mask_span(number: usize, row: &[u8], space: usize) -> Span
     )
 }
 
+/// The name in a `task` line.
+fn name_span(number: usize, row: &[u8]) -> Span
+    ensures { result ≡ name_span number row.now }
+{
+    span(number, 5, row.len().saturating_sub(5))
+}
+
 /// What is meant.
 fn slip_span(number: usize, row: &[u8], slip: LineSlip) -> Span
     ensures { result ≡ slip_span number row.now slip }
@@ -339,7 +357,7 @@ fn slip_span(number: usize, row: &[u8], slip: LineSlip) -> Span
         LineSlip::Tab(before) => span(number, before, 1),
         LineSlip::Space(before) => span(number, before, 1),
         LineSlip::Unended => span(number, row.len(), 0),
-        LineSlip::Name => span(number, 5, row.len().saturating_sub(5)),
+        LineSlip::Name => name_span(number, row),
         LineSlip::Empty => span(number, 0, 0),
         LineSlip::First | LineSlip::Form => span(number, 0, row.len()),
         LineSlip::Index(space) => span(number, 0, space),
@@ -563,32 +581,11 @@ fn slip_error(
     Ok(plain_error(alloc, Source::Certificate, code, at, message, help))
 }
 
-/// The diagnostic for a line that has no form that a line may have.
-fn line_error(
-    alloc: Global,
-    program: &Program,
-    text: &[u8],
-    rows: &[&[u8]],
-    number: usize,
-) -> Result<Diagnostic, AllocError>
-    requires { each (λ row. row.now) rows.now ≡ lines text.now }
-    ensures { IfOk result (λ said. said ≡ line_error program.now text.now number) }
+/// Whether a slip is a comment.
+fn is_comment(slip: LineSlip) -> bool
+    ensures { result ≡ is_comment slip }
 {
-    let row = row_at(rows, number);
-    if ends_with_return(row) {
-        return return_error(alloc, Source::Certificate, Code::Line, number, row);
-    }
-    let digits = digits_in(text);
-    let slip = line_slip(alloc, is_ended(text, rows, number), number, digits, row)?;
-    let next = next_name(program, rows, number);
-    slip_error(alloc, Code::Line, digits, number, next, row, slip)
-}
-
-/// What is wrong with a line as an entry.
-fn row_slip(alloc: Global, digits: usize, row: &[u8]) -> Result<LineSlip, AllocError>
-    ensures { IfOk result (λ slip. slip ≡ row_slip digits row.now) }
-{
-    slip_by(alloc, digits, row)
+    matches!(slip, LineSlip::Comment(_))
 }
 
 /// Whether a mask lacks zeros in front.
@@ -598,45 +595,23 @@ fn is_incomplete_slip(slip: LineSlip) -> bool
     matches!(slip, LineSlip::Incomplete(_))
 }
 
-/// The diagnostic for a line whose mask, after the space at offset `space`, lacks zeros in front.
-fn incomplete_error(
-    alloc: Global,
-    digits: usize,
-    number: usize,
-    row: &[u8],
-    space: usize,
-) -> Result<Diagnostic, AllocError>
-    ensures { IfOk result (λ said. said ≡ incomplete_error digits number row.now space) }
+/// Whether lines with these slips are told together: two comments, or two masks that lack zeros in front.
+fn is_alike(slip: LineSlip, other: LineSlip) -> bool
+    ensures { result ≡ is_alike slip other }
 {
-    let at = mask_span(number, row, space);
-    let message = no_mask_message(alloc, digits)?;
-    let help = completed_help(alloc, digits, at, after(row, space))?;
-    Ok(plain_error(alloc, Source::Certificate, Code::Line, at, message, help))
+    (is_comment(slip) && is_comment(other))
+        || (is_incomplete_slip(slip) && is_incomplete_slip(other))
 }
 
-/// Adds the error for a line whose mask, after the space at offset `space`, lacks zeros in front, if there is room.
-fn add_error(
-    alloc: Global,
-    list: &mut Vec<Diagnostic>,
-    digits: usize,
-    number: usize,
-    row: &[u8],
-    space: usize,
-    most: usize,
-) -> Result<(), AllocError>
-    requires { length list.old.items ≤ most }
-    ensures room { OnOk result (length list.new.items ≤ most) }
-    ensures added { OnOk result (list.new.items
-        ≡ take most (list.old.items ++ incomplete_error digits number row.now space ∷ [])) }
+/// What is wrong with a line, if it ends with LF.
+fn row_slip(alloc: Global, digits: usize, number: usize, row: &[u8]) -> Result<LineSlip, AllocError>
+    ensures { IfOk result (λ slip. slip ≡ row_slip digits number row.now) }
 {
-    if list.len() < most {
-        list.push(incomplete_error(alloc, digits, number, row, space)?)?;
-    }
-    Ok(())
+    line_slip(alloc, true, number, digits, row)
 }
 
-/// Adds the diagnostic for a line with this slip, if its mask lacks zeros in front, and if there is room.
-fn add_incomplete(
+/// Adds the diagnostic for a line with this slip, if there is room.
+fn add_slip(
     alloc: Global,
     list: &mut Vec<Diagnostic>,
     digits: usize,
@@ -647,76 +622,102 @@ fn add_incomplete(
 ) -> Result<(), AllocError>
     requires { length list.old.items ≤ most }
     ensures room { OnOk result (length list.new.items ≤ most) }
-    ensures added { OnOk result (list.new.items ≡ take most (list.old.items ++ incomplete_by digits number row.now slip)) }
+    ensures added { OnOk result (list.new.items
+        ≡ take most (list.old.items ++ slip_error Line digits number None row.now slip ∷ [])) }
 {
-    match slip {
-        LineSlip::Incomplete(space) => { add_error(alloc, list, digits, number, row, space, most) }
-        _ => Ok(()),
-    }
-}
-
-/// Adds the diagnostic for a line after line `last`, if its mask lacks zeros in front, and if there is room.
-fn add_after(
-    alloc: Global,
-    list: &mut Vec<Diagnostic>,
-    digits: usize,
-    last: usize,
-    number: usize,
-    row: &[u8],
-    most: usize,
-) -> Result<(), AllocError>
-    requires { length list.old.items ≤ most }
-    ensures room { OnOk result (length list.new.items ≤ most) }
-    ensures added { OnOk result (list.new.items ≡ take most (list.old.items ++ incomplete_after digits last number row.now)) }
-{
-    if last < number {
-        let slip = row_slip(alloc, digits, row)?;
-        return add_incomplete(alloc, list, digits, number, row, slip, most);
+    if list.len() < most {
+        list.push(slip_error(alloc, Code::Line, digits, number, None, row, slip)?)?;
     }
     Ok(())
 }
 
-/// Errors for the first `most` lines after line `last` whose mask lacks leading zeros.
-fn incomplete_from(
+/// The diagnostics for the lines after line `last` that are like a line with this slip, at most `most`, and how many such lines
+/// there are.
+fn alike_of(
     alloc: Global,
+    slip: LineSlip,
     digits: usize,
     last: usize,
     rows: &[&[u8]],
     most: usize,
-) -> Result<Vec<Diagnostic>, AllocError>
-    ensures { IfOk result (λ list. list.items ≡ take most (incomplete_from digits last 1 (each (λ row. row.now) rows.now))) }
+) -> Result<(Vec<Diagnostic>, usize), AllocError>
+    ensures first { IfOk result (λ told. told.0.items
+        ≡ take most (alike_from slip digits last 1 (each (λ row. row.now) rows.now))) }
+    ensures count { IfOk result (λ told. told.1
+        ≡ length (alike_from slip digits last 1 (each (λ row. row.now) rows.now))) }
 {
     let mut list = Vec::new(alloc);
+    let mut count = 0;
     let mut number = 0;
     let mut rest = rows;
     while let [row, others @ ..] = rest {
         number += 1;
-        add_after(alloc, &mut list, digits, last, number, row, most)?;
+        let own = row_slip(alloc, digits, number, row)?;
+        if last < number && is_alike(slip, own) {
+            add_slip(alloc, &mut list, digits, number, row, own, most)?;
+            count += 1;
+        }
         rest = others;
     }
-    Ok(list)
+    Ok((list, count))
 }
 
-/// The diagnostics for further lines where line `number` has no form that a line may have.
-fn further_errors(
+/// How many lines are shown, at most, after the first with this slip: five comments are shown in all.
+fn most_alike(slip: LineSlip) -> usize
+    ensures { result ≡ most_alike slip }
+{
+    if is_comment(slip) { 4 } else { MOST_SHOWN - 1 }
+}
+
+/// The diagnostics for the lines after line `number`, which has this slip, that are like it, and how many more there are.
+fn alike_errors(
     alloc: Global,
     text: &[u8],
     rows: &[&[u8]],
     number: usize,
+    slip: LineSlip,
+) -> Result<Vec<Diagnostic>, AllocError>
+    requires { each (λ row. row.now) rows.now ≡ lines text.now }
+    ensures { IfOk result (λ list. list.items ≡ alike_errors text.now number slip) }
+{
+    let most = most_alike(slip);
+    let (mut list, count) = alike_of(alloc, slip, digits_in(text), number, rows, most)?;
+    let more = count.saturating_sub(most);
+    add_more(
+        alloc,
+        &mut list,
+        Source::Certificate,
+        more,
+        "error",
+        "errors",
+    )?;
+    Ok(list)
+}
+
+/// The diagnostics for a line with this slip, and for those told together with it.
+fn slip_errors(
+    alloc: Global,
+    code: Code,
+    text: &[u8],
+    rows: &[&[u8]],
+    number: usize,
+    next: Option<&str>,
+    slip: LineSlip,
 ) -> Result<Vec<Diagnostic>, AllocError>
     requires { each (λ row. row.now) rows.now ≡ lines text.now }
     ensures { IfOk result (λ list. list.items
-        ≡ (if is_incomplete_slip (row_slip (digits_in text.now) (row_at (lines text.now) number))
-        then take (most_shown - 1) (incomplete_from (digits_in text.now) number 1 (lines text.now)) else [])) }
+        ≡ slip_errors code text.now number (option_map (λ name. name.now) next.entry) slip) }
 {
-    let digits = digits_in(text);
-    if !is_incomplete_slip(row_slip(alloc, digits, row_at(rows, number))?) {
-        return Ok(Vec::new(alloc));
+    let row = row_at(rows, number);
+    let said = slip_error(alloc, code, digits_in(text), number, next, row, slip)?;
+    let mut list = alone(alloc, said)?;
+    if is_alike(slip, slip) {
+        list.append(&mut alike_errors(alloc, text, rows, number, slip)?)?;
     }
-    incomplete_from(alloc, digits, number, rows, MOST_SHOWN - 1)
+    Ok(list)
 }
 
-/// The diagnostics for a line that has no form that a line may have, and for further ones.
+/// The diagnostics for a line that has no form that a line may have, and for those told together with it.
 fn line_errors(
     alloc: Global,
     program: &Program,
@@ -727,10 +728,15 @@ fn line_errors(
     requires { each (λ row. row.now) rows.now ≡ lines text.now }
     ensures { IfOk result (λ list. list.items ≡ line_errors program.now text.now number) }
 {
-    let mut list = Vec::new(alloc);
-    list.push(line_error(alloc, program, text, rows, number)?)?;
-    list.append(&mut further_errors(alloc, text, rows, number)?)?;
-    Ok(list)
+    let row = row_at(rows, number);
+    if ends_with_return(row) {
+        let said = return_error(alloc, Source::Certificate, Code::Line, number, row)?;
+        return alone(alloc, said);
+    }
+    let ended = is_ended(text, rows, number);
+    let slip = line_slip(alloc, ended, number, digits_in(text), row)?;
+    let next = next_name(program, rows, number);
+    slip_errors(alloc, Code::Line, text, rows, number, next, slip)
 }
 
 /// What is wrong with the first line.
@@ -795,28 +801,36 @@ fn first_line_error(alloc: Global, row: &[u8]) -> Result<Diagnostic, AllocError>
     Ok(plain_error(alloc, Source::Certificate, Code::Header, at, message, help))
 }
 
-/// The diagnostic for a first line with this slip, or for one that is another one than that of a certificate.
-fn header_by(alloc: Global, slip: Option<LineSlip>, row: &[u8]) -> Result<Diagnostic, AllocError>
-    ensures { IfOk result (λ said. said ≡ header_by slip row.now) }
+/// The diagnostics for a first line with this slip, or for one that is another one than that of a certificate.
+fn header_by(
+    alloc: Global,
+    text: &[u8],
+    rows: &[&[u8]],
+    slip: Option<LineSlip>,
+) -> Result<Vec<Diagnostic>, AllocError>
+    requires { each (λ row. row.now) rows.now ≡ lines text.now }
+    ensures { IfOk result (λ list. list.items ≡ header_by slip text.now) }
 {
     match slip {
-        Some(slip) => slip_error(alloc, Code::Header, 16, 1, None, row, slip),
-        None => first_line_error(alloc, row),
+        Some(slip) => slip_errors(alloc, Code::Header, text, rows, 1, None, slip),
+        None => alone(alloc, first_line_error(alloc, row_at(rows, 1))?),
     }
 }
 
-/// The diagnostic for a text that does not begin as a certificate does.
-fn header_error(alloc: Global, text: &[u8], rows: &[&[u8]]) -> Result<Diagnostic, AllocError>
-    ensures { IfOk result (λ said. said ≡ header_error text.now (each (λ row. row.now) rows.now)) }
+/// The diagnostics for a text that does not begin as a certificate does.
+fn header_errors(alloc: Global, text: &[u8], rows: &[&[u8]]) -> Result<Vec<Diagnostic>, AllocError>
+    requires { each (λ row. row.now) rows.now ≡ lines text.now }
+    ensures { IfOk result (λ list. list.items ≡ header_errors text.now) }
 {
     if text.is_empty() {
-        return empty_error(alloc);
+        return alone(alloc, empty_error(alloc)?);
     }
     let row = row_at(rows, 1);
     if ends_with_return(row) {
-        return return_error(alloc, Source::Certificate, Code::Header, 1, row);
+        let said = return_error(alloc, Source::Certificate, Code::Header, 1, row)?;
+        return alone(alloc, said);
     }
-    header_by(alloc, header_slip(rows), row)
+    header_by(alloc, text, rows, header_slip(rows))
 }
 
 /// Whether the program has a task of this name.
@@ -862,6 +876,27 @@ fn another_message(alloc: Global, named: usize, known: usize) -> Result<Words, A
     words!(in alloc; "this looks like a certificate of another program: the program has {known} of the {named} tasks that it names")
 }
 
+/// A diagnostic at the name in a `task` line.
+fn error_at_name(
+    alloc: Global,
+    rows: &[&[u8]],
+    number: usize,
+    message: Words,
+    help: Help,
+) -> Diagnostic
+    ensures { result ≡ error_at_name (each (λ row. row.now) rows.now) number message help }
+{
+    let at = name_span(number, row_at(rows, number));
+    plain_error(
+        alloc,
+        Source::Certificate,
+        Code::TaskName,
+        at,
+        message,
+        help,
+    )
+}
+
 /// The diagnostic for a certificate of another program, at the line of the first task that is not the next one.
 fn another_error(
     alloc: Global,
@@ -872,18 +907,9 @@ fn another_error(
 ) -> Result<Diagnostic, AllocError>
     ensures { IfOk result (λ said. said ≡ another_error (each (λ row. row.now) rows.now) number named known) }
 {
-    let row = row_at(rows, number);
-    let at = span(number, 5, row.len().saturating_sub(5));
     let message = another_message(alloc, named, known)?;
     let help = anew(alloc)?;
-    Ok(plain_error(
-        alloc,
-        Source::Certificate,
-        Code::TaskName,
-        at,
-        message,
-        help,
-    ))
+    Ok(error_at_name(alloc, rows, number, message, help))
 }
 
 /// What is wrong with a `task` line.
@@ -896,6 +922,23 @@ fn task_message(alloc: Global, next: Option<&str>) -> Result<Words, AllocError>
     }
 }
 
+/// What to do about a line of another task than the next one: it may be written wrong, or lines are missing or too many.
+fn task_help(
+    alloc: Global,
+    program: &Program,
+    number: usize,
+    row: &[u8],
+    next: Option<&str>,
+) -> Result<Help, AllocError>
+    ensures { IfOk result (λ help. help ≡ task_help program.now number row.now (option_map (λ name. name.now) next.entry)) }
+{
+    if is_task(program, name_of(row)) {
+        anew(alloc)
+    } else {
+        name_help(alloc, name_span(number, row), next)
+    }
+}
+
 /// The diagnostic for a line of another task than the next one.
 fn name_error(
     alloc: Global,
@@ -905,22 +948,10 @@ fn name_error(
 ) -> Result<Diagnostic, AllocError>
     ensures { IfOk result (λ said. said ≡ name_error program.now (each (λ row. row.now) rows.now) number) }
 {
-    let row = row_at(rows, number);
-    let at = span(number, 5, row.len().saturating_sub(5));
-    let message = task_message(alloc, next_name(program, rows, number))?;
-    let help = if is_task(program, name_of(row)) {
-        anew(alloc)?
-    } else {
-        name_help(alloc, at, next_name(program, rows, number))?
-    };
-    Ok(plain_error(
-        alloc,
-        Source::Certificate,
-        Code::TaskName,
-        at,
-        message,
-        help,
-    ))
+    let next = next_name(program, rows, number);
+    let message = task_message(alloc, next)?;
+    let help = task_help(alloc, program, number, row_at(rows, number), next)?;
+    Ok(error_at_name(alloc, rows, number, message, help))
 }
 
 /// The diagnostic for a line of another task than the next one, or for the certificate if it is of another program.
@@ -1009,15 +1040,6 @@ fn shape_error(alloc: Global, rows: &[&[u8]]) -> Result<Diagnostic, AllocError>
     Ok(plain_error(alloc, Source::Certificate, Code::Shape, at, message, help))
 }
 
-/// A list of one diagnostic.
-fn alone(alloc: Global, said: Diagnostic) -> Result<Vec<Diagnostic>, AllocError>
-    ensures { IfOk result (λ list. list.items ≡ said ∷ []) }
-{
-    let mut list = Vec::new(alloc);
-    list.push(said)?;
-    Ok(list)
-}
-
 /// The diagnostics for the text of a certificate that is refused with this fault.
 pub(crate) fn refused_error(
     alloc: Global,
@@ -1029,7 +1051,7 @@ pub(crate) fn refused_error(
 {
     let rows = lines_of(alloc, text)?;
     match fault {
-        CertFault::Header => alone(alloc, header_error(alloc, text, &rows)?),
+        CertFault::Header => header_errors(alloc, text, &rows),
         CertFault::Line(number) => line_errors(alloc, program, text, &rows, number),
         CertFault::TaskName(number) => alone(alloc, task_error(alloc, program, &rows, number)?),
         CertFault::MissingTask => alone(alloc, missing_error(alloc, program, &rows)?),

@@ -4,9 +4,9 @@ ghost use Rattle.std.specs.Prelude.{◌≡◌, ◌==◌, if◌then◌else◌, No
 ghost use Rattle.input_diagnostics.specs.Misfits.{own_findings};
 ghost use Rattle.input_diagnostics.specs.Stale.{size_in, other_task, stale_task, instructions_text, stale_message, stale_error, stale_or_misfit, fit_errors};
 
+use crate::compared::Compared;
 use crate::misfit::{misfit_errors, own_findings, task_line};
-use crate::program_lines::ProgramLines;
-use crate::refused::anew;
+use crate::refused::{alone, anew};
 use crate::saying::{plain_error, span};
 use diagnostics::code::Code;
 use diagnostics::diagnostic::{Diagnostic, Source};
@@ -16,7 +16,6 @@ use event_script::writing::task_name;
 use mark_checker::finding::Finding;
 use mask_certificate::certificate::Cert;
 use std::alloc::{AllocError, Global};
-use task_descriptor::program::Program;
 
 /// A task, if it has another number of instructions in a certificate than in the least one.
 fn if_other(cert: &Cert, least: &Cert, task: u32) -> Option<u32>
@@ -41,13 +40,14 @@ fn other_task(cert: &Cert, least: &Cert, count: u32) -> Option<u32>
 }
 
 /// The task that shows that a certificate with these findings is of another text.
-fn stale_task(program: &Program, cert: &Cert, least: &Cert, findings: &[Finding]) -> Option<u32>
-    ensures { result ≡ stale_task program.now cert.now least.now findings.now }
+fn stale_task(compared: &Compared<'_, '_>, findings: &[Finding]) -> Option<u32>
+    ensures { result ≡ stale_task compared.now findings.now }
 {
     if findings.is_empty() {
         return None;
     }
-    other_task(cert, least, program.tasks().len() as u32)
+    let tasks = compared.program().tasks().len() as u32;
+    other_task(compared.cert(), compared.least(), tasks)
 }
 
 /// A number of instructions, as words.
@@ -72,16 +72,16 @@ fn stale_message(alloc: Global, name: &str, here: usize, there: usize) -> Result
 /// The diagnostic for a certificate of another text, where this task has another number of instructions.
 fn stale_error(
     alloc: Global,
-    program: &Program,
-    cert: &Cert,
-    least: &Cert,
+    compared: &Compared<'_, '_>,
     task: u32,
 ) -> Result<Diagnostic, AllocError>
-    ensures { IfOk result (λ said. said ≡ stale_error program.now cert.now least.now task) }
+    ensures { IfOk result (λ said. said ≡ stale_error compared.now task) }
 {
-    let name = task_name(program, task);
-    let at = span(task_line(cert, task), 0, 5 + name.len());
-    let message = stale_message(alloc, name, least.list(task).len(), cert.list(task).len())?;
+    let name = task_name(compared.program(), task);
+    let at = span(task_line(compared.cert(), task), 0, 5 + name.len());
+    let here = compared.least().list(task).len();
+    let there = compared.cert().list(task).len();
+    let message = stale_message(alloc, name, here, there)?;
     let help = anew(alloc)?;
     Ok(plain_error(alloc, Source::Certificate, Code::Unfit, at, message, help))
 }
@@ -89,40 +89,28 @@ fn stale_error(
 /// That a certificate is of another text, if a task shows it, or what is wrong with each mask.
 fn stale_or_misfit(
     alloc: Global,
-    program: &Program,
-    cert: &Cert,
-    least: &Cert,
-    digits: usize,
-    lines: &ProgramLines<'_>,
+    compared: &Compared<'_, '_>,
     findings: &[Finding],
     stale: Option<u32>,
 ) -> Result<Vec<Diagnostic>, AllocError>
-    requires { findings.now ≡ own_findings program.now cert.now }
-    ensures { IfOk result (λ list. list.items ≡ stale_or_misfit program.now cert.now least.now digits lines.now stale) }
+    requires { findings.now ≡ own_findings compared.now.program compared.now.cert }
+    ensures { IfOk result (λ list. list.items ≡ stale_or_misfit compared.now stale) }
 {
     match stale {
-        Some(task) => {
-            let mut list = Vec::new(alloc);
-            list.push(stale_error(alloc, program, cert, least, task)?)?;
-            Ok(list)
-        }
-        None => misfit_errors(alloc, program, cert, least, digits, lines, findings),
+        Some(task) => alone(alloc, stale_error(alloc, compared, task)?),
+        None => misfit_errors(alloc, compared, findings),
     }
 }
 
-/// The diagnostics for a certificate that can be read, whose masks have `digits` digits.
+/// The diagnostics for a certificate that can be read.
 pub(crate) fn fit_errors(
     alloc: Global,
-    program: &Program,
-    cert: &Cert,
-    least: &Cert,
-    digits: usize,
-    lines: &ProgramLines<'_>,
+    compared: &Compared<'_, '_>,
 ) -> Result<Vec<Diagnostic>, AllocError>
-    ensures { IfOk result (λ list. list.items ≡ fit_errors program.now cert.now least.now digits lines.now) }
+    ensures { IfOk result (λ list. list.items ≡ fit_errors compared.now) }
 {
-    let findings = own_findings(alloc, program, cert)?;
-    let stale = stale_task(program, cert, least, &findings);
-    let list = stale_or_misfit(alloc, program, cert, least, digits, lines, &findings, stale)?;
+    let findings = own_findings(alloc, compared.program(), compared.cert())?;
+    let stale = stale_task(compared, &findings);
+    let list = stale_or_misfit(alloc, compared, &findings, stale)?;
     Ok(list)
 }

@@ -1,6 +1,6 @@
 -- What is wrong with the marks of a program: what is said of each finding that is told, by its rule. (The rules 1 to 4
 -- find nothing with a least certificate.)
-use Rattle.std.specs.Prelude.{◌≡◌, ◌↔◌, ℕ, ◌-◌, if◌then◌else◌, List, [], ◌++◌, codes, map, take, length, slice_get, Option, Some, None}
+use Rattle.std.specs.Prelude.{◌≡◌, ◌↔◌, ℕ, ◌-◌, Bool, true, if◌then◌else◌, List, [], ◌++◌, codes, map, take, length, slice_get, Option, Some, None}
 use Rattle.std.specs.List.{All, AllZip}
 use Rattle.task_graph.specs.Soundness.{Sound}
 use Rattle.mark_checker.specs.declared.finding.Rule.{Rule}
@@ -24,6 +24,7 @@ use Rattle.mark_subjects.specs.Steps.{path_in, first_entered, stop_note, stop_or
 use Rattle.mark_diagnostics.specs.Masks.{missing, mask_notes, mask_help}
 use Rattle.mark_diagnostics.specs.Sending.{later, forward_help, release_help, early_notes}
 use Rattle.exit_diagnostics.specs.Exits.{exit_message, exit_notes, exit_help, beyond, beyond_help, wrong_number, wrong_target, place_note, target_help}
+use Rattle.exit_diagnostics.specs.Needless.{IsNeedless}
 use Rattle.exit_diagnostics.specs.Calls.{return_help}
 use Rattle.mark_subjects.specs.More.{more_note}
 
@@ -82,14 +83,15 @@ notes_by rule.IndirectGoesOn s f path about shown = way_notes s f.index path
 notes_by rule.TargetNotEntry s f path about shown = place_note s (wrong_target s f.task)
 notes_by _ s f path about shown = mask_notes s about shown
 
-abbrev pub help_by : Rule → Judged → Finding → (path : List ℕ) → (about : List Finding) → Help
-help_by rule.ForwardedInNext s f path about = forward_help s f (later s f path)
-help_by rule.ReleasedInNext s f path about = release_help s f (later s f path)
-help_by rule.ExitNotListed s f path about = exit_help s f
-help_by rule.FallsOff s f path about = beyond_help s f.index
-help_by rule.IndirectGoesOn s f path about = return_help s f.task f.index path
-help_by rule.TargetNotEntry s f path about = target_help s f.task
-help_by _ s f path about = mask_help s f.task about
+-- of an exit that is no target, the stop may be `needless`
+abbrev pub help_by : Rule → Judged → Finding → (needless : Bool) → (path : List ℕ) → (about : List Finding) → Help
+help_by rule.ForwardedInNext s f needless path about = forward_help s f (later s f path)
+help_by rule.ReleasedInNext s f needless path about = release_help s f (later s f path)
+help_by rule.ExitNotListed s f needless path about = exit_help s f needless
+help_by rule.FallsOff s f needless path about = beyond_help s f.index
+help_by rule.IndirectGoesOn s f needless path about = return_help s f.task f.index path
+help_by rule.TargetNotEntry s f needless path about = target_help s f.task
+help_by _ s f needless path about = mask_help s f.task about
 
 -- the path that shows the first of some findings
 abbrev pub first_path : Option ShownFinding → List ℕ
@@ -97,15 +99,15 @@ first_path None = []
 first_path (Some shown) = path_in shown.path
 
 -- An error is told whole: with the paths that show it, and what to do.
-unfoldable pub whole_error : Judged → Finding → (about : List Finding) → (shown : List ShownFinding) → Diagnostic
-whole_error s f about shown = record {
+unfoldable pub whole_error : Judged → Finding → (needless : Bool) → (about : List Finding) → (shown : List ShownFinding) → Diagnostic
+whole_error s f needless about shown = record {
   severity = Error;
   code = code_of f.rule;
   source = Program;
   span = Some (span_by f.rule s f);
   message = message_by f.rule s f about;
   notes = stop_note s f.task (first_entered s shown) ++ notes_by f.rule s f (first_path (slice_get shown 0)) about shown;
-  help = Some (stop_or s f.task (first_entered s shown) (help_by f.rule s f (first_path (slice_get shown 0)) about));
+  help = Some (stop_or s f.task (first_entered s shown) (help_by f.rule s f needless (first_path (slice_get shown 0)) about));
 }
 
 -- It is told in short where another error of its task is told before it, and a stop that may be forgotten on its path is the
@@ -128,12 +130,12 @@ unfoldable pub short_step : Judged → Finding → Option (ℕ × ℕ) → Optio
 short_step s f None = None
 short_step s f (Some step) = ends_first s f step
 
-abbrev pub error_by : Judged → Finding → (about : List Finding) → (shown : List ShownFinding) → Option (ℕ × ℕ) → Diagnostic
-error_by s f about shown None = whole_error s f about shown
-error_by s f about shown (Some step) = short_error s f about step
+abbrev pub error_by : Judged → Finding → (needless : Bool) → (about : List Finding) → (shown : List ShownFinding) → Option (ℕ × ℕ) → Diagnostic
+error_by s f needless about shown None = whole_error s f needless about shown
+error_by s f needless about shown (Some step) = short_error s f about step
 
-abbrev pub error_diagnostic : Judged → Finding → (about : List Finding) → (shown : List ShownFinding) → Diagnostic
-error_diagnostic s f about shown = error_by s f about shown (short_step s f (first_entered s shown))
+abbrev pub error_diagnostic : Judged → Finding → (needless : Bool) → (about : List Finding) → (shown : List ShownFinding) → Diagnostic
+error_diagnostic s f needless about shown = error_by s f needless about shown (short_step s f (first_entered s shown))
 
 -- The diagnostic says what the finding is: the first five of those that are told with it are shown, each by a shortest
 -- path.
@@ -141,7 +143,10 @@ pub record Says (s : Judged) (f : Finding) (said : Diagnostic) : Type 0 where
   pub shown : List ShownFinding
   pub first_five : map (λ one. one.finding) shown ≡ take 5 (about s f)
   pub each : All (λ one. IsShown s.program one.finding one.path) shown
-  pub is : said ≡ error_diagnostic s f (about s f) shown
+  -- of an exit that is no target, whether the stop there is needless
+  pub needless : Bool
+  pub whether : f.rule ≡ rule.ExitNotListed → ((needless ≡ true) ↔ IsNeedless s f.task f.index)
+  pub is : said ≡ error_diagnostic s f needless (about s f) shown
 
 -- The diagnostics say what is wrong with the marks of the program that the text spells.
 pub record AreMarkErrors (text : List ℕ) (list : List Diagnostic) : Type 0 where

@@ -22,12 +22,12 @@ use Rattle.mark_subjects.specs.Subjects.{Judged, which, targets_text}
 use Rattle.mark_subjects.specs.MarkPlaces.{mark_from}
 use Rattle.mark_subjects.specs.Spellings.{spelled, first_spelling, names_in}
 use Rattle.mark_diagnostics.specs.Told.{told, leaders, begins_with}
-use Rattle.exit_diagnostics.specs.declared.meant_stop.MeantStop.TheVariants.{Edge, AtHalt}
+use Rattle.exit_diagnostics.specs.declared.meant_stop.MeantStop.TheVariants.{This, Edge, AtHalt, Needless}
 use Rattle.mark_subjects.specs.Stops.{bit_text, missing_stop}
 use Rattle.mark_subjects.specs.Steps.{entered, stop_text, end_advice}
 use Rattle.mark_subjects.specs.Targets.{is_target, both}
 use Rattle.mark_subjects.specs.Parts.{in_words, steps_of}
-use Rattle.exit_diagnostics.specs.Meant.{meant, leads_to_targets, later_meant, edge_stop, edge_name, edge_advice, halt_advice}
+use Rattle.exit_diagnostics.specs.Meant.{meant, leads_to_targets, later_meant, or_needless, edge_stop, edge_name, edge_advice, halt_advice, needless_advice}
 use Rattle.mark_diagnostics.specs.Masks.{widened}
 use Rattle.mark_diagnostics.specs.Releases.{names_no_index, release_text}
 use Rattle.mark_diagnostics.specs.Sending.{later, later_by, elsewhere, first_left, side, advice, whole_advice, kept}
@@ -186,6 +186,17 @@ pub halt_words : halt_advice 8 (codes "let a task begin on line 8")
     ≡ codes "remove !s: the task then ends at the halt on line 8; or let a task begin on line 8"
 unfolding digits
 halt_words = refl
+
+-- a needless stop is removed only where no other stop may be meant
+pub none_meant : or_needless This true ≡ Needless
+none_meant = refl
+
+pub edge_first : or_needless (Edge true 0) true ≡ Edge true 0
+edge_first = refl
+
+pub needless_words : needless_advice (codes "!s") (codes "let a task begin on line 8")
+    ≡ codes "remove !s: the task then goes on, and ends only at targets or a halt; or let a task begin on line 8"
+needless_words = refl
 
 pub edge_words : edge_advice (edge_stop true) (edge_name true) (codes "LOOP") (codes "let a task begin on line 8")
     ≡ codes "write !st: the task then ends only if the branch is taken, at LOOP, which is a target; or let a task begin on line 8"

@@ -1,10 +1,12 @@
 //! What is wrong with a program's marks, as diagnostics.
 
-ghost use Rattle.std.specs.Prelude.{◌≡◌, map as each, slice_get, Ok, IfOk};
+ghost use Rattle.std.specs.Prelude.{◌≡◌, ◌↔◌, true, map as each, slice_get, Ok, IfOk};
 ghost use Rattle.std.specs.List.{All, AllZip};
 ghost use Rattle.annotated_asm.specs.ProgramText.{parse};
 ghost use Rattle.annotator.specs.Least.{IsLeast};
 ghost use Rattle.finding_paths.specs.Shown.{IsFinding, IsShown};
+ghost use Rattle.mark_checker.specs.declared.finding.Rule.TheVariants.{ExitNotListed};
+ghost use Rattle.exit_diagnostics.specs.Needless.{IsNeedless};
 ghost use Rattle.exit_diagnostics.specs.Exits.{place_note, beyond as beyond_of, wrong_target as wrong_target_of};
 ghost use Rattle.mark_subjects.specs.Subjects.{task_name, spot_text, place_text};
 ghost use Rattle.mark_diagnostics.specs.Errors.{code_of, span_by, early_text, beyond_text, indirect_text, target_text, mask_text, message_by, notes_by, help_by, first_path, whole_error, short_error, ends_first, short_step, error_diagnostic, Says, AreMarkErrors};
@@ -24,6 +26,7 @@ use exit_diagnostics::exit::{
     add_place_note, beyond, beyond_help, exit_help, exit_message, exit_notes, target_help,
     wrong_number, wrong_target,
 };
+use exit_diagnostics::needless::is_needless;
 use finding_paths::shown::{ShownFinding, path_of};
 use mark_checker::accept::accepts;
 use mark_checker::finding::{Finding, Rule};
@@ -172,14 +175,20 @@ fn notes_of(
     }
 }
 
-/// What to do about it.
-fn help(subject: &Subject, finding: &Finding, path: &[u32], about: &[Finding]) -> Made<Help>
-    ensures { IfOk result (λ help. help ≡ help_by finding.now.rule subject.now finding.now path.now about.now) }
+/// What to do about it; the stop there may be needless.
+fn help(
+    subject: &Subject,
+    finding: &Finding,
+    needless: bool,
+    path: &[u32],
+    about: &[Finding],
+) -> Made<Help>
+    ensures { IfOk result (λ help. help ≡ help_by finding.now.rule subject.now finding.now needless path.now about.now) }
 {
     match finding.rule {
         Rule::ForwardedInNext => { forward_help(subject, finding, later(subject, finding, path)?) }
         Rule::ReleasedInNext => { release_help(subject, finding, later(subject, finding, path)?) }
-        Rule::ExitNotListed => exit_help(subject, finding),
+        Rule::ExitNotListed => exit_help(subject, finding, needless),
         Rule::FallsOff => beyond_help(subject, finding.index),
         Rule::IndirectGoesOn => return_help(subject, finding.task, finding.index, path),
         Rule::TargetNotEntry => target_help(subject, finding.task),
@@ -202,10 +211,11 @@ fn first_path(shown: &[ShownFinding]) -> &[u32]
 fn whole_error(
     subject: &Subject,
     finding: &Finding,
+    needless: bool,
     about: &[Finding],
     shown: &[ShownFinding],
 ) -> Made<Diagnostic>
-    ensures { IfOk result (λ said. said ≡ whole_error subject.now finding.now about.now shown.now) }
+    ensures { IfOk result (λ said. said ≡ whole_error subject.now finding.now needless about.now shown.now) }
 {
     let path = first_path(shown);
     let step = first_entered(subject, shown);
@@ -213,7 +223,7 @@ fn whole_error(
     let mut notes = stop_note(subject, finding.task, step)?;
     let mut shown_notes = notes_of(subject, finding, path, about, shown)?;
     notes.append(&mut shown_notes)?;
-    let help = help(subject, finding, path, about)?;
+    let help = help(subject, finding, needless, path, about)?;
     let help = stop_or(subject, finding.task, step, help)?;
     Ok(Diagnostic {
         severity: Severity::Error,
@@ -283,15 +293,16 @@ fn short_step(
 fn error_diagnostic(
     subject: &Subject,
     finding: &Finding,
+    needless: bool,
     about: &[Finding],
     shown: &[ShownFinding],
 ) -> Made<Diagnostic>
-    ensures { IfOk result (λ said. said ≡ error_diagnostic subject.now finding.now about.now shown.now) }
+    ensures { IfOk result (λ said. said ≡ error_diagnostic subject.now finding.now needless about.now shown.now) }
 {
     let entered = first_entered(subject, shown);
     match short_step(subject, finding, entered)? {
         Some(step) => short_error(subject, finding, about, step),
-        None => whole_error(subject, finding, about, shown),
+        None => whole_error(subject, finding, needless, about, shown),
     }
 }
 
@@ -312,6 +323,16 @@ fn shown_of(alloc: Global, program: &Program, findings: &[Finding]) -> Made<Vec<
     Ok(list)
 }
 
+/// Of an exit that is no target, whether the stop there is needless.
+fn has_needless_stop(subject: &Subject, finding: &Finding) -> Made<bool>
+    ensures { IfOk result (λ needless. finding.now.rule ≡ ExitNotListed → ((needless ≡ true) ↔ IsNeedless subject.now finding.now.task finding.now.index)) }
+{
+    match finding.rule {
+        Rule::ExitNotListed => is_needless(subject, finding.task, finding.index),
+        _ => Ok(false),
+    }
+}
+
 /// The diagnostic for a finding that is reported.
 fn told_diagnostic(subject: &Subject, finding: &Finding) -> Made<Diagnostic>
     requires least { IsLeast subject.now.program subject.now.least }
@@ -321,7 +342,8 @@ fn told_diagnostic(subject: &Subject, finding: &Finding) -> Made<Diagnostic>
     let about = about(subject, finding)?;
     let first = first_of(&about, 5);
     let shown = shown_of(subject.alloc(), subject.program(), first)?;
-    let said = error_diagnostic(subject, finding, &about, &shown)?;
+    let needless = has_needless_stop(subject, finding)?;
+    let said = error_diagnostic(subject, finding, needless, &about, &shown)?;
     Ok(said)
 }
 

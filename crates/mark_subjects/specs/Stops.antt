@@ -1,13 +1,14 @@
--- Stops and forward bits that are written anew, and the stop that may be forgotten where an instruction goes on into the
--- first instruction of a task.
-use Rattle.std.specs.Prelude.{ℕ, Bool, true, false, List, [], ◌++◌, codes, Option, Some, None}
+-- Stops and forward bits that are written anew, stops that are taken out, and the stop that may be forgotten where an
+-- instruction goes on into the first instruction of a task.
+use Rattle.std.specs.Prelude.{ℕ, ◌-◌, Bool, true, false, List, [], ◌++◌, codes, Option, Some, None}
 use Rattle.std.specs.Str.{byte}
 use Rattle.task_descriptor.specs.declared.descriptor.Stop.{Stop}
 use Rattle.task_descriptor.specs.declared.descriptor.Stop.TheVariants as stop
 use Rattle.diagnostics.specs.declared.diagnostic.Span.{Span}
 use Rattle.diagnostics.specs.declared.diagnostic.Replacement.{Replacement}
 use Rattle.mark_subjects.specs.Subjects.{Judged, task_at, is_branch, stop_of, inner_end, instruction_span, column_after, after}
-use Rattle.mark_subjects.specs.MarkPlaces.{bytes_at, mark_from}
+use Rattle.mark_subjects.specs.MarkPlaces.{bytes_at, mark_from, mark_span}
+use Rattle.mark_subjects.specs.Parts.{take_out}
 
 -- Where a stop is written: after the instruction, or in place of the stop that is there.
 
@@ -29,6 +30,15 @@ stop_put s i word = record {
   span = stop_place (stop_of s i) (instruction_span s i) (mark_from (byte "s") 0 (bytes_at s.rows (instruction_span s i)));
   text = blank_before (stop_of s i) ++ word;
 }
+
+-- A stop is taken out with the blank before it, if there is one.
+
+abbrev pub widened : Option Span → (more : ℕ) → Option Span
+widened None more = None
+widened (Some span) more = Some (record { line = span.line; column = span.column; width = column_after span.width more })
+
+abbrev pub stop_out : Judged → (index : ℕ) → List Replacement
+stop_out s i = take_out (widened (mark_span (byte "s") s.rows (instruction_span s i)) (stop_width (stop_of s i) - 2))
 
 -- A forward bit is written before the stop, as in the canonical text; where there is none, after the instruction.
 

@@ -1,9 +1,10 @@
-//! Stops and forward bits that are written anew, and the stop that may be forgotten.
+//! Stops and forward bits that are written anew, stops that are taken out, and the stop that may be forgotten.
 
 ghost use Rattle.std.specs.Prelude.{◌≡◌, IfOk};
-ghost use Rattle.mark_subjects.specs.Stops.{stop_width, stop_place, blank_before, stop_put, bit_place, bit_text, bit_put, into, stop_word, missing_stop};
+ghost use Rattle.mark_subjects.specs.Stops.{stop_width, stop_place, blank_before, stop_put, widened, stop_out, bit_place, bit_text, bit_put, into, stop_word, missing_stop};
 
-use crate::mark_place::stop_mark;
+use crate::mark_place::{mark_span, stop_mark};
+use crate::parts::take_out;
 use crate::subject::{Made, Subject, after, column_after};
 use diagnostics::diagnostic::{Replacement, Span};
 use diagnostics::words;
@@ -55,6 +56,29 @@ pub fn stop_put(subject: &Subject, index: u32, word: &str) -> Made<Replacement>
         span: stop_place(stop, span, stop_mark(subject.rows(), span)),
         text: words!(in subject.alloc(); "{blank}{word}")?,
     })
+}
+
+/// A part of the text, if it is there, with this many bytes more.
+fn widened(span: Option<Span>, more: usize) -> Option<Span>
+    ensures { result ≡ widened span more }
+{
+    match span {
+        Some(span) => Some(Span {
+            line: span.line,
+            column: span.column,
+            width: column_after(span.width, more),
+        }),
+        None => None,
+    }
+}
+
+/// That the stop of an instruction is taken out, with the blank before it, if there is one.
+pub fn stop_out(subject: &Subject, index: u32) -> Made<Vec<Replacement>>
+    ensures { IfOk result (λ list. list.items ≡ stop_out subject.now index) }
+{
+    let mark = mark_span(b's', subject.rows(), subject.span(index));
+    let more = stop_width(subject.stop(index)).saturating_sub(2);
+    take_out(subject.alloc(), widened(mark, more))
 }
 
 /// Where to write a forward bit, if a stop stands after this many bytes.

@@ -86,7 +86,7 @@ pub fn stop_note(subject: &Subject, task: u32, step: Option<(u32, u32)>) -> Made
 }
 
 /// A stop as it is written.
-fn stop_name(stop: Stop) -> &'static str
+pub fn stop_name(stop: Stop) -> &'static str
     ensures { result.now ≡ stop_name stop }
 {
     match stop {

@@ -348,7 +348,7 @@ fn span_of(stretch: Option<&Stretch>) -> Span
 }
 
 /// The end of an edge, if the instruction has it and it is of that kind.
-fn end_of(marked: &Marked, index: u32, taken: bool, leaving: bool) -> Option<u32>
+pub fn end_of(marked: &Marked, index: u32, taken: bool, leaving: bool) -> Option<u32>
     requires { index < 4096 }
     ensures { result ≡ end_of leaving marked.now index taken }
 {

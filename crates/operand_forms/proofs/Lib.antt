@@ -11,3 +11,4 @@ pub mod Mended
 pub mod FirstUnfit
 pub mod TextsNamed
 pub mod CodeLines
+mod Doubled

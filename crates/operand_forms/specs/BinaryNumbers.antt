@@ -1,22 +1,15 @@
 -- The numbers that other assemblers write as 0b and binary digits.
-use Rattle.std.specs.Prelude.{ℕ, ◌+◌, ◌*◌, ◌^◌, List, [], ◌∷◌, nat_lt, Option, Some, None, if◌then◌else◌, ◌==◌, ◌&&◌, ◌||◌}
+use Rattle.std.specs.Prelude.{ℕ, ◌^◌, List, ◌∷◌, nat_lt, Option, Some, None, if◌then◌else◌, ◌==◌, ◌&&◌, ◌||◌}
 use Rattle.std.specs.Str.{byte}
+use Rattle.program_tokens.specs.Numbers.{number_in}
 
--- a number with one binary digit more, if it has 32 bits at most
-abbrev pub with_bit : (value digit : ℕ) → Option ℕ
-with_bit value b =
-    if b == byte "0" && nat_lt value (2 ^ 31) then Some (value * 2)
-    else if b == byte "1" && nat_lt value (2 ^ 31) then Some (value * 2 + 1)
-    else None
+-- a number that has 32 bits at most
+abbrev pub in_a_word : Option ℕ → Option ℕ
+in_a_word None = None
+in_a_word (Some n) = if nat_lt n (2 ^ 32) then Some n else None
 
--- the number that digits spell after others, which spell the first
-abbrev pub value_after : Option ℕ → (digits : List ℕ) → Option ℕ
-value_after None digits = None
-value_after (Some value) [] = Some value
-value_after (Some value) (b ∷ bs) = value_after (with_bit value b) bs
-
--- `0b` or `0B`, and at least one digit
+-- `0b` or `0B`, and binary digits
 abbrev pub binary_value : List ℕ → Option ℕ
-binary_value (a ∷ b ∷ c ∷ bs) =
-    if a == byte "0" && (b == byte "b" || b == byte "B") then value_after (Some 0) (c ∷ bs) else None
+binary_value (a ∷ b ∷ digits) =
+    if a == byte "0" && (b == byte "b" || b == byte "B") then in_a_word (number_in 2 digits) else None
 binary_value _ = None

@@ -3,6 +3,7 @@ use Rattle.std.specs.Prelude.{◌≡◌, ℕ, pos, List, [], ◌∷◌, ◌++◌
 use Rattle.std.specs.Str.{is_utf8, chars}
 use lib.Utf8.{encode}
 use Rattle.program_tokens.specs.Grammar.{kind_of}
+use Rattle.program_tokens.specs.Numbers.{number_in}
 use Rattle.program_tokens.specs.Spans.{line_spans, spans_after}
 use Rattle.program_tokens.specs.declared.token.Number.TheVariants.{Small}
 use Rattle.program_tokens.specs.declared.token.Token.TheVariants.{Register, Number, Comma, Open, Close}
@@ -66,9 +67,16 @@ a_dollar = refl
 
 -- binary digits; with 33 of them the number has more than 32 bits
 pub four_ones : binary_value (codes "0b1111") ≡ Some 15
+unfolding number_in
 four_ones = refl
 
+-- zeros in front do no harm
+pub a_zero_in_front : binary_value (codes "0B000000000000000000000000000000001") ≡ Some 1
+unfolding number_in
+a_zero_in_front = refl
+
 pub too_many_bits : binary_value (codes "0b100000000000000000000000000000000") ≡ None
+unfolding number_in
 too_many_bits = refl
 
 -- a directive that ends before _, and a mark in capitals

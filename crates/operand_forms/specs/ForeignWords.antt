@@ -7,6 +7,11 @@ use Rattle.std.specs.Char.{is_ascii_digit}
 use Rattle.program_tokens.specs.Numbers.{begins_with_digit}
 use Rattle.program_tokens.specs.Grammar.{is_name_start}
 
+-- of a label where a word is wanted
+abbrev pub not_an_address : List ℕ
+not_an_address =
+    codes "a word is a number, not the address of a label: load the address with la where it is used; for a jump table write a branch for each case, or compile with -fno-jump-tables"
+
 -- Words that begin no statement here; then directives, marks that there are not or that stand there, and what is no token (34
 -- is a quotation mark).
 abbrev pub words : List (List ℕ × List ℕ)
@@ -111,7 +116,7 @@ sign_words =
     ∷ (codes ".short", codes "write .byte with the low and the high byte")
     ∷ (codes ".dword", codes "write .word with the low and then the high half")
     ∷ (codes ".quad", codes "write .word with the low and then the high half")
-    ∷ (codes ".gpword", codes "a word is a number, not the address of a label: load the address with la where it is used; for a jump table write a branch for each case, or compile with -fno-jump-tables")
+    ∷ (codes ".gpword", not_an_address)
     ∷ (codes ".float", codes "there is no floating point; write .word with the number's bits")
     ∷ (codes ".double", codes "there is no floating point; write .word with the low and then the high half of the number's bits")
     ∷ (codes ".ascii", codes "write .byte with the letters' numbers, as .byte 104,105 for hi, and before the next .word .space with the bytes that are missing to a multiple of 4")
@@ -233,7 +238,7 @@ operands =
     ∷ ((codes " $8,4($9)", codes "a"), codes "load the address with la into a register that is free, on a line before it, and write 0 and that register here, as in 0($9)")
     ∷ ((codes " $8,4($9)", codes "("), codes "write the offset before it, as in 0($9)")
     ∷ ((codes " $8,4($9)", codes "$"), codes "write an address as in 0($9)")
-    ∷ ((codes ".word", codes "a"), codes "a word is a number, not the address of a label: load the address with la where it is used; for a jump table write a branch for each case, or compile with -fno-jump-tables")
+    ∷ ((codes ".word", codes "a"), not_an_address)
     ∷ ((codes ".byte", codes "a"), codes "a byte is a number: an address is loaded with la")
     ∷ ((codes ".word", codes ":"), codes "write each number, with commas between them")
     ∷ ((codes ".byte", codes ":"), codes "write each number, with commas between them")

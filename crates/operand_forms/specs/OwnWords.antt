@@ -12,7 +12,7 @@ use Rattle.program_tokens.specs.declared.span.TokenSpan.{TokenSpan}
 use Rattle.diagnostics.specs.Quotations.{as_shown}
 use Rattle.operand_forms.specs.declared.rows.Reading.{Reading}
 use Rattle.operand_forms.specs.Bytes.{bytes_at, byte_at, whole_word}
-use Rattle.operand_forms.specs.ForeignWords.{operand_row}
+use Rattle.operand_forms.specs.ForeignWords.{not_an_address, operand_row}
 use Rattle.operand_forms.specs.LinePlaces.{after_labels, shape_named}
 use Rattle.operand_forms.specs.Meant.{span_at}
 use Rattle.operand_forms.specs.Shapes.{form_text}
@@ -73,8 +73,8 @@ places_and_numbers =
     ∷ ((codes " $8,$9,LABEL", codes "$,$,0"), codes "write the label of the instruction in place of F")
     ∷ ((codes " $8,$9,LABEL", codes "$,0,a"), codes "for 0 write A B,$0,F!; for another number write li $1,D and A B,$1,F!")
     ∷ ((codes " $8,$9,LABEL", codes "$,-,a"), codes "write li $1,D and A B,$1,F!")
-    ∷ ((codes ".word", codes "a+0"), codes "a word is a number, not the address of a label: load the address with la where it is used; for a jump table write a branch for each case, or compile with -fno-jump-tables")
-    ∷ ((codes ".word", codes ".a"), codes "a word is a number, not the address of a label: load the address with la where it is used; for a jump table write a branch for each case, or compile with -fno-jump-tables")
+    ∷ ((codes ".word", codes "a+0"), not_an_address)
+    ∷ ((codes ".word", codes ".a"), not_an_address)
     ∷ (([], codes "+0"), codes "write A C")
     ∷ (([], codes "$,+0"), codes "write A B,E!")
     ∷ (([], codes "$,$,+0"), codes "write A B,D,G!")

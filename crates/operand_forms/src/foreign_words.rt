@@ -4,6 +4,10 @@ ghost use Rattle.std.specs.Prelude.{◌≡◌, map as each};
 ghost use Rattle.std.specs.Option.{option_map};
 ghost use Rattle.operand_forms.specs.ForeignWords.{row_of, word_instead, sign_instead, instead, class_of, is_of, is_meant, operand_row, operand_instead};
 
+/// Of a label where a word is wanted.
+pub(crate) const NOT_AN_ADDRESS: &str =
+    "a word is a number, not the address of a label: load the address with la where it is used; for a jump table write a branch for each case, or compile with -fno-jump-tables";
+
 /// Words of other assemblers, with what is written instead. rd, rs, rt and base are
 /// registers, n is a number, T a place in the code and NAME a label.
 const WORDS: [(&str, &str); 85] = [
@@ -191,10 +195,7 @@ const SIGNS: [(&str, &str); 73] = [
     (".short", "write .byte with the low and the high byte"),
     (".dword", "write .word with the low and then the high half"),
     (".quad", "write .word with the low and then the high half"),
-    (
-        ".gpword",
-        "a word is a number, not the address of a label: load the address with la where it is used; for a jump table write a branch for each case, or compile with -fno-jump-tables",
-    ),
+    (".gpword", NOT_AN_ADDRESS),
     (
         ".float",
         "there is no floating point; write .word with the number's bits",
@@ -395,10 +396,7 @@ const OPERANDS: [((&str, &str), &str); 52] = [
         "write the offset before it, as in 0($9)",
     ),
     ((" $8,4($9)", "$"), "write an address as in 0($9)"),
-    (
-        (".word", "a"),
-        "a word is a number, not the address of a label: load the address with la where it is used; for a jump table write a branch for each case, or compile with -fno-jump-tables",
-    ),
+    ((".word", "a"), NOT_AN_ADDRESS),
     (
         (".byte", "a"),
         "a byte is a number: an address is loaded with la",

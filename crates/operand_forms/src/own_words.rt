@@ -6,7 +6,7 @@ ghost use Rattle.std.specs.Option.{option_map, option_or};
 ghost use Rattle.operand_forms.specs.OwnWords.{sign_of, signs, mark_text, marks_text, word_for, in_its_words, is_register_one, address_row, place_row, kind_row, foreign_row, begins_as_name, is_constant, constant_row, line_instead, line_words, own_words};
 
 use crate::bytes::{byte_at, bytes_at, whole_word};
-use crate::foreign_words::operand_row;
+use crate::foreign_words::{NOT_AN_ADDRESS, operand_row};
 use crate::line_place::{after_labels, shape_named};
 use crate::meant::span_at;
 use crate::rows::Reading;
@@ -137,14 +137,8 @@ const PLACES_AND_NUMBERS: [((&str, &str), &str); 31] = [
         "for 0 write A B,$0,F!; for another number write li $1,D and A B,$1,F!",
     ),
     ((" $8,$9,LABEL", "$,-,a"), "write li $1,D and A B,$1,F!"),
-    (
-        (".word", "a+0"),
-        "a word is a number, not the address of a label: load the address with la where it is used; for a jump table write a branch for each case, or compile with -fno-jump-tables",
-    ),
-    (
-        (".word", ".a"),
-        "a word is a number, not the address of a label: load the address with la where it is used; for a jump table write a branch for each case, or compile with -fno-jump-tables",
-    ),
+    ((".word", "a+0"), NOT_AN_ADDRESS),
+    ((".word", ".a"), NOT_AN_ADDRESS),
     (("", "+0"), "write A C"),
     (("", "$,+0"), "write A B,E!"),
     (("", "$,$,+0"), "write A B,D,G!"),

@@ -60,10 +60,14 @@ name_in (Some d) = d.name
 abbrev pub name_of : List Descriptor → (task : ℕ) → List ℕ
 name_of tasks task = name_in (slice_get tasks task)
 
--- how many letters of a name a bar of this width has room for: all of them, or as many as leave room for three points
+-- how many letters of a name a bar of this width has room for: all of them, or as many as leave room for three points; a
+-- single letter says too little
+abbrev pub more_than_one : (letters : ℕ) → ℕ
+more_than_one letters = if nat_eq letters 1 then 0 else letters
+
 abbrev pub letters_in : (name : List ℕ) (width : ℕ) → ℕ
 letters_in name width =
-    if nat_eq (fitting_of (width - 1000) name) (length name) then length name else fitting_of (width - 2300) name
+    if nat_eq (fitting_of (width - 1000) name) (length name) then length name else more_than_one (fitting_of (width - 2300) name)
 
 -- the name on a bar, where `letters` letters of it have room
 abbrev pub name_label : (events letters : ℕ) → Life → List Shape

@@ -2,7 +2,7 @@
 use Rattle.std.specs.Prelude.{◌≡◌, ℕ, ◌+◌, ◌*◌, [], ◌∷◌, ◌++◌, Some, None, codes, replicate}
 use Rattle.std.specs.Fmt.{digits}
 use Rattle.std.proofs.Common.{refl}
-use Rattle.machine_model.specs.declared.event.Event.TheVariants.{Assign, Exec, Drain, Retire}
+use Rattle.machine_model.specs.declared.event.Event.TheVariants.{Assign, Exec, Transfer, Drain, Retire}
 use Rattle.machine_model.specs.declared.event.Standing.TheVariants as standing
 use Rattle.task_lives.specs.declared.life.Ending.{Ending}
 use Rattle.task_lives.specs.declared.life.Ending.TheVariants.{Retired, Squashed, Dropped, Unfinished}
@@ -12,8 +12,8 @@ use Rattle.run_picture.specs.declared.shape.Geometry.TheVariants.{Rectangle, Lin
 use Rattle.run_picture.specs.declared.shape.Hover.TheVariants.{Nothing, OfLife, OfHalted, OfDrain}
 use Rattle.run_picture.specs.declared.shape.Counted.TheVariants.{Events, Steps}
 use Rattle.run_picture.specs.Scales.{pixels_text, step_of, fitting_of}
-use Rattle.run_picture.specs.Bars.{bar_of, halted_unit_if}
-use Rattle.run_picture.specs.Marks.{marks_of}
+use Rattle.run_picture.specs.Bars.{bar_of, halted_unit_if, letters_in}
+use Rattle.run_picture.specs.Marks.{marks_of, next_arrival}
 use Rattle.run_picture.specs.Stretches.{hover_of, overlap, share_of}
 use Rattle.run_picture.specs.StretchTallies.{executed_from}
 use Rattle.run_picture.specs.ShapeText.{hover_text}
@@ -40,6 +40,16 @@ numbers_of_15 = refl
 -- "Amen" in 33 pixels: 11, 13 and 9
 pub three_letters : fitting_of 3300 (65 ∷ 109 ∷ 101 ∷ 110 ∷ []) ≡ 3
 three_letters = refl
+
+-- "Echo" in 43 pixels, of which 20 are room for two letters before three points; in 42 one letter has room, and in 48 all
+pub two_of_four : letters_in (codes "Echo") 4300 ≡ 2
+two_of_four = refl
+
+pub not_one_of_four : letters_in (codes "Echo") 4200 ≡ 0
+not_one_of_four = refl
+
+pub all_four : letters_in (codes "Echo") 4800 ≡ 4
+all_four = refl
 
 pub title_with_a_name : title_text (codes "count.s") Events 4 17 ≡ codes "count.s: 4 units, 17 events"
 unfolding digits
@@ -90,6 +100,10 @@ said_of_halted = refl
 -- after a Retire the instruction at position 0 is one of unit 1
 pub marks_behind_retire : marks_of 2 4 (Assign 0 ∷ Retire ∷ Assign 0 ∷ Exec 0 ∷ []) ≡ record { style = Instruction; form = Line 110300 26100 110300 27000; hover = Nothing } ∷ []
 marks_behind_retire = refl
+
+-- after the Retire position 0 is unit 1, at which `$9` arrives by the third of these events, the first of which is event 5
+pub next_at_unit_1 : next_arrival 2 1 0 5 (Transfer 0 8 ∷ Retire ∷ Transfer 0 9 ∷ []) ≡ Some 7
+next_at_unit_1 = refl
 
 -- in the second of four events unit 0, which has stopped, sends `$8`
 pub mark_of_drain : marks_of 2 4 (Assign 0 ∷ Drain 0 8 ∷ Retire ∷ Assign 0 ∷ []) ≡ record { style = Arrow; form = Line 52300 19300 52300 20600; hover = OfDrain Events 2 8 0 } ∷ []

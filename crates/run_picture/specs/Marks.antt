@@ -1,6 +1,6 @@
 -- The marks of single events: instructions, registers that go from one unit to the next or are sent by a stopped
 -- unit, and where a squash begins.
-use Rattle.std.specs.Prelude.{ℕ, ◌+◌, ◌-◌, List, [], ◌∷◌, ◌++◌, nat_eq, nat_lt, nat_le, if◌then◌else◌}
+use Rattle.std.specs.Prelude.{ℕ, ◌+◌, ◌-◌, ◌%◌, List, [], ◌∷◌, ◌++◌, Bool, true, false, Option, Some, None, nat_eq, nat_lt, nat_le, if◌then◌else◌}
 use Rattle.machine_model.specs.declared.event.Event.{Event}
 use Rattle.machine_model.specs.declared.event.Event.TheVariants.{Exec, Transfer, Drain, Squash}
 use Rattle.machine_model.specs.HeadEvent.{unit_of, retired_after}
@@ -41,18 +41,18 @@ arrows_of events number hover from unit =
     else arrow_of events number hover (top_of unit - 2800) (top_of unit) ∷ []
 
 -- the register beside its arrow, if there is room for it
-abbrev pub register_of : (events number unit register : ℕ) → List Shape
-register_of events number unit register =
-    if nat_le 2600 (room_of events) then label RegisterName (middle_of events (number - 1) + 500) (top_of unit - 900) (Register register) ∷ [] else []
+abbrev pub register_of : (events number unit register : ℕ) → (is_room : Bool) → List Shape
+register_of events number unit register is_room =
+    if is_room then label RegisterName (middle_of events (number - 1) + 500) (top_of unit - 900) (Register register) ∷ [] else []
 
 -- the unit before a unit round the ring
 abbrev pub unit_before : (units unit : ℕ) → ℕ
 unit_before units unit = if nat_eq unit 0 then units - 1 else unit - 1
 
-abbrev pub transfer_of : Counted → (units events number unit register : ℕ) → List Shape
-transfer_of counted units events number unit register =
+abbrev pub transfer_of : Counted → (units events number unit register : ℕ) → (is_room : Bool) → List Shape
+transfer_of counted units events number unit register is_room =
     arrows_of events number (OfTransfer counted number register (unit_before units unit) unit) (unit_before units unit) unit
-    ++ register_of events number unit register
+    ++ register_of events number unit register is_room
 
 -- a short arrow down to the lower edge of the unit's bar
 abbrev pub drain_of : Counted → (events number unit register : ℕ) → Shape
@@ -68,18 +68,53 @@ squash_of counted events number unit = record {
 }
 
 -- the marks of an event, at the unit to which it belongs: in column `number`, from 1, of `events` events or steps
-abbrev pub marks_at : Counted → (units events number unit : ℕ) → Event → List Shape
-marks_at counted units events number unit (Exec k) = tick_of events number unit ∷ []
-marks_at counted units events number unit (Transfer k register) = transfer_of counted units events number unit register
-marks_at counted units events number unit (Drain k register) = drain_of counted events number unit register ∷ []
-marks_at counted units events number unit (Squash k) = squash_of counted events number unit ∷ []
-marks_at counted units events number unit _ = []
+abbrev pub marks_at : Counted → (units events number unit : ℕ) → (is_room : Bool) → Event → List Shape
+marks_at counted units events number unit is_room (Exec k) = tick_of events number unit ∷ []
+marks_at counted units events number unit is_room (Transfer k register) = transfer_of counted units events number unit register is_room
+marks_at counted units events number unit is_room (Drain k register) = drain_of counted events number unit register ∷ []
+marks_at counted units events number unit is_room (Squash k) = squash_of counted events number unit ∷ []
+marks_at counted units events number unit is_room _ = []
 
--- the marks from event `number` (from 0) on, after `retired` Retires, in a history of `events` events
+-- ---- the room for a register beside its arrow, up to the next arrow at that unit
+
+-- a register arrives at a unit
+abbrev pub arrives_at : (units unit retired : ℕ) → Event → Bool
+arrives_at units unit retired (Transfer k register) = nat_eq ((retired + k) % units) unit
+arrives_at units unit retired _ = false
+
+-- the number of the next event by which a register arrives at a unit; the first of these events has the number `first`, and
+-- comes after `retired` Retires
+abbrev pub next_arrival : (units unit retired first : ℕ) → List Event → Option ℕ
+next_arrival units unit retired first [] = None
+next_arrival units unit retired first (e ∷ es) =
+    if arrives_at units unit retired e then Some first else next_arrival units unit (retired_after retired e) (first + 1) es
+
+-- from one column to another, both numbered from 1, there are 26 pixels
+abbrev pub is_far : (events column next : ℕ) → Bool
+is_far events column next = nat_le (middle_of events (column - 1) + 2600) (middle_of events (next - 1))
+
+abbrev pub has_room : (events column : ℕ) → (next : Option ℕ) → Bool
+has_room events column None = true
+has_room events column (Some next) = is_far events column next
+
+-- event `number`, from 1, before these later ones
+abbrev pub room_beside : (units events retired number : ℕ) → Event → (later : List Event) → Bool
+room_beside units events retired number (Transfer k register) later =
+    has_room events number (next_arrival units ((retired + k) % units) retired (number + 1) later)
+room_beside units events retired number _ later = false
+
+-- ---- the marks of a history of `events` events
+
+-- those of event `number`, from 1, after `retired` Retires and before these later events
+abbrev pub marks_in : (units events retired number : ℕ) → Event → (later : List Event) → List Shape
+marks_in units events retired number e later =
+    marks_at Events units events number (unit_of units retired 0 e) (room_beside units events retired number e later) e
+
+-- those of the events after the first `number` ones
 abbrev pub marks_from : (units events retired number : ℕ) → List Event → List Shape
 marks_from units events retired number [] = []
 marks_from units events retired number (e ∷ es) =
-    marks_at Events units events (number + 1) (unit_of units retired 0 e) e ++ marks_from units events (retired_after retired e) (number + 1) es
+    marks_in units events retired (number + 1) e es ++ marks_from units events (retired_after retired e) (number + 1) es
 
 abbrev pub marks_of : (units events : ℕ) → List Event → List Shape
 marks_of units events history = marks_from units events 0 0 history

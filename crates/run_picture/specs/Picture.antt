@@ -1,6 +1,6 @@
 -- The picture of a run: its shapes, and its text.
 use Rattle.std.specs.Fmt.{decimal}
-use Rattle.std.specs.Prelude.{ℕ, ◌+◌, ◌/◌, List, [], ◌∷◌, ◌++◌, length, codes, nat_le, if◌then◌else◌, Option, None}
+use Rattle.std.specs.Prelude.{ℕ, ◌+◌, ◌/◌, ◌==◌, List, [], ◌∷◌, ◌++◌, length, codes, nat_le, if◌then◌else◌, Option, None}
 use Rattle.machine_model.specs.declared.event.Event.{Event}
 use Rattle.machine_model.specs.declared.event.Standing.{Standing}
 use Rattle.task_descriptor.specs.declared.descriptor.Descriptor.{Descriptor}
@@ -67,20 +67,25 @@ abbrev pub heading_text : (name : List ℕ) → (units events : ℕ) → List �
 heading_text name units events =
     codes "<text class='title' x='88.00' y='46.00'>" ++ (title_text name Events units events ++ (codes "</text>" ++ 10 ∷ []))
 
-abbrev pub opening_text : (name : List ℕ) → (units events : ℕ) → List ℕ
-opening_text name units events = front_text name units events ++ heading_text name units events
+-- what is said further, if anything, beside how the run stands
+abbrev pub said_text : (said : List ℕ) → List ℕ
+said_text said =
+    if length said == 0 then [] else codes "<text class='quiet' x='700.00' y='133.00'>" ++ (said ++ (codes "</text>" ++ 10 ∷ []))
+
+abbrev pub opening_text : (name said : List ℕ) → (units events : ℕ) → List ℕ
+opening_text name said units events = front_text name units events ++ (heading_text name units events ++ said_text said)
 
 -- the text of the picture of a run of the given number of events, from its shapes
-abbrev pub file_text : (name : List ℕ) → List Descriptor → (units events : ℕ) → List Shape → List ℕ
-file_text name tasks units events shapes =
-    opening_text name units events ++ (shapes_text tasks shapes ++ (codes "</svg>" ++ 10 ∷ []))
+abbrev pub file_text : (name said : List ℕ) → List Descriptor → (units events : ℕ) → List Shape → List ℕ
+file_text name said tasks units events shapes =
+    opening_text name said units events ++ (shapes_text tasks shapes ++ (codes "</svg>" ++ 10 ∷ []))
 
 -- the whole text, of a history of a program of this name, which may be empty, on the given number of units, after which
--- the run stands so, if that is known
-unfoldable pub ended_picture_text : (name : List ℕ) → Listing → (units : ℕ) → Option Standing → List Event → List ℕ
-ended_picture_text name p units stands history =
-    file_text name p.tasks units (length history) (shapes_of p.tasks units stands history (lives_of units history))
+-- the run stands so, if that is known; this is said further
+unfoldable pub ended_picture_text : (name said : List ℕ) → Listing → (units : ℕ) → Option Standing → List Event → List ℕ
+ended_picture_text name said p units stands history =
+    file_text name said p.tasks units (length history) (shapes_of p.tasks units stands history (lives_of units history))
 
--- where it is not known
+-- where it is not known, and nothing is said
 unfoldable pub picture_text : (name : List ℕ) → Listing → (units : ℕ) → List Event → List ℕ
-picture_text name p units history = ended_picture_text name p units None history
+picture_text name p units history = ended_picture_text name [] p units None history

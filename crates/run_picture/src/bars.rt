@@ -2,7 +2,7 @@
 
 ghost use Rattle.std.specs.Prelude.{◌≡◌, ◌<◌, ◌++◌, OnOk};
 ghost use Rattle.task_lives.specs.Sums.{is_unfinished as is_unfinished_ending};
-ghost use Rattle.run_picture.specs.Bars.{bar_hover as bar_hover_of, bar_of as bar_of_life, bar_style as bar_style_of, bars_of, halted_unit as halted_unit_of, halted_unit_if as halted_unit_if_of, is_halted as is_halted_life, letters_in as letters_in_width, name_label, name_of as name_of_task, name_on, names_of, width_of};
+ghost use Rattle.run_picture.specs.Bars.{bar_hover as bar_hover_of, bar_of as bar_of_life, bar_style as bar_style_of, bars_of, halted_unit as halted_unit_of, halted_unit_if as halted_unit_if_of, is_halted as is_halted_life, letters_in as letters_in_width, more_than_one as more_than_one_of, name_label, name_of as name_of_task, name_on, names_of, width_of};
 
 use crate::scale::{BAR_HEIGHT, fitting, left_edge, top};
 use crate::shape::{Geometry, Hover, LabelText, Shape, Style};
@@ -163,7 +163,7 @@ fn push_letters(
 }
 
 /// How many letters of a name a bar of this width has room for: all of them, or as many as leave room for three
-/// points.
+/// points; a single letter says too little.
 fn letters_in(name: &str, width: u64) -> usize
     ensures { result ≡ letters_in_width name.now width }
 {
@@ -171,8 +171,15 @@ fn letters_in(name: &str, width: u64) -> usize
     if whole == name.len() {
         whole
     } else {
-        fitting(name.as_bytes(), width.saturating_sub(2_300))
+        more_than_one(fitting(name.as_bytes(), width.saturating_sub(2_300)))
     }
+}
+
+/// A number of letters, and none in place of one.
+fn more_than_one(letters: usize) -> usize
+    ensures { result ≡ more_than_one_of letters }
+{
+    if letters == 1 { 0 } else { letters }
 }
 
 /// The name of a task; of letters, digits and `_` alone, so that nothing in it has a meaning in SVG.

@@ -6,7 +6,7 @@ ghost use Rattle.machine_model.specs.Runs.{events_of};
 ghost use Rattle.machine_model.specs.Answer.{most_events};
 ghost use Rattle.task_lives.specs.Lives.{AllFit};
 ghost use Rattle.task_lives.specs.Sums.{AreFew};
-ghost use Rattle.run_picture.specs.Picture.{ended_picture_text, file_text, front_text, heading_text, height_of, inner_shapes, legend_text, opening_text, picture_text, root_text, shapes_of as shapes_of_run, sheet_text, single_shapes, summed_shapes};
+ghost use Rattle.run_picture.specs.Picture.{ended_picture_text, file_text, front_text, heading_text, height_of, inner_shapes, legend_text, opening_text, picture_text, root_text, said_text, shapes_of as shapes_of_run, sheet_text, single_shapes, summed_shapes};
 
 use crate::bars::{halted_unit_if, push_bars, push_names};
 use crate::events::single_events;
@@ -47,15 +47,16 @@ pub fn draw(
     requires fit { AllFit 0 (events_of runs.now) }
     ensures { IfOk result (λ text. string_bytes text ≡ picture_text name.now program.now units (events_of runs.now)) }
 {
-    draw_ended(alloc, program, name, units, None, runs)
+    draw_ended(alloc, program, name, "", units, None, runs)
 }
 
 /// Draws a history as `draw` does; if it is known how the run stands after it, the picture says so, and shows which task
-/// halted. An error means that memory was refused.
+/// halted. `said` is text of SVG that stands beside that, and may be empty. An error means that memory was refused.
 pub fn draw_ended(
     alloc: Global,
     program: &Program,
     name: &str,
+    said: &str,
     units: u32,
     standing: Option<Standing>,
     runs: &[EventRun],
@@ -63,7 +64,7 @@ pub fn draw_ended(
     requires some { 0 < units }
     requires room { length (events_of runs.now) ≤ most_events }
     requires fit { AllFit 0 (events_of runs.now) }
-    ensures { IfOk result (λ text. string_bytes text ≡ ended_picture_text name.now program.now units standing (events_of runs.now)) }
+    ensures { IfOk result (λ text. string_bytes text ≡ ended_picture_text name.now said.now program.now units standing (events_of runs.now)) }
 {
     let events = single_events(alloc, runs)?;
     let lives = lives_of_runs(alloc, runs, units)?;
@@ -71,6 +72,7 @@ pub fn draw_ended(
         alloc,
         program.tasks(),
         name,
+        said,
         units,
         standing,
         &events,
@@ -84,6 +86,7 @@ fn draw_lives(
     alloc: Global,
     tasks: &[Descriptor],
     name: &str,
+    said: &str,
     units: u32,
     standing: Option<Standing>,
     events: &[Event],
@@ -93,11 +96,11 @@ fn draw_lives(
     requires room { length events.now ≤ most_events }
     requires few { AreFew lives.now }
     ensures { IfOk result (λ text. string_bytes text
-        ≡ file_text name.now tasks.now units (length events.now) (shapes_of_run tasks.now units standing events.now lives.now)) }
+        ≡ file_text name.now said.now tasks.now units (length events.now) (shapes_of_run tasks.now units standing events.now lives.now)) }
 {
     let shapes = shapes_of(alloc, tasks, units, standing, events, lives)?;
     let mut text = String::new(alloc);
-    write_file(&mut text, tasks, name, units, events.len(), &shapes)?;
+    write_file(&mut text, tasks, name, said, units, events.len(), &shapes)?;
     Ok(text)
 }
 
@@ -192,23 +195,44 @@ fn write_file(
     text: &mut String,
     tasks: &[Descriptor],
     name: &str,
+    said: &str,
     units: u32,
     events: usize,
     shapes: &[Shape],
 ) -> Result<(), AllocError>
-    ensures { OnOk result (string_bytes text.new ≡ string_bytes text.old ++ file_text name.now tasks.now units events shapes.now) }
+    ensures { OnOk result (string_bytes text.new ≡ string_bytes text.old ++ file_text name.now said.now tasks.now units events shapes.now) }
 {
-    write_opening(text, name, units, events)?;
+    write_opening(text, name, said, units, events)?;
     write_shapes(text, tasks, shapes)?;
     text.push_str("</svg>\n")
 }
 
-/// Writes the beginning of the file, and the title.
-fn write_opening(text: &mut String, name: &str, units: u32, events: usize) -> Result<(), AllocError>
-    ensures { OnOk result (string_bytes text.new ≡ string_bytes text.old ++ opening_text name.now units events) }
+/// Writes the beginning of the file, the title, and what is said further.
+fn write_opening(
+    text: &mut String,
+    name: &str,
+    said: &str,
+    units: u32,
+    events: usize,
+) -> Result<(), AllocError>
+    ensures { OnOk result (string_bytes text.new ≡ string_bytes text.old ++ opening_text name.now said.now units events) }
 {
     write_front(text, name, units, events)?;
-    write_heading(text, name, units, events)
+    write_heading(text, name, units, events)?;
+    write_said(text, said)
+}
+
+/// Writes what is said further, if anything.
+fn write_said(text: &mut String, said: &str) -> Result<(), AllocError>
+    ensures { OnOk result (string_bytes text.new ≡ string_bytes text.old ++ said_text said.now) }
+{
+    if said.is_empty() {
+        return Ok(());
+    }
+    writeln!(
+        text,
+        "<text class='quiet' x='700.00' y='133.00'>{said}</text>"
+    )
 }
 
 /// Writes the beginning of the file.

@@ -1,11 +1,11 @@
 -- The picture of a curve, as the text of an SVG file.
 use Rattle.std.specs.Fmt.{decimal}
-use Rattle.std.specs.Prelude.{ℕ, ◌+◌, ◌-◌, ◌*◌, Option, Some, None, List, [], ◌∷◌, ◌++◌, codes, flat_map, length, nat_le, if◌then◌else◌}
+use Rattle.std.specs.Prelude.{ℕ, ◌+◌, ◌-◌, ◌*◌, Option, Some, None, List, [], ◌∷◌, ◌++◌, codes, flat_map, length, nat_le, if◌then◌else◌, unwrap_or}
 use Rattle.machine_model.specs.declared.event.Standing.{Standing}
 use Rattle.machine_model.specs.declared.event.Standing.TheVariants.{Halted}
 use Rattle.speed_curve.specs.declared.row.Row.{Row}
 use Rattle.speed_curve.specs.TableText.{end_text, rate, share, speed_up}
-use Rattle.speed_curve.specs.Scales.{bar_of, column_of, foot_over, foot_under, gap_of, height_of, number_text, step_of, top_of}
+use Rattle.speed_curve.specs.Scales.{bar_of, beside_over, beside_under, column_of, foot_over, foot_under, gap_of, height_of, number_text, step_of, top_of}
 use Rattle.speed_curve.specs.FixedText.{fixed_text}
 
 -- a number of the upper scale
@@ -84,9 +84,9 @@ mark_text point Halted = codes "<circle class='halted' cx='0' cy='" ++ (decimal 
 mark_text point _ = codes "<path class='other' d='M-9 " ++ (decimal point ++ (codes "l9-9 9 9-9 9z'/>" ++ 10 ∷ []))
 
 -- the numbers of a column
-abbrev pub number_label : (y hundredths : ℕ) → List ℕ
-number_label y hundredths =
-    codes "<text class='value' x='0' y='" ++ (decimal y ++ (codes "'>" ++ (number_text hundredths ++ (codes "</text>" ++ 10 ∷ []))))
+abbrev pub number_label : (side : List ℕ) → (y hundredths : ℕ) → List ℕ
+number_label side y hundredths =
+    codes "<text class='value' x='" ++ (side ++ (codes "' y='" ++ (decimal y ++ (codes "'>" ++ (number_text hundredths ++ (codes "</text>" ++ 10 ∷ []))))))
 
 abbrev pub share_label : (hundredths : ℕ) → List ℕ
 share_label hundredths = codes "<text class='value' x='0' y='648'>" ++ (number_text hundredths ++ (codes "%</text>" ++ 10 ∷ []))
@@ -98,27 +98,56 @@ units_label units = codes "<text class='number' x='0' y='672'>" ++ (decimal unit
 abbrev pub square_text : (point : ℕ) → List ℕ
 square_text point = codes "<path class='faster' d='M-4 " ++ (decimal point ++ (codes "v-4h8v8h-8z'/>" ++ 10 ∷ []))
 
-abbrev pub speed_text : (top : ℕ) → Option ℕ → List ℕ
-speed_text top None = []
-speed_text top (Some speed) = square_text (height_of top speed) ++ number_label (foot_over top (height_of top speed)) speed
+-- the side of that number, by the speed-ups of the runs before and after; a run that has none counts as one alike
+abbrev pub speed_side : (columns top before speed after : ℕ) → List ℕ
+speed_side columns top before speed after = beside_over columns (height_of top before) (height_of top speed) (height_of top after)
+
+abbrev pub faster_text : (columns top before speed after : ℕ) → List ℕ
+faster_text columns top before speed after =
+    square_text (height_of top speed) ++ number_label (speed_side columns top before speed after) (foot_over top (height_of top speed)) speed
+
+abbrev pub speed_if : (columns top : ℕ) → (before speed after : Option ℕ) → List ℕ
+speed_if columns top before None after = []
+speed_if columns top before (Some speed) after = faster_text columns top (unwrap_or before speed) speed (unwrap_or after speed)
+
+abbrev pub speed_text : (columns top : ℕ) → (one before row after : Row) → List ℕ
+speed_text columns top one before row after = speed_if columns top (speed_up one before) (speed_up one row) (speed_up one after)
+
+-- the side of the number under a rate, by the rates of the runs before and after
+abbrev pub rate_side : (columns top : ℕ) → (before row after : Row) → List ℕ
+rate_side columns top before row after = beside_under columns (height_of top (rate before)) (height_of top (rate row)) (height_of top (rate after))
 
 -- the rate under its point, and the share and the units below the bar
-abbrev pub value_text : (under : ℕ) → Row → List ℕ
-value_text under row = number_label under (rate row) ++ (share_label (share row) ++ units_label row.units)
+abbrev pub value_text : (side : List ℕ) → (under : ℕ) → Row → List ℕ
+value_text side under row = number_label side under (rate row) ++ (share_label (share row) ++ units_label row.units)
 
--- the column of a run whose rate has this point, and whose bar is so high
-abbrev pub column_with : (top left point high : ℕ) → (speed : Option ℕ) → Row → List ℕ
-column_with top left point high speed row =
+-- the column of a run whose rate has this point, with its number on this side, and whose bar is so high
+abbrev pub column_with : (columns top left point high : ℕ) → (side : List ℕ) → (speed : Option ℕ) → (one before row after : Row) → List ℕ
+column_with columns top left point high side speed one before row after =
     opening_text left speed row (end_text row.standing)
     ++ (bar_text (foot_under top point + 6) (630 - high) high
-    ++ (mark_text point row.standing ++ (speed_text top speed ++ value_text (foot_under top point) row)))
+    ++ (mark_text point row.standing ++ (speed_text columns top one before row after ++ value_text side (foot_under top point) row)))
 
--- the column of a run
-unfoldable pub column_text : (columns top : ℕ) → (one row : Row) → List ℕ
-column_text columns top one row = column_with top (column_of columns row.units) (height_of top (rate row)) (bar_of row) (speed_up one row) row
+-- the column of a run, between those of the runs before and after
+unfoldable pub column_text : (columns top : ℕ) → (one before row after : Row) → List ℕ
+column_text columns top one before row after =
+    column_with columns top (column_of columns row.units) (height_of top (rate row)) (bar_of row) (rate_side columns top before row after) (speed_up one row)
+    one before row after
 
+-- the first of some runs, or another one where there is none
+abbrev pub first_or : List Row → (other : Row) → Row
+first_or [] other = other
+first_or (row ∷ rows) other = row
+
+-- the columns of runs that come after another one; the last one comes before itself
+abbrev pub columns_from : (columns top : ℕ) → (one before : Row) → List Row → List ℕ
+columns_from columns top one before [] = []
+columns_from columns top one before (row ∷ later) =
+    column_text columns top one before row (first_or later row) ++ columns_from columns top one row later
+
+-- the first run comes after itself
 abbrev pub columns_text : (columns top : ℕ) → (one : Row) → List Row → List ℕ
-columns_text columns top one rows = flat_map (column_text columns top one) rows
+columns_text columns top one rows = columns_from columns top one one rows
 
 -- runs beside the one on one unit, with as many columns as there are runs
 abbrev pub beside_with : (columns top : ℕ) → (one : Row) → List Row → List ℕ

@@ -6,7 +6,7 @@ use Rattle.std.proofs.Common.{refl}
 use Rattle.machine_model.specs.declared.event.Standing.{Standing}
 use Rattle.machine_model.specs.declared.event.Standing.TheVariants.{Running, Halted, Unlisted}
 use Rattle.speed_curve.specs.declared.row.Row.{Row}
-use Rattle.speed_curve.specs.Scales.{above, bar_of, foot_over, foot_under, gap_of, number_text, step_of, top_of}
+use Rattle.speed_curve.specs.Scales.{above, bar_of, beside_over, beside_under, foot_over, foot_under, gap_of, number_text, step_of, top_of}
 use Rattle.speed_curve.specs.CurvePicture.{column_text, rate_line, speed_line}
 
 abbrev row : (units steps retired wasted : ℕ) → Standing → Row
@@ -36,6 +36,23 @@ under_a_line = refl
 pub under_no_line : foot_under 400 280 ≡ 302
 unfolding gap_of step_of
 under_no_line = refl
+
+-- each of sixteen columns has 72 pixels, and three for four across are 54: a number under a point stands at the right of a
+-- line that goes up to it by 55, and at the left of one that goes down from it by so much; one over a point the other way round
+pub under_a_rise : beside_under 16 400 345 345 ≡ codes "20"
+under_a_rise = refl
+
+pub under_a_slow_rise : beside_under 16 400 346 292 ≡ codes "0"
+under_a_slow_rise = refl
+
+pub under_a_fall : beside_under 16 345 345 400 ≡ codes "-20"
+under_a_fall = refl
+
+pub over_a_rise : beside_over 16 400 400 345 ≡ codes "-20"
+over_a_rise = refl
+
+pub over_a_fall : beside_over 16 345 400 400 ≡ codes "20"
+over_a_fall = refl
 
 -- up to 1.41 the lines are 0.50 apart, and up to 11.42 they are 5 apart
 pub halves : step_of 141 ≡ 50
@@ -75,7 +92,7 @@ pub speed_ups : speed_line 2 150 one (one ∷ two ∷ []) ≡ codes "<polyline c
 unfolding digits
 speed_ups = refl
 
-pub column_of_two : column_text 2 150 one two ≡
+pub column_of_two : column_text 2 150 one one two two ≡
     codes "<g transform='translate(958 0)'><title>units: 2, steps: 22, speed-up: 1.41, instructions retired: 16, thrown away: 1, halted</title>" ++ (10 ∷
     codes "<path class='grid' d='M0 349V630'/><rect class='wasted' x='-12' y='626' width='24' height='4'/>" ++ (10 ∷
     codes "<circle class='halted' cx='0' cy='321' r='7'/>" ++ (10 ∷
@@ -96,7 +113,7 @@ no_point = refl
 abbrev nothing : Row
 nothing = row 1 5 0 0 (Unlisted 0x400014)
 
-pub no_speed_up : column_text 1 20 nothing nothing ≡
+pub no_speed_up : column_text 1 20 nothing nothing nothing nothing ≡
     codes "<g transform='translate(668 0)'><title>units: 1, steps: 5, speed-up: -, instructions retired: 0, thrown away: 0, unlisted</title>" ++ (10 ∷
     codes "<path class='grid' d='M0 524V630'/><rect class='wasted' x='-12' y='630' width='24' height='0'/>" ++ (10 ∷
     codes "<path class='other' d='M-9 496l9-9 9 9-9 9z'/>" ++ (10 ∷

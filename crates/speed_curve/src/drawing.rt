@@ -2,7 +2,7 @@
 
 ghost use Rattle.std.specs.Prelude.{◌≡◌, ◌<◌, ◌≤◌, ◌^◌, ◌++◌, IfOk, OnOk, flat_map, length};
 ghost use Rattle.std.specs.String.{string_bytes};
-ghost use Rattle.speed_curve.specs.CurvePicture.{beside_text, caption_line, column_text, columns_text, curve_text, rate_line, rate_point, runs_text, level_text, scale_label, scale_line, scale_lines, scale_text, speed_line, speed_point};
+ghost use Rattle.speed_curve.specs.CurvePicture.{beside_text, caption_line, columns_text, curve_text, first_or as first_or_of, rate_line, rate_point, runs_text, level_text, scale_label, scale_line, scale_lines, scale_text, speed_line, speed_point};
 
 use crate::columns::{write_column, write_rate_point, write_speed_point};
 use crate::hundredths::Hundredths;
@@ -59,7 +59,7 @@ fn write_beside(text: &mut String, one: &Row, rows: &[Row]) -> Result<(), AllocE
 
 /// Writes the lines of the upper scale and their numbers.
 fn write_scale(text: &mut String, top: u64) -> Result<(), AllocError>
-    requires { top < 2 ^ 49 }
+    requires { (0 < top) × (top < 2 ^ 50) }
     ensures { OnOk result (string_bytes text.new ≡ string_bytes text.old ++ scale_text top) }
 {
     write_label(text, 500, 0)?;
@@ -68,8 +68,8 @@ fn write_scale(text: &mut String, top: u64) -> Result<(), AllocError>
 
 /// Writes the lines of the upper scale above 0, each with its number; they are so far apart in pixels and in hundredths.
 fn write_lines(text: &mut String, gap: u64, step: u64) -> Result<(), AllocError>
-    requires gap { gap ≤ 360 }
-    requires step { step < 2 ^ 49 }
+    requires gap { gap < 2 ^ 60 }
+    requires step { step < 2 ^ 60 }
     ensures { OnOk result (string_bytes text.new ≡ string_bytes text.old ++ scale_lines gap step) }
 {
     write_line(text, gap, step)?;
@@ -182,11 +182,25 @@ fn write_columns(
     rows: &[Row],
 ) -> Result<(), AllocError>
     requires columns { 0 < columns }
-    requires top { (0 < top) × (top < 2 ^ 49) }
+    requires top { (0 < top) × (top < 2 ^ 50) }
     ensures { OnOk result (string_bytes text.new ≡ string_bytes text.old ++ columns_text columns top one.now rows.now) }
 {
-    for row in rows {
-        write_column(text, columns, top, one, row)?;
+    let mut before = *one;
+    for (index, row) in rows.iter().enumerate() {
+        let previous = &before;
+        let after = first_or(&rows[index + 1..], row);
+        write_column(text, columns, top, one, previous, row, &after)?;
+        before = *row;
     }
     Ok(())
+}
+
+/// The first of some rows, or another one if there is none.
+fn first_or(rows: &[Row], other: &Row) -> Row
+    ensures { result ≡ first_or_of rows.now other.now }
+{
+    match rows.first() {
+        Some(row) => *row,
+        None => *other,
+    }
 }

@@ -1,7 +1,7 @@
 //! Where things stand in the picture. All lengths are in pixels, from the left and from above.
 
-ghost use Rattle.std.specs.Prelude.{◌≡◌, ◌<◌, ◌≤◌, ◌^◌};
-ghost use Rattle.speed_curve.specs.Scales.{above as above_of, above_by, bar_of, column_of, foot_over as foot_over_of, foot_under as foot_under_of, gap_by, gap_of, greatest as greatest_of, height_of, step_among, step_of, top_of};
+ghost use Rattle.std.specs.Prelude.{◌≡◌, ◌+◌, ◌*◌, ◌<◌, ◌≤◌, ◌^◌};
+ghost use Rattle.speed_curve.specs.Scales.{above as above_of, bar_of, beside as beside_if, beside_over as beside_over_of, beside_under as beside_under_of, column_of, foot_over as foot_over_of, foot_under as foot_under_of, gap_of, goes_down as goes_down_of, greatest as greatest_of, height_of, step_among, step_of, top_of};
 
 use crate::row::Row;
 use crate::table::{rate, share, speed_up};
@@ -10,9 +10,9 @@ use crate::table::{rate, share, speed_up};
 /// 5, times 1, 10, 100 and so on, of which five are not less than the number.
 #[tactic(auto, unfolding(crate::specs::Scales::step_of))]
 pub(crate) fn step(hundredths: u64) -> u64
-    requires { hundredths < 2 ^ 49 }
     ensures value { result ≡ step_of hundredths }
-    ensures few { result < 2 ^ 49 }
+    ensures enough { hundredths ≤ 5 * result }
+    ensures few { result < hundredths + 2 ^ 32 }
 {
     first_step(
         hundredths,
@@ -26,9 +26,9 @@ pub(crate) fn step(hundredths: u64) -> u64
 
 /// The first of some steps of which five are not less than a number, else the number.
 fn first_step(hundredths: u64, steps: &[u32]) -> u64
-    requires { hundredths < 2 ^ 49 }
     ensures value { result ≡ step_among hundredths steps.now }
-    ensures few { result < 2 ^ 49 }
+    ensures enough { hundredths ≤ 5 * result }
+    ensures few { result < hundredths + 2 ^ 32 }
 {
     for step in steps {
         if hundredths <= 5 * u64::from(*step) {
@@ -38,67 +38,31 @@ fn first_step(hundredths: u64, steps: &[u32]) -> u64
     hundredths
 }
 
-/// The least number of steps, in hundredths, that is not less.
+/// The least multiple of the step, in hundredths, that is not less.
 #[tactic(auto, unfolding(crate::specs::Scales::above))]
 fn above(hundredths: u64) -> u64
-    requires { hundredths < 2 ^ 48 }
-    ensures value { result ≡ above_of hundredths }
-    ensures few { result < 2 ^ 49 }
-{
-    steps_above(hundredths, step(hundredths))
-}
-
-/// The least of one to five steps that is not less than a number, else the number.
-fn steps_above(hundredths: u64, step: u64) -> u64
+    requires some { 0 < hundredths }
     requires few { hundredths < 2 ^ 48 }
-    requires step { step < 2 ^ 49 }
-    ensures value { result ≡ above_by hundredths step }
-    ensures bound { result < 2 ^ 49 }
+    ensures value { result ≡ above_of hundredths }
+    ensures some { 0 < result }
+    ensures few { result < 2 ^ 50 }
 {
-    if hundredths <= step {
-        step
-    } else if hundredths <= 2 * step {
-        2 * step
-    } else if hundredths <= 3 * step {
-        3 * step
-    } else if hundredths <= 4 * step {
-        4 * step
-    } else if hundredths <= 5 * step {
-        5 * step
-    } else {
-        hundredths
-    }
+    let step = step(hundredths);
+    let most = hundredths + (step - 1);
+    most - most % step
 }
 
 /// How far apart the lines of the upper scale are where it goes up to this number of hundredths, in pixels.
 #[tactic(auto, unfolding(crate::specs::Scales::gap_of))]
 pub(crate) fn gap(top: u64) -> u64
-    requires { top < 2 ^ 49 }
+    requires some { 0 < top }
+    requires few { top < 2 ^ 50 }
     ensures value { result ≡ gap_of top }
     ensures some { 0 < result }
-    ensures low { result ≤ 360 }
+    ensures low { result < 2 ^ 60 }
 {
-    gap_with(top, step(top))
-}
-
-/// How far apart the lines are, by the step between them.
-fn gap_with(top: u64, step: u64) -> u64
-    requires { step < 2 ^ 49 }
-    ensures value { result ≡ gap_by top step }
-    ensures some { 0 < result }
-    ensures low { result ≤ 360 }
-{
-    if top <= step {
-        360
-    } else if top <= 2 * step {
-        180
-    } else if top <= 3 * step {
-        120
-    } else if top <= 4 * step {
-        90
-    } else {
-        72
-    }
+    let step = step(top);
+    360 * step / top
 }
 
 /// The greater of a run's rate and its speed-up, if it has one, in hundredths.
@@ -113,13 +77,13 @@ fn greatest(one: &Row, row: &Row) -> u64
 pub(crate) fn top(one: &Row, rows: &[Row]) -> u64
     ensures value { result ≡ top_of one.now rows.now }
     ensures some { 0 < result }
-    ensures few { result < 2 ^ 49 }
+    ensures few { result < 2 ^ 50 }
 {
-    let mut top = 20;
+    let mut most = 20;
     for row in rows {
-        top = top.max(above(greatest(one, row)));
+        most = most.max(greatest(one, row));
     }
-    top
+    above(most)
 }
 
 /// Where a number of hundredths stands on the upper scale, from above.
@@ -134,7 +98,7 @@ pub(crate) fn height(top: u64, hundredths: u64) -> u64
 
 /// The foot of the number over a point: further up where it would lie on a line of the upper scale.
 pub(crate) fn foot_over(top: u64, point: u64) -> u64
-    requires { top < 2 ^ 49 }
+    requires { (0 < top) × (top < 2 ^ 50) }
     ensures { result ≡ foot_over_of top point }
 {
     let gap = gap(top);
@@ -144,7 +108,7 @@ pub(crate) fn foot_over(top: u64, point: u64) -> u64
 
 /// The foot of the number under a point: further down where it would lie on a line of the upper scale.
 pub(crate) fn foot_under(top: u64, point: u64) -> u64
-    requires few { top < 2 ^ 49 }
+    requires top { (0 < top) × (top < 2 ^ 50) }
     requires low { point ≤ 496 }
     ensures value { result ≡ foot_under_of top point }
     ensures low { result ≤ 534 }
@@ -152,6 +116,55 @@ pub(crate) fn foot_under(top: u64, point: u64) -> u64
     let gap = gap(top);
     let foot = point + 22;
     foot + 16_u64.saturating_sub((foot + 227) % gap)
+}
+
+/// Whether a line goes down by more than three pixels for four across from a point to the one a column further, by their
+/// heights.
+fn goes_down(columns: u64, from: u64, to: u64) -> bool
+    requires columns { 0 < columns }
+    requires low { from ≤ 496 }
+    ensures { result ≡ goes_down_of columns from to }
+{
+    from + 870 / columns < to
+}
+
+/// Where the middle of a number is, from its point: at the left of it, at the right, or at the point.
+fn beside(left: bool, right: bool) -> &'static str
+    ensures { result.now ≡ beside_if left right }
+{
+    if left {
+        "-20"
+    } else if right {
+        "20"
+    } else {
+        "0"
+    }
+}
+
+/// Where the number under a point is, by the heights of the point and of those before and after: at the left of a line
+/// that goes down from it steeply, at the right of one that goes up to it.
+pub(crate) fn beside_under(columns: u64, before: u64, point: u64, after: u64) -> &'static str
+    requires columns { 0 < columns }
+    requires low { point ≤ 496 }
+    ensures { result.now ≡ beside_under_of columns before point after }
+{
+    beside(
+        goes_down(columns, point, after),
+        goes_down(columns, point, before),
+    )
+}
+
+/// Where the number over a point is, by the heights of the point and of those before and after: at the left of a line
+/// that goes up from it steeply, at the right of one that goes down to it.
+pub(crate) fn beside_over(columns: u64, before: u64, point: u64, after: u64) -> &'static str
+    requires columns { 0 < columns }
+    requires low { (before ≤ 496) × (after ≤ 496) }
+    ensures { result.now ≡ beside_over_of columns before point after }
+{
+    beside(
+        goes_down(columns, after, point),
+        goes_down(columns, before, point),
+    )
 }
 
 /// The middle of the column of `units` units, of `columns` columns, from the left.

@@ -28,7 +28,7 @@ use Rattle.step_picture.specs.declared.strip.Strip.{Strip}
 use Rattle.step_picture.specs.Numbers.{count_of, in_steps, steps_of}
 use Rattle.step_picture.specs.Bars.{bar_of}
 use Rattle.step_picture.specs.Strips.{begun, shape_of, strip_text, strips_of, waits_on}
-use Rattle.step_picture.specs.Marks.{marks_from, marks_of}
+use Rattle.step_picture.specs.Marks.{marks_from, marks_of, room_beside}
 use Rattle.step_picture.specs.PredictorText.{list_text, predictor_text}
 use Rattle.step_picture.specs.StepPicture.{ending_text, predicted_text}
 use Rattle.step_picture.specs.SaidText.{life_text, reason_text, waited_text}
@@ -113,6 +113,16 @@ first_steps = refl
 pub one_transfer : marks_of 2 6 (3 ∷ []) (Transfer 1 8 ∷ [])
     ≡ record { style = Arrow; form = Line 57133 20600 57133 23400; hover = OfTransfer Steps 3 8 0 1 } ∷ label RegisterName 57633 22500 (Register 8) ∷ []
 one_transfer = refl
+
+-- of 60 steps each has 19 pixels: `$8` has room beside its arrow if no register arrives at that unit in the next step
+pub no_room : room_beside 3 60 (3 ∷ 4 ∷ []) 0 0 (Transfer 1 8) (Transfer 1 9 ∷ []) ≡ false
+no_room = refl
+
+pub room_of_two_steps : room_beside 3 60 (3 ∷ 5 ∷ []) 0 0 (Transfer 1 8) (Transfer 1 9 ∷ []) ≡ true
+room_of_two_steps = refl
+
+pub at_another_unit : room_beside 3 60 (3 ∷ 3 ∷ []) 0 0 (Transfer 1 8) (Transfer 2 9 ∷ []) ≡ true
+at_another_unit = refl
 
 pub last_step : marks_from 2 6 (steps_of six_steps) 0 8 (Squash 0 ∷ []) ≡ squash 114433 ∷ []
 last_step = refl

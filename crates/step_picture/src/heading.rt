@@ -130,9 +130,9 @@ fn write_ending(text: &mut String, standing: Standing) -> Result<(), AllocError>
 {
     match standing {
         Standing::Running => text.push_str("is out of budget"),
-        Standing::Halted => write_how_it_stands(text, standing),
-        Standing::Trapped(_) => write_how_it_stands(text, standing),
-        Standing::Unlisted(_) => write_how_it_stands(text, standing),
+        Standing::Halted | Standing::Trapped(_) | Standing::Unlisted(_) => {
+            write_how_it_stands(text, standing)
+        }
     }
 }
 

@@ -67,6 +67,29 @@ fn columns_of_two_rows(rt: HostRuntime) {
     assert!(rt; text.ends_with(TWO_COLUMNS));
 }
 
+// Each of four columns is 290 pixels wide. The rates go up from 0.05 to 1.00, 342 of 360 pixels, and the speed-ups, where
+// there are any, from 1.00 to 20.00, as far: the one number stands at the right of its line, the other at the left.
+#[test]
+fn numbers_beside_steep_lines(rt: HostRuntime) {
+    let rows = steep(Standing::Running);
+    let text = picture(&rt, rt.alloc(), &rows);
+    assert!(rt; text.contains("<text class='value' x='0' y='509'>0.05</text>\n"));
+    assert!(rt; text.contains("<text class='value' x='20' y='158'>1.00</text>\n"));
+    let rows = steep(Standing::Halted);
+    let text = picture(&rt, rt.alloc(), &rows);
+    assert!(rt; text.contains("<text class='value' x='-20' y='466'>1.00</text>\n"));
+    assert!(rt; text.contains("<text class='value' x='0' y='124'>20.00</text>\n"));
+}
+
+fn steep(standing: Standing) -> [Row; 4] {
+    [
+        row(1, 100, 5, 0, standing),
+        row(2, 5, 5, 0, standing),
+        row(3, 5, 5, 0, standing),
+        row(4, 5, 5, 0, standing),
+    ]
+}
+
 // Nothing is divided by the number of rows or of steps where there are none.
 #[test]
 fn nothing_to_draw(rt: HostRuntime) {

@@ -4,10 +4,7 @@ use Rattle.std.specs.List.{flat_map}
 use Rattle.std.specs.Str.{byte}
 use Rattle.program_tokens.specs.declared.span.TokenSpan.{TokenSpan as Place}
 use Rattle.program_statements.specs.declared.statement.Section.{Section}
-use Rattle.syntax_tree.specs.declared.item.LineFaultKind.{LineFaultKind}
-use Rattle.syntax_tree.specs.declared.item.LineFaultKind.TheVariants as kind
 use Rattle.diagnostics.specs.Quotations.{as_shown}
-use Rattle.operand_forms.specs.declared.rows.Reading.{Reading}
 use Rattle.operand_forms.specs.Bytes.{bytes_at, byte_at, span}
 use Rattle.operand_forms.specs.Meant.{span_at}
 use Rattle.text_diagnostics.specs.Mending.{reads, replaced}
@@ -55,10 +52,8 @@ is_operand b = not (b == byte "," || b == byte "!")
 abbrev pub is_short : Place → List Place → Bool
 is_short at places = nat_le (rest_place at places).len 40
 
-abbrev pub short_commas : Section → (line : List ℕ) → List Place → Place → Option (List ℕ)
-short_commas here line places at = if is_operand (byte_at line at) && is_short at places then commas_in here line places at else None
-
--- the operands of a line with one comma between each two, where one comma more does not do
-abbrev pub several_commas : LineFaultKind → Section → (line : List ℕ) → Reading → Place → Option (List ℕ)
-several_commas kind.Operand here line r at = short_commas here line r.places at
-several_commas _ here line r at = None
+-- the operands of a line from the place of one on with one comma between each two, where they are short and one comma more does
+-- not do
+abbrev pub several_commas : Section → (line : List ℕ) → List Place → Place → Option (List ℕ)
+several_commas here line places at =
+    if is_operand (byte_at line at) && is_short at places then commas_in here line places at else None

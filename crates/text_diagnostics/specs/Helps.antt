@@ -34,6 +34,7 @@ use Rattle.operand_forms.specs.ForeignWords.{instead, operand_instead}
 use Rattle.operand_forms.specs.OwnWords.{own_words}
 use Rattle.operand_forms.specs.LinePlaces.{word_in, shape_named}
 use Rattle.text_diagnostics.specs.Comments.{comment_words}
+use Rattle.text_diagnostics.specs.Braces.{without_braces}
 use Rattle.text_diagnostics.specs.Commas.{rest_place, several_commas}
 use Rattle.text_diagnostics.specs.Starts.{start_name, start_words}
 use Rattle.text_diagnostics.specs.Mending.{mended, may_be_label}
@@ -156,19 +157,25 @@ help_by words span (text ∷ others) = in_words (meant_text (either text others)
 abbrev pub mending_help : LineFaultKind → (n : ℕ) → Section → (line : List ℕ) → Reading → Place → Help
 mending_help k n here line r at = help_by (line_words k here line r at) (span_in n at) (mended k here line at)
 
--- several commas that are missing, or wrong, are told together
-abbrev pub commas_text : (text : List ℕ) → List ℕ
-commas_text text = codes "one comma separates two operands: write " ++ text
+-- what is to stand from a place on to the line's end: several commas that are missing, or wrong, are told together, as are braces
+abbrev pub rest_text : LineFaultKind → Section → (line : List ℕ) → Reading → Place → Option (List ℕ)
+rest_text kind.Operand here line r at = several_commas here line r.places at
+rest_text kind.Token here line r at = without_braces here line r at
+rest_text _ here line r at = None
 
-abbrev pub commas_help : (n : ℕ) → List Place → Place → (text : List ℕ) → Help
-commas_help n places at text = by_text (commas_text text) (span_in n (rest_place at places)) text
+abbrev pub rest_words : LineFaultKind → (text : List ℕ) → List ℕ
+rest_words kind.Operand text = codes "one comma separates two operands: write " ++ text
+rest_words _ text = codes "lists have no braces: write " ++ text
 
-abbrev pub line_help_by : (commas : Option (List ℕ)) → LineFaultKind → (n : ℕ) → Section → (line : List ℕ) → Reading → Place → Help
-line_help_by (Some text) k n here line r at = commas_help n r.places at text
+abbrev pub rest_help : LineFaultKind → (n : ℕ) → List Place → Place → (text : List ℕ) → Help
+rest_help k n places at text = by_text (rest_words k text) (span_in n (rest_place at places)) text
+
+abbrev pub line_help_by : (rest : Option (List ℕ)) → LineFaultKind → (n : ℕ) → Section → (line : List ℕ) → Reading → Place → Help
+line_help_by (Some text) k n here line r at = rest_help k n r.places at text
 line_help_by None k n here line r at = mending_help k n here line r at
 
 abbrev pub line_help : LineFaultKind → (n : ℕ) → Section → (line : List ℕ) → Reading → Place → Help
-line_help k n here line r at = line_help_by (several_commas k here line r at) k n here line r at
+line_help k n here line r at = line_help_by (rest_text k here line r at) k n here line r at
 
 -- Of an item.
 

@@ -4,6 +4,7 @@ pub mod Sections
 pub mod Mending
 pub mod Comments
 pub mod Commas
+pub mod Braces
 pub mod Starts
 pub mod Messages
 pub mod Places

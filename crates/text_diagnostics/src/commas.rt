@@ -2,19 +2,18 @@
 
 ghost use Rattle.std.specs.Prelude.{◌≡◌, ◌++◌, codes, IfOk, OnOk};
 ghost use Rattle.text_diagnostics.specs.Mending.{reads, replaced};
-ghost use Rattle.text_diagnostics.specs.Commas.{sign_before, operand_from, operands_from, rest_place, lacks_commas, commas_in, is_operand, is_short, several_commas, short_commas};
+ghost use Rattle.text_diagnostics.specs.Commas.{sign_before, operand_from, operands_from, rest_place, lacks_commas, commas_in, is_operand, is_short, several_commas};
 
+use crate::faulty_line::FaultyLine;
 use crate::mending::replaced;
 use crate::section::reads;
 use diagnostics::quotation::as_shown;
 use diagnostics::words::Words;
 use operand_forms::bytes::{byte_at, bytes_at};
 use operand_forms::meant::span_at;
-use operand_forms::rows::Reading;
 use program_statements::statement::Section;
 use program_tokens::span::TokenSpan as Place;
 use std::alloc::{AllocError, Global};
-use syntax_tree::item::LineFaultKind;
 
 /// What stands before an operand or a mark with this first byte: before a comma nothing is written, nor it itself.
 fn sign_before(first: u8) -> Option<u8>
@@ -84,7 +83,7 @@ fn after_comma(alloc: Global, word: &[u8]) -> Result<Vec<u8>, AllocError>
 }
 
 /// Whether a line can be read with a text in place of a part.
-fn reads_with(
+pub(crate) fn reads_with(
     alloc: Global,
     section: Section,
     line: &[u8],
@@ -96,37 +95,27 @@ fn reads_with(
     reads(alloc, section, &replaced(alloc, line, place, text)?)
 }
 
-/// Whether a line can be read with all commas from a place on, and not with the one there.
+/// Whether a line can be read with all commas from its place on, and not with the one there.
 #[tactic(auto, unfolding(crate::specs::Commas::lacks_commas))]
-fn lacks_commas(
-    alloc: Global,
-    section: Section,
-    line: &[u8],
-    places: &[Place],
-    place: Place,
-    text: &[u8],
-) -> Result<bool, AllocError>
-    ensures { IfOk result (λ yes. yes ≡ lacks_commas section line.now places.now place text.now) }
+fn lacks_commas(alloc: Global, wrong: &FaultyLine<'_>, text: &[u8]) -> Result<bool, AllocError>
+    ensures { IfOk result (λ yes. yes
+        ≡ lacks_commas wrong.now.section wrong.now.line.now wrong.now.reading.now.places wrong.now.place text.now) }
 {
-    let one = after_comma(alloc, bytes_at(line, place))?;
-    if reads_with(alloc, section, line, place, &one)? {
+    let one = after_comma(alloc, bytes_at(wrong.line, wrong.place))?;
+    if reads_with(alloc, wrong.section, wrong.line, wrong.place, &one)? {
         return Ok(false);
     }
-    reads_with(alloc, section, line, rest_place(place, places), text)
+    let rest = rest_place(wrong.place, wrong.places());
+    reads_with(alloc, wrong.section, wrong.line, rest, text)
 }
 
-/// The operands of a line from a place on with all commas, where one comma more does not do.
-fn commas_in(
-    alloc: Global,
-    section: Section,
-    line: &[u8],
-    places: &[Place],
-    place: Place,
-) -> Result<Option<Words>, AllocError>
-    ensures { IfOk result (λ text. text ≡ commas_in section line.now places.now place) }
+/// The operands of a line from its place on with all commas, where one comma more does not do.
+fn commas_in(alloc: Global, wrong: &FaultyLine<'_>) -> Result<Option<Words>, AllocError>
+    ensures { IfOk result (λ text. text
+        ≡ commas_in wrong.now.section wrong.now.line.now wrong.now.reading.now.places wrong.now.place) }
 {
-    let text = operands_from(alloc, line, place.column, places)?;
-    if !lacks_commas(alloc, section, line, places, place, &text)? {
+    let text = operands_from(alloc, wrong.line, wrong.place.column, wrong.places())?;
+    if !lacks_commas(alloc, wrong, &text)? {
         return Ok(None);
     }
     Ok(Some(as_shown(alloc, &text)?))
@@ -140,43 +129,24 @@ fn is_operand(first: u8) -> bool
 }
 
 /// Whether what stands from a place on has at most 40 bytes, as much as a message quotes.
-fn is_short(place: Place, places: &[Place]) -> bool
+pub(crate) fn is_short(place: Place, places: &[Place]) -> bool
     ensures { result ≡ is_short place places.now }
 {
     rest_place(place, places).len <= 40
 }
 
-/// The operands of a line from a place of one on with all commas, where they are short and one comma more does not do.
-fn short_commas(
-    alloc: Global,
-    section: Section,
-    line: &[u8],
-    places: &[Place],
-    place: Place,
-) -> Result<Option<Words>, AllocError>
-    ensures { IfOk result (λ text. text ≡ short_commas section line.now places.now place) }
-{
-    if is_operand(byte_at(line, place)) && is_short(place, places) {
-        commas_in(alloc, section, line, places, place)
-    } else {
-        Ok(None)
-    }
-}
-
-/// The operands of a line with one comma between each two, where one comma more does not do.
+/// The operands of a line from the place of one on with one comma between each two, where they are short and one comma more does
+/// not do.
 pub(crate) fn several_commas(
     alloc: Global,
-    kind: LineFaultKind,
-    section: Section,
-    line: &[u8],
-    reading: &Reading,
-    place: Place,
+    wrong: &FaultyLine<'_>,
 ) -> Result<Option<Words>, AllocError>
-    ensures { IfOk result (λ text. text ≡ several_commas kind section line.now reading.now place) }
+    ensures { IfOk result (λ text. text
+        ≡ several_commas wrong.now.section wrong.now.line.now wrong.now.reading.now.places wrong.now.place) }
 {
-    let places = reading.places.as_slice();
-    match kind {
-        LineFaultKind::Operand => short_commas(alloc, section, line, places, place),
-        _ => Ok(None),
+    if is_operand(byte_at(wrong.line, wrong.place)) && is_short(wrong.place, wrong.places()) {
+        commas_in(alloc, wrong)
+    } else {
+        Ok(None)
     }
 }

@@ -10,10 +10,12 @@ ghost use Rattle.operand_forms.specs.OwnWords.{own_words};
 ghost use Rattle.diagnostics.specs.Helps.{in_words};
 ghost use Rattle.text_diagnostics.specs.Comments.{comment_words};
 ghost use Rattle.text_diagnostics.specs.Starts.{start_name, start_words};
-ghost use Rattle.text_diagnostics.specs.Helps.{meant_text, either, number_text, mending_text, move_help, section_help, word_help, token_words, stop_words, mark_words, form_words, operand_words, number_help, general_words, words_of_line, line_words, help_by, commas_text, commas_help, mending_help, line_help, is_mark_of, mark_place, mark_help, is_loaded, is_code, is_near_said, is_near_label, near_item, name_words, said_help, near_help, item_words, item_help};
+ghost use Rattle.text_diagnostics.specs.Helps.{meant_text, either, number_text, mending_text, move_help, section_help, word_help, token_words, stop_words, mark_words, form_words, operand_words, number_help, general_words, words_of_line, line_words, help_by, rest_text, rest_words, rest_help, mending_help, line_help, is_mark_of, mark_place, mark_help, is_loaded, is_code, is_near_said, is_near_label, near_item, name_words, said_help, near_help, item_words, item_help};
 
+use crate::braces::without_braces;
 use crate::commas::{rest_place, several_commas};
 use crate::comment::comment_words;
+use crate::faulty_line::FaultyLine;
 use crate::mending::{may_be_label, mended};
 use crate::message::is_no_mark;
 use crate::mistake::Kind;
@@ -225,29 +227,31 @@ fn number_help(number: Option<&Token>, shape: OperandShape) -> &'static str
 
 /// What to do about a line, in general words.
 #[tactic(auto, unfolding(crate::specs::Helps::general_words))]
-fn general_words(
-    alloc: Global,
-    kind: LineFaultKind,
-    section: Section,
-    line: &[u8],
-    reading: &Reading,
-    place: Place,
-) -> Result<Words, AllocError>
-    ensures { IfOk result (λ words. words ≡ general_words kind section line.now reading.now place) }
+fn general_words(alloc: Global, wrong: &FaultyLine<'_>) -> Result<Words, AllocError>
+    ensures { IfOk result (λ words. words
+        ≡ general_words wrong.now.kind wrong.now.section wrong.now.line.now wrong.now.reading.now wrong.now.place) }
 {
-    let word = word_in(line, reading);
-    let meant = bytes_at(line, place);
-    let tokens = reading.tokens.as_slice();
-    match kind {
-        LineFaultKind::NotAscii => Words::of(alloc, byte_help(byte_at(line, place))),
+    let line = wrong.line;
+    let word = word_in(line, wrong.reading);
+    let meant = bytes_at(line, wrong.place);
+    let tokens = wrong.reading.tokens.as_slice();
+    match wrong.kind {
+        LineFaultKind::NotAscii => Words::of(alloc, byte_help(byte_at(line, wrong.place))),
         LineFaultKind::Token => {
-            let first = byte_at(line, place);
+            let first = byte_at(line, wrong.place);
             Words::of(alloc, token_words(instead(word), instead(meant), first))
         }
         LineFaultKind::Mnemonic => {
             let is_ours = shape_of(meant).is_some();
-            let labelled = may_be_label(alloc, section, line, place)?;
-            word_help(alloc, section, is_ours, labelled, instead(meant), meant)
+            let labelled = may_be_label(alloc, wrong.section, line, wrong.place)?;
+            word_help(
+                alloc,
+                wrong.section,
+                is_ours,
+                labelled,
+                instead(meant),
+                meant,
+            )
         }
         LineFaultKind::Operand => operand_words(alloc, word, meant),
         LineFaultKind::Number => {
@@ -267,38 +271,27 @@ fn general_words(
 }
 
 /// What to do about operands: the number of a comment, or the line's own words, where they are known.
-fn words_of_operands(
-    alloc: Global,
-    section: Section,
-    line: &[u8],
-    reading: &Reading,
-    place: Place,
-) -> Result<Option<Words>, AllocError>
+fn words_of_operands(alloc: Global, wrong: &FaultyLine<'_>) -> Result<Option<Words>, AllocError>
     ensures { IfOk result (λ words. words
-        ≡ option_or (comment_words section line.now place) (own_words line.now reading.now)) }
+        ≡ option_or (comment_words wrong.now.section wrong.now.line.now wrong.now.place) (own_words wrong.now.line.now wrong.now.reading.now)) }
 {
-    match comment_words(alloc, section, line, place)? {
+    match comment_words(alloc, wrong.section, wrong.line, wrong.place)? {
         Some(words) => Ok(Some(words)),
-        None => own_words(alloc, line, reading),
+        None => own_words(alloc, wrong.line, wrong.reading),
     }
 }
 
 /// What to do about a line, in its own words, where they are known.
-fn words_of_line(
-    alloc: Global,
-    kind: LineFaultKind,
-    section: Section,
-    line: &[u8],
-    reading: &Reading,
-    place: Place,
-) -> Result<Option<Words>, AllocError>
-    ensures { IfOk result (λ words. words ≡ words_of_line kind section line.now reading.now place) }
+fn words_of_line(alloc: Global, wrong: &FaultyLine<'_>) -> Result<Option<Words>, AllocError>
+    ensures { IfOk result (λ words. words
+        ≡ words_of_line wrong.now.kind wrong.now.section wrong.now.line.now wrong.now.reading.now wrong.now.place) }
 {
-    match kind {
-        LineFaultKind::Token | LineFaultKind::Number => own_words(alloc, line, reading),
-        LineFaultKind::Operand => words_of_operands(alloc, section, line, reading, place),
-        LineFaultKind::Mnemonic if shape_of(bytes_at(line, place)).is_none() => {
-            own_words(alloc, line, reading)
+    let line = wrong.line;
+    match wrong.kind {
+        LineFaultKind::Token | LineFaultKind::Number => own_words(alloc, line, wrong.reading),
+        LineFaultKind::Operand => words_of_operands(alloc, wrong),
+        LineFaultKind::Mnemonic if shape_of(bytes_at(line, wrong.place)).is_none() => {
+            own_words(alloc, line, wrong.reading)
         }
         _ => Ok(None),
     }
@@ -306,19 +299,13 @@ fn words_of_line(
 
 /// What to do about a line, in words.
 #[tactic(auto, unfolding(crate::specs::Helps::line_words))]
-fn line_words(
-    alloc: Global,
-    kind: LineFaultKind,
-    section: Section,
-    line: &[u8],
-    reading: &Reading,
-    place: Place,
-) -> Result<Words, AllocError>
-    ensures { IfOk result (λ words. words ≡ line_words kind section line.now reading.now place) }
+fn line_words(alloc: Global, wrong: &FaultyLine<'_>) -> Result<Words, AllocError>
+    ensures { IfOk result (λ words. words
+        ≡ line_words wrong.now.kind wrong.now.section wrong.now.line.now wrong.now.reading.now wrong.now.place) }
 {
-    match words_of_line(alloc, kind, section, line, reading, place)? {
+    match words_of_line(alloc, wrong)? {
         Some(words) => Ok(words),
-        None => general_words(alloc, kind, section, line, reading, place),
+        None => general_words(alloc, wrong),
     }
 }
 
@@ -339,64 +326,67 @@ fn help_by(alloc: Global, words: Words, span: Span, mended: &[Words]) -> Result<
     }
 }
 
-/// Where commas stand, and the operands with them.
-fn commas_text(alloc: Global, text: &Words) -> Result<Words, AllocError>
-    ensures { IfOk result (λ words. words ≡ commas_text text.now) }
+/// What to do about a line: a text that mends it, or words.
+fn mending_help(alloc: Global, number: u32, wrong: &FaultyLine<'_>) -> Result<Help, AllocError>
+    ensures { IfOk result (λ help. help
+        ≡ mending_help wrong.now.kind number wrong.now.section wrong.now.line.now wrong.now.reading.now wrong.now.place) }
 {
-    words!(in alloc; "one comma separates two operands: write {text}")
+    let words = line_words(alloc, wrong)?;
+    let texts = mended(alloc, wrong.kind, wrong.section, wrong.line, wrong.place)?;
+    help_by(alloc, words, span_in(number, wrong.place), &texts)
 }
 
-/// What to do about a line whose commas are missing, or wrong, from a place on.
-fn commas_help(
+/// What is to stand from a line's place on to its end: operands with all their commas, or lists without braces.
+fn rest_text(alloc: Global, wrong: &FaultyLine<'_>) -> Result<Option<Words>, AllocError>
+    ensures { IfOk result (λ text. text
+        ≡ rest_text wrong.now.kind wrong.now.section wrong.now.line.now wrong.now.reading.now wrong.now.place) }
+{
+    match wrong.kind {
+        LineFaultKind::Operand => several_commas(alloc, wrong),
+        LineFaultKind::Token => without_braces(alloc, wrong),
+        _ => Ok(None),
+    }
+}
+
+/// What is wrong there, and the text to write.
+fn rest_words(alloc: Global, kind: LineFaultKind, text: &Words) -> Result<Words, AllocError>
+    ensures { IfOk result (λ words. words ≡ rest_words kind text.now) }
+{
+    match kind {
+        LineFaultKind::Operand => {
+            words!(in alloc; "one comma separates two operands: write {text}")
+        }
+        _ => words!(in alloc; "lists have no braces: write {text}"),
+    }
+}
+
+/// What to do about a line that is to have this text from its place on.
+fn rest_help(
     alloc: Global,
     number: u32,
-    places: &[Place],
-    place: Place,
+    wrong: &FaultyLine<'_>,
     text: Words,
 ) -> Result<Help, AllocError>
-    ensures { IfOk result (λ help. help ≡ commas_help number places.now place text) }
+    ensures { IfOk result (λ help. help
+        ≡ rest_help wrong.now.kind number wrong.now.reading.now.places wrong.now.place text) }
 {
-    let message = commas_text(alloc, &text)?;
-    by_text(
-        alloc,
-        message,
-        span_in(number, rest_place(place, places)),
-        text,
-    )
-}
-
-/// What to do about a line: a text that mends it, or words.
-fn mending_help(
-    alloc: Global,
-    kind: LineFaultKind,
-    number: u32,
-    section: Section,
-    line: &[u8],
-    reading: &Reading,
-    place: Place,
-) -> Result<Help, AllocError>
-    ensures { IfOk result (λ help. help ≡ mending_help kind number section line.now reading.now place) }
-{
-    let words = line_words(alloc, kind, section, line, reading, place)?;
-    let texts = mended(alloc, kind, section, line, place)?;
-    help_by(alloc, words, span_in(number, place), &texts)
+    let message = rest_words(alloc, wrong.kind, &text)?;
+    let rest = rest_place(wrong.place, wrong.places());
+    by_text(alloc, message, span_in(number, rest), text)
 }
 
 /// What to do about a line that cannot be read.
 pub(crate) fn line_help(
     alloc: Global,
-    kind: LineFaultKind,
     number: u32,
-    section: Section,
-    line: &[u8],
-    reading: &Reading,
-    place: Place,
+    wrong: &FaultyLine<'_>,
 ) -> Result<Help, AllocError>
-    ensures { IfOk result (λ help. help ≡ line_help kind number section line.now reading.now place) }
+    ensures { IfOk result (λ help. help
+        ≡ line_help wrong.now.kind number wrong.now.section wrong.now.line.now wrong.now.reading.now wrong.now.place) }
 {
-    match several_commas(alloc, kind, section, line, reading, place)? {
-        Some(text) => commas_help(alloc, number, reading.places.as_slice(), place, text),
-        None => mending_help(alloc, kind, number, section, line, reading, place),
+    match rest_text(alloc, wrong)? {
+        Some(text) => rest_help(alloc, number, wrong, text),
+        None => mending_help(alloc, number, wrong),
     }
 }
 

@@ -2,8 +2,10 @@
 //! and what to do.
 #![tactic(auto)]
 
+mod braces;
 mod commas;
 mod comment;
+mod faulty_line;
 mod help;
 mod known;
 pub mod laws;

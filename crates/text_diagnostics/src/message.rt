@@ -5,6 +5,7 @@ ghost use Rattle.std.specs.Option.{option_copied};
 ghost use Rattle.diagnostics.specs.Quotations.{quoted};
 ghost use Rattle.text_diagnostics.specs.Messages.{byte_message, mnemonic_message, token_message, operand_message, is_no_mark, second_message, mark_message, line_message, nameless_message, item_message};
 
+use crate::faulty_line::FaultyLine;
 use crate::mending::is_unclosed;
 use crate::mistake::Kind;
 use diagnostics::quotation::quoted;
@@ -13,10 +14,8 @@ use diagnostics::words::Words;
 use operand_forms::bytes::{byte_at, bytes_at};
 use operand_forms::line_place::word_in;
 use operand_forms::meant::{is_directive, mark_index};
-use operand_forms::rows::Reading;
 use operand_forms::shape::shape_of;
 use program_statements::statement::Section;
-use program_tokens::span::TokenSpan;
 use program_tokens::token::{Mark, Token};
 use std::alloc::{AllocError, Global};
 use syntax_tree::item::LineFaultKind;
@@ -123,29 +122,24 @@ fn mark_message(
 
 /// Of a line that cannot be read.
 #[tactic(auto, unfolding(crate::specs::Messages::line_message))]
-pub(crate) fn line_message(
-    alloc: Global,
-    kind: LineFaultKind,
-    section: Section,
-    line: &[u8],
-    reading: &Reading,
-    place: TokenSpan,
-) -> Result<Words, AllocError>
-    ensures { IfOk result (λ words. words ≡ line_message kind section line.now reading.now place) }
+pub(crate) fn line_message(alloc: Global, wrong: &FaultyLine<'_>) -> Result<Words, AllocError>
+    ensures { IfOk result (λ words. words
+        ≡ line_message wrong.now.kind wrong.now.section wrong.now.line.now wrong.now.reading.now wrong.now.place) }
 {
-    let bytes = bytes_at(line, place);
-    let tokens = reading.tokens.as_slice();
+    let line = wrong.line;
+    let bytes = bytes_at(line, wrong.place);
+    let tokens = wrong.reading.tokens.as_slice();
     let meant = quoted(alloc, bytes)?;
-    match kind {
-        LineFaultKind::NotAscii => byte_message(alloc, byte_at(line, place)),
-        LineFaultKind::Token => token_message(alloc, byte_at(line, place), &meant),
+    match wrong.kind {
+        LineFaultKind::NotAscii => byte_message(alloc, byte_at(line, wrong.place)),
+        LineFaultKind::Token => token_message(alloc, byte_at(line, wrong.place), &meant),
         LineFaultKind::Mnemonic => {
-            mnemonic_message(alloc, section, shape_of(bytes).is_some(), &meant)
+            mnemonic_message(alloc, wrong.section, shape_of(bytes).is_some(), &meant)
         }
         LineFaultKind::Operand => {
-            let unclosed = is_unclosed(alloc, section, line, place)?;
-            let word = quoted(alloc, word_in(line, reading))?;
-            operand_message(alloc, place.len == 0, unclosed, &word, &meant)
+            let unclosed = is_unclosed(alloc, wrong.section, line, wrong.place)?;
+            let word = quoted(alloc, word_in(line, wrong.reading))?;
+            operand_message(alloc, wrong.place.len == 0, unclosed, &word, &meant)
         }
         LineFaultKind::Number => words!(in alloc; "{meant} is out of its range"),
         LineFaultKind::Mark => {

@@ -7,6 +7,7 @@ ghost use Rattle.program_tokens.specs.Lines.{lines};
 ghost use Rattle.syntax_tree.specs.Trees.{tree_of};
 ghost use Rattle.text_diagnostics.specs.Refusals.{kind_code, note_text, note_at, item_at, error_of, line_diagnostic, item_diagnostic, diagnostic_by, said_at, said_of, no_task_error, no_task, told_of, told, build_code, told_as, is_on, tells, line_start, plain, with_first, refusal, text_diagnostics};
 
+use crate::faulty_line::FaultyLine;
 use crate::help::{item_help, line_help};
 use crate::known::{Known, known_in};
 use crate::message::{item_message, line_message};
@@ -122,8 +123,15 @@ fn line_diagnostic(
 {
     let reading = read(alloc, line)?;
     let place = line_place(alloc, kind, line, &reading)?;
-    let message = line_message(alloc, kind, section, line, &reading, place)?;
-    let help = line_help(alloc, kind, number, section, line, &reading, place)?;
+    let wrong = FaultyLine {
+        kind,
+        section,
+        line,
+        reading: &reading,
+        place,
+    };
+    let message = line_message(alloc, &wrong)?;
+    let help = line_help(alloc, number, &wrong)?;
     let span = span_in(number, place);
     let notes = Listed::new(Vec::new(alloc));
     let (code, _) = told_as(kind.on_line(number));

@@ -40,13 +40,13 @@ pub header_of_one : header_text one_task 1 ≡
     codes "$var integer 32 4 words $end" ++ (10 ∷
     codes "$var integer 32 5 word $end" ++ (10 ∷
     codes "$scope module unit0 $end" ++ (10 ∷
-    codes "$var integer 32 6 task $end" ++ (10 ∷
-    codes "$var integer 32 7 index $end" ++ (10 ∷
-    codes "$var wire 2 8 state $end" ++ (10 ∷
-    codes "$var wire 3 9 waits $end" ++ (10 ∷
-    codes "$var integer 32 10 register $end" ++ (10 ∷
-    codes "$var wire 34 11 arrived $end" ++ (10 ∷
-    codes "$var wire 34 12 sent $end" ++ (10 ∷
+    codes "$var integer 32 6 unit0_task $end" ++ (10 ∷
+    codes "$var integer 32 7 unit0_index $end" ++ (10 ∷
+    codes "$var wire 2 8 unit0_state $end" ++ (10 ∷
+    codes "$var wire 3 9 unit0_waits $end" ++ (10 ∷
+    codes "$var integer 32 10 unit0_register $end" ++ (10 ∷
+    codes "$var wire 34 11 unit0_arrived $end" ++ (10 ∷
+    codes "$var wire 34 12 unit0_sent $end" ++ (10 ∷
     codes "$upscope $end" ++ (10 ∷
     codes "$upscope $end" ++ (10 ∷
     codes "$enddefinitions $end" ++ 10 ∷ []))))))))))))))))))))))))

@@ -43,10 +43,10 @@ ring_text =
     codes "$var integer 32 4 words $end" ++ (10 ∷
     codes "$var integer 32 5 word $end" ++ 10 ∷ [])))))))
 
--- a signal: its kind with its width, its number and its name
-unfoldable pub variable_line : (kind : List ℕ) → (signal : ℕ) → (name : List ℕ) → List ℕ
-variable_line kind signal name =
-    codes "$var " ++ (kind ++ (codes " " ++ (decimal signal ++ (codes " " ++ (name ++ (codes " $end" ++ 10 ∷ []))))))
+-- a signal of a unit: its kind with its width, its number, and its name, as `unit0_task`
+unfoldable pub variable_line : (kind : List ℕ) → (signal unit : ℕ) → (name : List ℕ) → List ℕ
+variable_line kind signal unit name =
+    codes "$var " ++ (kind ++ (codes " " ++ (decimal signal ++ (codes " unit" ++ (decimal unit ++ (codes "_" ++ (name ++ (codes " $end" ++ 10 ∷ []))))))))
 
 unfoldable pub scope_line : (unit : ℕ) → List ℕ
 scope_line unit = codes "$scope module unit" ++ (decimal unit ++ (codes " $end" ++ 10 ∷ []))
@@ -55,23 +55,23 @@ scope_line unit = codes "$scope module unit" ++ (decimal unit ++ (codes " $end" 
 unfoldable pub place_text : (unit first : ℕ) → List ℕ
 place_text unit first =
     scope_line unit
-    ++ (variable_line (codes "integer 32") first (codes "task")
-    ++ (variable_line (codes "integer 32") (first + 1) (codes "index")
-    ++ variable_line (codes "wire 2") (first + 2) (codes "state")))
+    ++ (variable_line (codes "integer 32") first unit (codes "task")
+    ++ (variable_line (codes "integer 32") (first + 1) unit (codes "index")
+    ++ variable_line (codes "wire 2") (first + 2) unit (codes "state")))
 
-unfoldable pub wait_text : (first : ℕ) → List ℕ
-wait_text first =
-    variable_line (codes "wire 3") (first + 3) (codes "waits")
-    ++ variable_line (codes "integer 32") (first + 4) (codes "register")
+unfoldable pub wait_text : (unit first : ℕ) → List ℕ
+wait_text unit first =
+    variable_line (codes "wire 3") (first + 3) unit (codes "waits")
+    ++ variable_line (codes "integer 32") (first + 4) unit (codes "register")
 
-unfoldable pub register_text : (first : ℕ) → List ℕ
-register_text first =
-    variable_line (codes "wire 34") (first + 5) (codes "arrived")
-    ++ (variable_line (codes "wire 34") (first + 6) (codes "sent")
+unfoldable pub register_text : (unit first : ℕ) → List ℕ
+register_text unit first =
+    variable_line (codes "wire 34") (first + 5) unit (codes "arrived")
+    ++ (variable_line (codes "wire 34") (first + 6) unit (codes "sent")
     ++ (codes "$upscope $end" ++ 10 ∷ []))
 
 abbrev pub unit_text : (unit : ℕ) → List ℕ
-unit_text unit = place_text unit (6 + 7 * unit) ++ (wait_text (6 + 7 * unit) ++ register_text (6 + 7 * unit))
+unit_text unit = place_text unit (6 + 7 * unit) ++ (wait_text unit (6 + 7 * unit) ++ register_text unit (6 + 7 * unit))
 
 abbrev pub units_text : (units : ℕ) → List ℕ
 units_text units = flat_map unit_text (range_with_len 0 units)

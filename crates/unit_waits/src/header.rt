@@ -69,12 +69,19 @@ fn write_tasks(text: &mut String, program: &Program) -> Result<(), AllocError>
     Ok(())
 }
 
-/// Adds a signal: its kind with its width, its number and its name.
+/// Adds a signal of a unit: its kind with its width, its number, and its name, which begins with the unit, since viewers
+/// show the name alone.
 #[tactic(auto, unfolding(crate::specs::Waveform::variable_line))]
-fn write_variable(text: &mut String, kind: &str, signal: u32, name: &str) -> Result<(), AllocError>
-    ensures { OnOk result (string_bytes text.new ≡ string_bytes text.old ++ variable_line kind.now signal name.now) }
+fn write_variable(
+    text: &mut String,
+    kind: &str,
+    signal: u32,
+    unit: u32,
+    name: &str,
+) -> Result<(), AllocError>
+    ensures { OnOk result (string_bytes text.new ≡ string_bytes text.old ++ variable_line kind.now signal unit name.now) }
 {
-    writeln!(text, "$var {kind} {signal} {name} $end")
+    writeln!(text, "$var {kind} {signal} unit{unit}_{name} $end")
 }
 
 /// Adds the beginning of a unit's scope.
@@ -92,29 +99,29 @@ fn write_place(text: &mut String, unit: u32, first: u32) -> Result<(), AllocErro
     ensures { OnOk result (string_bytes text.new ≡ string_bytes text.old ++ place_text unit first) }
 {
     write_scope(text, unit)?;
-    write_variable(text, "integer 32", first, "task")?;
-    write_variable(text, "integer 32", first + 1, "index")?;
-    write_variable(text, "wire 2", first + 2, "state")
+    write_variable(text, "integer 32", first, unit, "task")?;
+    write_variable(text, "integer 32", first + 1, unit, "index")?;
+    write_variable(text, "wire 2", first + 2, unit, "state")
 }
 
 /// Adds the signals that show why it waits.
 #[tactic(auto, unfolding(crate::specs::Waveform::wait_text))]
-fn write_wait(text: &mut String, first: u32) -> Result<(), AllocError>
+fn write_wait(text: &mut String, unit: u32, first: u32) -> Result<(), AllocError>
     requires { first ≤ 1000 }
-    ensures { OnOk result (string_bytes text.new ≡ string_bytes text.old ++ wait_text first) }
+    ensures { OnOk result (string_bytes text.new ≡ string_bytes text.old ++ wait_text unit first) }
 {
-    write_variable(text, "wire 3", first + 3, "waits")?;
-    write_variable(text, "integer 32", first + 4, "register")
+    write_variable(text, "wire 3", first + 3, unit, "waits")?;
+    write_variable(text, "integer 32", first + 4, unit, "register")
 }
 
 /// Adds the signals of its registers, and the end of its scope.
 #[tactic(auto, unfolding(crate::specs::Waveform::register_text))]
-fn write_registers(text: &mut String, first: u32) -> Result<(), AllocError>
+fn write_registers(text: &mut String, unit: u32, first: u32) -> Result<(), AllocError>
     requires { first ≤ 1000 }
-    ensures { OnOk result (string_bytes text.new ≡ string_bytes text.old ++ register_text first) }
+    ensures { OnOk result (string_bytes text.new ≡ string_bytes text.old ++ register_text unit first) }
 {
-    write_variable(text, "wire 34", first + 5, "arrived")?;
-    write_variable(text, "wire 34", first + 6, "sent")?;
+    write_variable(text, "wire 34", first + 5, unit, "arrived")?;
+    write_variable(text, "wire 34", first + 6, unit, "sent")?;
     writeln!(text, "$upscope $end")
 }
 
@@ -125,8 +132,8 @@ fn write_unit(text: &mut String, unit: u32) -> Result<(), AllocError>
 {
     let first = 6 + 7 * unit;
     write_place(text, unit, first)?;
-    write_wait(text, first)?;
-    write_registers(text, first)
+    write_wait(text, unit, first)?;
+    write_registers(text, unit, first)
 }
 
 /// Adds the units of the ring.

@@ -61,7 +61,7 @@ allowed (event ∷ events) (Err refusal ∷ answers) = allowed events answers
 abbrev pub played_text : ReplayEmit → (units : ℕ) → (name text : List ℕ) → Listing → List Event → Played → List ℕ
 played_text emit.Answers units name text p events played = answers_text played.answers ++ machine_text played.state
 played_text emit.Summary units name text p events played = summary_text p (lives_of units (allowed events played.answers))
-played_text emit.Picture units name text p events played = ended_picture_text name p units (Some played.state.outcome) (allowed events played.answers)
+played_text emit.Picture units name text p events played = ended_picture_text name [] p units (Some played.state.outcome) (allowed events played.answers)
 played_text emit.Trace units name text p events played = trace_text p (places_of text) units events
 played_text emit.Json units name text p events played = json_text name Script p (places_of text) units events AsItStands
 played_text emit.Timeline units name text p events played = timeline_text p units clock.Events (allowed events played.answers)

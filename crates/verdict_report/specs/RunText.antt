@@ -14,6 +14,7 @@ use Rattle.task_lives.specs.Lives.{lives_of}
 use Rattle.task_lives.specs.SummaryText.{summary_text}
 use Rattle.run_picture.specs.Picture.{ended_picture_text}
 use Rattle.step_picture.specs.StepPicture.{step_picture_text}
+use Rattle.step_picture.specs.PredictorText.{predictor_text}
 use Rattle.event_json.specs.Timeline.{timeline_text}
 use Rattle.event_json.specs.declared.clock.Clock.{Clock}
 use Rattle.event_json.specs.declared.clock.Clock.TheVariants as clock
@@ -104,6 +105,10 @@ abbrev pub last_line_of : How → LastLine
 last_line_of Ended = last_line.AsItStands
 last_line_of OutOfBudget = last_line.OutOfBudget
 
+-- what a picture by events says of the predictor
+abbrev pub predicted_by : Prediction → List ℕ
+predicted_by predict = codes "predictor: " ++ predictor_text predict
+
 -- what is written for a run: its end; its history as a script, which is read as that history; or the summary of
 -- the tasks that it assigned, and its steps; or a picture of its history, by events or by steps; or the trace of
 -- its history, by the lines of the program text, or as lines of JSON; or the table of its waits, its waveform or
@@ -113,7 +118,7 @@ IsWrittenOf emit.Report units predict name text p run bytes = bytes ≡ ending_t
 IsWrittenOf emit.Script units predict name text p run bytes = (bytes ≡ script_text p run.history) × (script_of p bytes ≡ Ok run.history)
 IsWrittenOf emit.ScriptWithValues units predict name text p run bytes = bytes ≡ valued_script p units run.history
 IsWrittenOf emit.Summary units predict name text p run bytes = bytes ≡ summary_text p (lives_of units run.history) ++ steps_text run.steps run.state
-IsWrittenOf emit.Picture units predict name text p run bytes = bytes ≡ ended_picture_text name p units (Some run.state.outcome) run.history
+IsWrittenOf emit.Picture units predict name text p run bytes = bytes ≡ ended_picture_text name (predicted_by predict) p units (Some run.state.outcome) run.history
 IsWrittenOf emit.StepPicture units predict name text p run bytes = bytes ≡ step_picture_text name p units predict run.state.outcome run.history
 IsWrittenOf emit.Trace units predict name text p run bytes = bytes ≡ trace_text p (places_of text) units run.history
 IsWrittenOf emit.Json units predict name text p run bytes = bytes ≡ json_text name (source_of run.steps) p (places_of text) units run.history (last_line_of run.how)

@@ -77,24 +77,26 @@ pub fn summary_of(
 }
 
 /// The history of a machine of `units` units, which runs this program, as a picture that gives the program this name, and
-/// that says how the run stands.
+/// that says how the run stands, and beside that this text of SVG.
 pub fn picture_of(
     alloc: Global,
     units: Units,
     name: &str,
+    said: &str,
     machine: &Machine<'_>,
     program: &Program,
 ) -> Result<Vec<u8>, AllocError>
     requires over { machine.now.accepted.program ≡ program.now }
     requires units { units_of machine.now ≡ units }
     ensures { IfOk result (λ bytes. bytes.items
-        ≡ ended_picture_text name.now program.now units (Some (state machine.now).outcome) machine.now.history) }
+        ≡ ended_picture_text name.now said.now program.now units (Some (state machine.now).outcome) machine.now.history) }
 {
     histories_fit();
     let picture = draw_ended(
         alloc,
         program,
         name,
+        said,
         units.get(),
         Some(machine.outcome()),
         machine.history(),

@@ -206,7 +206,7 @@ fn bytes_of(
     match form {
         MachineForm::Answers => answers_of(alloc, answers, machine),
         MachineForm::Summary => summary_of(alloc, units, machine, program),
-        MachineForm::Picture => picture_of(alloc, units, name, machine, program),
+        MachineForm::Picture => picture_of(alloc, units, name, "", machine, program),
         MachineForm::Timeline => timeline_of(alloc, units, Clock::Events, machine, program),
         MachineForm::State => state_of(alloc, units, text, accepted, machine),
     }

@@ -1,8 +1,8 @@
 //! The job `run`.
-ghost use Rattle.std.specs.Prelude.{◌≡◌, ◌≢◌, ◌≤◌, ◌++◌, Err, Ok, IfOk};
+ghost use Rattle.std.specs.Prelude.{◌≡◌, ◌≢◌, ◌≤◌, ◌++◌, Err, Ok, Some, IfOk, OnOk};
 ghost use Rattle.std.specs.String.{string_bytes};
 ghost use Rattle.sequencer.specs.Machines.{state, units_of};
-ghost use Rattle.verdict_report.specs.RunText.{IsRunReport, IsRunText, IsWrittenOf, clock_of, ending_status, ending_text, last_line_of, source_of, steps_text};
+ghost use Rattle.verdict_report.specs.RunText.{IsRunReport, IsRunText, IsWrittenOf, clock_of, ending_status, ending_text, last_line_of, predicted_by, source_of, steps_text};
 ghost use Rattle.report_texts.specs.CertificateTexts.{OfCertificate};
 ghost use Rattle.verdict_report.specs.Runs.{run_of};
 ghost use Rattle.task_lives.specs.Lives.{lives_of};
@@ -11,6 +11,7 @@ ghost use Rattle.event_script.specs.EventScript.{script_of};
 ghost use Rattle.event_trace.specs.Entries.{places_of};
 ghost use Rattle.wait_table.specs.TableText.{waits_text};
 ghost use Rattle.unit_waits.specs.Waveform.{waveform_text};
+ghost use Rattle.run_picture.specs.Picture.{ended_picture_text};
 ghost use Rattle.step_picture.specs.StepPicture.{step_picture_text};
 ghost use Rattle.event_json.specs.Json.{json_text};
 ghost use Rattle.event_json.specs.Timeline.{timeline_text};
@@ -37,6 +38,7 @@ use std::alloc::{AllocError, Global};
 use std::sync::Wait;
 use std::thread::Threads;
 use step_picture::drawing::draw;
+use step_picture::predictor_text::write_predictor;
 use strict_replay::writing::write_valued;
 use task_lives::laws::histories_fit;
 use threaded_runner::report::How;
@@ -116,7 +118,7 @@ pub(crate) fn report_of_run(
             write_valued(alloc, accepted, units.get(), &events)?
         }
         RunEmit::Summary => summary(alloc, units, ran, accepted)?,
-        RunEmit::Picture => picture_of(alloc, units, name, &ran.machine, accepted.program())?,
+        RunEmit::Picture => event_picture_of(alloc, units, name, predict, ran, accepted)?,
         RunEmit::StepPicture => step_picture_of(alloc, units, name, predict, ran, accepted)?,
         RunEmit::Trace => {
             let events = single_events(alloc, ran.machine.history())?;
@@ -226,6 +228,35 @@ fn waveform_of(
     let events = single_events(alloc, ran.machine.history())?;
     let dump = waveform(alloc, accepted, units.get(), &events)?;
     Ok(dump.into_bytes())
+}
+
+// The picture of the events of a run of a program of this name, with the predictor.
+fn event_picture_of(
+    alloc: Global,
+    units: Units,
+    name: &str,
+    predict: &Prediction,
+    ran: &Ran<'_>,
+    accepted: &Accepted,
+) -> Result<Vec<u8>, AllocError>
+    requires over { ran.now.machine.accepted ≡ accepted.now }
+    requires units { units_of ran.now.machine ≡ units }
+    ensures { IfOk result (λ bytes. bytes.items
+        ≡ ended_picture_text name.now (predicted_by predict.now) accepted.now.program units (Some (state ran.now.machine).outcome) ran.now.machine.history) }
+{
+    let mut said = String::new(alloc);
+    write_predicted(&mut said, predict)?;
+    let machine = &ran.machine;
+    let said = said.as_str();
+    picture_of(alloc, units, name, said, machine, accepted.program())
+}
+
+// Writes how the next task was predicted.
+fn write_predicted(text: &mut String, predict: &Prediction) -> Result<(), AllocError>
+    ensures { OnOk result (string_bytes text.new ≡ string_bytes text.old ++ predicted_by predict.now) }
+{
+    text.push_str("predictor: ")?;
+    write_predictor(text, predict)
 }
 
 // The picture of a run in steps of a program of this name.

@@ -5,11 +5,11 @@ use Rattle.input_diagnostics.proofs.misfit.told_of.Given as goal
 
 abbrev pub invariant-loop-rest : goal.invariant-loop-rest
 invariant-loop-rest l = record {
-  first : take l.most (l.list.items ++ told_from l.program l.cert l.least l.digits l.lines l.before l.rest)
-      ≡ take l.most (told_from l.program l.cert l.least l.digits l.lines None l.findings);
+  first : take l.most (l.list.items ++ told_from l.compared l.before l.rest)
+      ≡ take l.most (told_from l.compared None l.findings);
   room : length l.list.items ≤ l.most;
-  all : l.count + length (told_from l.program l.cert l.least l.digits l.lines l.before l.rest)
-      ≡ length (told_from l.program l.cert l.least l.digits l.lines None l.findings);
+  all : l.count + length (told_from l.compared l.before l.rest)
+      ≡ length (told_from l.compared None l.findings);
   few : l.count + length l.rest ≤ length l.findings;
 }
 

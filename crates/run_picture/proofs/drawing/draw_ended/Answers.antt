@@ -10,4 +10,4 @@ returns c =
     let events = c.deref.ensures.value ∙ c.in_ok-events.ensures in
     let lives = c.deref-2.ensures.value ∙ c.in_ok-lives.ensures.exact in
     c.in_ok-text.ensures
-    ∙ (λ i. file_text c.args.name.now (tasks i) c.args.units (length (events i)) (shapes_of (tasks i) c.args.units c.args.standing (events i) (lives i)))
+    ∙ (λ i. file_text c.args.name.now c.args.said.now (tasks i) c.args.units (length (events i)) (shapes_of (tasks i) c.args.units c.args.standing (events i) (lives i)))
