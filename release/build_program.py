@@ -93,7 +93,7 @@ def run(log, name):
     crates, copy = needed(name), Path(tempfile.mkdtemp(prefix="multiscalar-build-")).resolve()
     try:
         copy_sources(crates, copy)
-        say(f"proving {len(crates)} crates; the first time takes about 40 minutes on four cores, an hour on two.")
+        say(f"proving {len(crates)} crates; the first time takes 40 to 90 minutes on four cores, one to three hours on two.")
         is_well = call(["rt", "ci"], copy, log, crates)
         if is_well and "staticlib" in crates[name].partition(":")[0].split():
             say(f"building lib{name}.a, for which {name} is proved once more")
