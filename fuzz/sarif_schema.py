@@ -124,8 +124,8 @@ def check_artifact(location, run):
 
 
 def check_sentence(text, what):
-    """One sentence, which ends with a period (section 3.11), and no line of the text form."""
-    need(text.endswith(".") and "\n" not in text and len(text) > 1, f"{what}: {text!r} is no sentence")
+    """One sentence, which ends with a period (section 3.11) or asks a question, and no line of the text form."""
+    need(text.endswith((".", "?")) and "\n" not in text and len(text) > 1, f"{what}: {text!r} is no sentence")
 
 
 def check_words(log):
