@@ -20,7 +20,7 @@ use std::alloc::Global;
 use task_descriptor::program::Program;
 
 impl Processor {
-    /// A unit begins a task behind the tail.
+    /// A unit begins a task after the tail.
     pub(crate) fn assign(&mut self, alloc: Global, program: &Program, task: u32)
         requires free { length self.old.queue.units < self.old.queue.capacity }
         requires room { self.old.assigns + 1 < 2 ^ 32 }
@@ -78,7 +78,7 @@ impl Processor {
         self.queue.send(position as usize, register, word);
     }
 
-    /// Removes all units behind a position.
+    /// Removes all units after a position.
     pub(crate) fn squash(&mut self, program: &Program, position: u32)
         ensures state { state_of self.new ≡ after program.now (state_of self.old) (event.Squash position) }
         ensures capacity { self.new.queue.capacity ≡ self.old.queue.capacity }
@@ -88,7 +88,7 @@ impl Processor {
         self.queue.keep(position as usize + 1);
     }
 
-    /// Removes the unit at a position and all behind it.
+    /// Removes the unit at a position and all after it.
     pub(crate) fn drop_from(&mut self, program: &Program, position: u32)
         ensures state { state_of self.new ≡ after program.now (state_of self.old) (event.Drop position) }
         ensures capacity { self.new.queue.capacity ≡ self.old.queue.capacity }

@@ -1,8 +1,7 @@
 //! The result of a run in steps.
 
-ghost use Rattle.std.specs.Prelude.{◌≡◌, ◌≤◌, IfOk};
-ghost use Rattle.sequencer.specs.Machines.{state, units_of};
-ghost use Rattle.unit_turns.specs.Steps.{beginning, after_steps, Takes};
+ghost use Rattle.std.specs.Prelude.{◌≤◌, IfOk};
+ghost use Rattle.unit_turns.specs.Reports.{IsStepsReportOf};
 ghost use Rattle.speed_curve.specs.Curve.{IsRowOf};
 
 use limits::ranges::{Budget, Units};
@@ -69,10 +68,7 @@ fn run<'a>(
 ) -> Result<StepsReport<'a>, AllocError>
     requires units { (1 ≤ units) × (units ≤ 16) }
     requires budget { (1 ≤ budget) × (budget ≤ 1000000) }
-    ensures over { IfOk result (λ report. (report.machine.accepted ≡ accepted.now) × (units_of report.machine ≡ units)) }
-    ensures steps { IfOk result (λ report. Takes accepted.now.program units budget (beginning accepted.now.program predictor) report.steps) }
-    ensures state { IfOk result (λ report. state report.machine ≡ (after_steps accepted.now.program units budget report.steps (beginning accepted.now.program predictor)).state) }
-    ensures events { IfOk result (λ report. report.machine.history ≡ (after_steps accepted.now.program units budget report.steps (beginning accepted.now.program predictor)).events) }
+    ensures { IfOk result (IsStepsReportOf accepted.now units budget predictor) }
 {
     match run_steps_on(
         alloc,

@@ -1,4 +1,4 @@
--- Counts over a history: by induction on the events, one more behind them, and several Execs.
+-- Counts over a history: by induction on the events, one more after them, and several Execs.
 use Rattle.std.proofs.Common.{◌≡◌, ◌≢◌, ℕ, zero, suc, ◌+◌, ◌*◌, ◌%◌, ◌<◌, ◌≤◌, List, [], ◌∷◌, ◌++◌, length, inl, inr, refl, sym, ap, ◌∙◌, subst, arith, Bool, true, false, true≢false, length-append, length-set, get_or-set_same, get_or-set_other, eq-eqb}
 use Rattle.std.proofs.lemmas.Bool.{cases_eq, ne_eqb}
 use Rattle.std.proofs.lemmas.List.Sums.{sum_by-set}
@@ -31,7 +31,7 @@ retired_is count p units history s h = retired_from count p units history (openi
 pub active_is : EventsCount → (p : Listing) (units : ℕ) (history : List Event) (s : State) → Replays p units history s → active_by history ≡ length s.queue
 active_is count p units history s h = active_from count p units history (opening p) s h
 
--- events behind a history
+-- events after a history
 
 pub events_append : (units workers w r a : ℕ) (es fs : List Event) → events_from units workers w r a (es ++ fs) ≡ events_from units workers w r a es + events_from units workers w (fold retired_after r es) (fold active_after a es) fs
 events_append units workers w r a [] fs = omega arith
@@ -56,7 +56,7 @@ if_other : (b : Bool) (n : ℕ) → b ≡ false → n * (if b then 1 else 0) ≡
 if_other true n e = absurd (true≢false e)
 if_other false n e = omega arith
 
--- where a worker's count grows by as many events as are put behind the history, all of them its own, the
+-- where a worker's count grows by as many events as are put after the history, all of them its own, the
 -- counts stay right
 pub counted_more : (units unit n : ℕ) (history es : List Event) (counts : List ℕ) → 0 < length counts → IsCounted units history counts
     → ((w : ℕ) → events_from units (length counts) w (retired_by history) (active_by history) es ≡ n * (if nat_eq (unit % length counts) w then 1 else 0))

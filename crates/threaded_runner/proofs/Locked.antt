@@ -58,7 +58,7 @@ more m m' counts counts' es unit n workers stopped asleep d own long history uni
 pub as_many : (counts counts' : List ℕ) (worker count : ℕ) → counts' ≡ slice_set counts worker count → length counts' ≡ length counts
 as_many counts counts' worker count is = ap (λ (x : List ℕ). length x) is ∙ length-set counts worker count
 
--- one event more behind several
+-- one event more after several
 pub one_more : (start before now : List Event) (n : ℕ) (e : Event) → before ≡ start ++ replicate n e → now ≡ before ++ e ∷ [] → now ≡ start ++ replicate (n + 1) e
 one_more start before now n e long more =
     more

@@ -1,4 +1,5 @@
 pub mod Counts
+pub mod Reports
 pub mod Desks
 pub mod Shares
 pub mod Calls

@@ -45,8 +45,7 @@ impl<'a, P: Predict, J: Naming> Desk<'a, P, J> {
     ghost use Rattle.sequencer.specs.Choices.{choice_of};
     ghost use Rattle.sequencer.specs.Bursts.{IsFresh, IsRefusedBurst, Takes};
     ghost use Rattle.machine_model.specs.Answer.{most_events};
-    ghost use Rattle.machine_model.specs.Replay.{Replays};
-    ghost use Rattle.threaded_runner.specs.Counts.{IsCounted};
+    ghost use Rattle.threaded_runner.specs.Reports.{IsThreadsReportOf};
     ghost use Rattle.threaded_runner.specs.Desks.{IsDone, SameNotes, nobody, stopped};
     ghost use Rattle.threaded_runner.specs.Holds.{IsStoppedAt, RunsHead};
     ghost use Rattle.threaded_runner.specs.Shares.{AllWait, IsShareOf};
@@ -241,11 +240,7 @@ impl<'a, P: Predict, J: Naming> Desk<'a, P, J> {
     ///
     /// `AllocError` where the note is set.
     pub(crate) fn report(mut self, budget: u32) -> Result<Report<'a>, AllocError>
-        ensures over { IfOk result (λ report. (report.machine.accepted ≡ J.accepted) × (units_of report.machine ≡ J.units)) }
-        ensures replay { IfOk result (λ report. Replays report.machine.accepted.program (units_of report.machine) report.machine.history (state report.machine)) }
-        ensures counts { IfOk result (λ report. (length report.counts.items ≡ J.workers) × IsCounted J.units report.machine.history report.counts.items) }
-        ensures ended { IfOk result (λ report. (report.how ≡ How.Ended) ↔ ((state report.machine).outcome ≡ standing.Running → ⊥)) }
-        ensures spent { IfOk result (λ report. report.how ≡ How.OutOfBudget → budget ≤ length report.machine.history) }
+        ensures { IfOk result (IsThreadsReportOf J.accepted J.units J.workers budget) }
     {
         self.finish(budget);
         let Desk {

@@ -1,10 +1,7 @@
 //! The run of a program by threads.
 
 ghost use Rattle.std.specs.Prelude.{◌≡◌, ◌≢◌, ◌<◌, ◌≤◌, ◌⊎◌, ◌↔◌, length, IfOk};
-ghost use Rattle.machine_model.specs.declared.event.Standing.TheVariants as standing;
-ghost use Rattle.machine_model.specs.Replay.{Replays};
-ghost use Rattle.sequencer.specs.Machines.{state, units_of};
-ghost use Rattle.threaded_runner.specs.Counts.{IsCounted};
+ghost use Rattle.threaded_runner.specs.Reports.{IsThreadsReportOf};
 ghost use Rattle.threaded_runner.specs.Shares.{IsShareOf};
 
 use crate::desk::Desk;
@@ -12,7 +9,7 @@ use crate::gate::RunGate;
 use crate::held::take;
 use crate::hold::Worker;
 use crate::naming::Naming;
-use crate::report::{How, Report, RunFault};
+use crate::report::{Report, RunFault};
 use crate::share::Share;
 use crate::worker::{ring_and_let_go, serve};
 use limits::ranges::{Budget, MOST_BUDGET, MOST_UNITS, Units, Workers};
@@ -46,11 +43,7 @@ pub fn run_threads<'a, P: Predict, G: RunGate, R: Threads + Wait + Sync>(
     ensures units { (result ≡ Err RunFault.Units) ↔ ((units ≡ 0) ⊎ (16 < units)) }
     ensures budget { (result ≡ Err RunFault.Budget) ↔ ((0 < units) × (units ≤ 16) × ((budget ≡ 0) ⊎ (1000000 < budget))) }
     ensures own { result ≢ Err RunFault.Foreign }
-    ensures over { IfOk result (λ report. (report.machine.accepted ≡ accepted.now) × (units_of report.machine ≡ units)) }
-    ensures replay { IfOk result (λ report. Replays report.machine.accepted.program (units_of report.machine) report.machine.history (state report.machine)) }
-    ensures counts { IfOk result (λ report. (length report.counts.items ≡ units) × IsCounted units report.machine.history report.counts.items) }
-    ensures ended { IfOk result (λ report. (report.how ≡ How.Ended) ↔ ((state report.machine).outcome ≡ standing.Running → ⊥)) }
-    ensures spent { IfOk result (λ report. report.how ≡ How.OutOfBudget → budget ≤ length report.machine.history) }
+    ensures report { IfOk result (IsThreadsReportOf accepted.now units units budget) }
 {
     run_workers(rt, alloc, accepted, units, units, budget, predictor, gate)
 }
@@ -75,11 +68,7 @@ pub fn run_workers<'a, P: Predict, G: RunGate, R: Threads + Wait + Sync>(
     ensures units { (result ≡ Err RunFault.Units) ↔ ((units ≡ 0) ⊎ (16 < units) ⊎ (workers ≡ 0) ⊎ (units < workers)) }
     ensures budget { (result ≡ Err RunFault.Budget) ↔ ((units ≤ 16) × (0 < workers) × (workers ≤ units) × ((budget ≡ 0) ⊎ (1000000 < budget))) }
     ensures own { result ≢ Err RunFault.Foreign }
-    ensures over { IfOk result (λ report. (report.machine.accepted ≡ accepted.now) × (units_of report.machine ≡ units)) }
-    ensures replay { IfOk result (λ report. Replays report.machine.accepted.program (units_of report.machine) report.machine.history (state report.machine)) }
-    ensures counts { IfOk result (λ report. (length report.counts.items ≡ workers) × IsCounted units report.machine.history report.counts.items) }
-    ensures ended { IfOk result (λ report. (report.how ≡ How.Ended) ↔ ((state report.machine).outcome ≡ standing.Running → ⊥)) }
-    ensures spent { IfOk result (λ report. report.how ≡ How.OutOfBudget → budget ≤ length report.machine.history) }
+    ensures report { IfOk result (IsThreadsReportOf accepted.now units workers budget) }
 {
     if units == 0 || units > MOST_UNITS || workers == 0 || workers > units {
         return Err(RunFault::Units);
@@ -113,11 +102,7 @@ pub fn run_by<'a, P: Predict, G: RunGate, R: Threads + Wait + Sync>(
     gate: &G,
 ) -> Result<Report<'a>, AllocError>
     requires { workers ≤ units }
-    ensures over { IfOk result (λ report. (report.machine.accepted ≡ accepted.now) × (units_of report.machine ≡ units)) }
-    ensures replay { IfOk result (λ report. Replays report.machine.accepted.program (units_of report.machine) report.machine.history (state report.machine)) }
-    ensures counts { IfOk result (λ report. (length report.counts.items ≡ workers) × IsCounted units report.machine.history report.counts.items) }
-    ensures ended { IfOk result (λ report. (report.how ≡ How.Ended) ↔ ((state report.machine).outcome ≡ standing.Running → ⊥)) }
-    ensures spent { IfOk result (λ report. report.how ≡ How.OutOfBudget → budget ≤ length report.machine.history) }
+    ensures { IfOk result (IsThreadsReportOf accepted.now units workers budget) }
 {
     let threads = workers.get();
     let most = budget.get();
@@ -142,11 +127,7 @@ fn run_named<'a, P: Predict, J: Naming + Send + Sync, G: RunGate, R: Threads + W
     requires units { units ≡ J.units }
     requires workers { (0 < workers) × (workers ≤ units) × (workers ≡ J.workers) }
     requires budget { budget ≡ J.budget }
-    ensures over { IfOk result (λ report. (report.machine.accepted ≡ accepted.now) × (units_of report.machine ≡ units)) }
-    ensures replay { IfOk result (λ report. Replays report.machine.accepted.program (units_of report.machine) report.machine.history (state report.machine)) }
-    ensures counts { IfOk result (λ report. (length report.counts.items ≡ workers) × IsCounted units report.machine.history report.counts.items) }
-    ensures ended { IfOk result (λ report. (report.how ≡ How.Ended) ↔ ((state report.machine).outcome ≡ standing.Running → ⊥)) }
-    ensures spent { IfOk result (λ report. report.how ≡ How.OutOfBudget → budget ≤ length report.machine.history) }
+    ensures { IfOk result (IsThreadsReportOf accepted.now units workers budget) }
 {
     let size = units.get();
     let bells = match new_bells(alloc, workers) {

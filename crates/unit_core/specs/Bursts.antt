@@ -39,6 +39,15 @@ pub record IsMade (b : BurstView) : Type 0 where
   pub made : Makes b.accepted.program b.before b.steps b.after
   pub placed : IsPlaced b.accepted (active_of b.after)
 
+-- a burst that was made on this unit of this program and certificate: it has at most this many steps, of which only the
+-- last sends a register for the first time
+pub record IsBurstOn (checked : Checked) (unit : UnitView) (most : ℕ) (b : BurstView) : Type 0 where
+  pub accepted : b.accepted ≡ checked
+  pub before : b.before ≡ unit
+  pub few : b.steps ≤ most
+  pub made : IsMade b
+  pub sends_last : SendsLast b.accepted.program b.before b.steps
+
 -- the units are equal, apart from their logs and from registers that have arrived since
 pub record HasMore (before u : Active) : Type 0 where
   pub more : AllIn before.arrived u.arrived

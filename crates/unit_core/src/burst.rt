@@ -4,7 +4,7 @@
 ghost use Rattle.std.specs.Prelude.{◌≡◌, ℕ, ◌<◌, ◌≤◌, [], IfOk, IfErr, OnOk, OnErr, IsTrue, ◌↔◌, is_some};
 ghost use Rattle.mips_instructions.specs.Words.{has};
 ghost use Rattle.unit_core.specs.Units.{active_of, unlogged, IsPlaced};
-ghost use Rattle.unit_core.specs.Bursts.{HasMore, IsMade, Makes, SendsLast, carried_on};
+ghost use Rattle.unit_core.specs.Bursts.{HasMore, IsBurstOn, IsMade, Makes, SendsLast, carried_on};
 
 use crate::state::UnitState;
 use crate::unit::Unit;
@@ -99,11 +99,7 @@ impl<'a> Burst<'a> {
     /// where growth of the reads was refused.
     pub fn run(lease: Lease<'a>, most: u32) -> Burst<'a>
         requires { most ≤ 65536 }
-        ensures accepted { result.accepted ≡ lease.entry.accepted }
-        ensures before { result.before ≡ lease.entry.unit }
-        ensures few { result.steps ≤ most }
-        ensures made { IsMade result }
-        ensures sends_last { SendsLast result.accepted.program result.before result.steps }
+        ensures { IsBurstOn lease.entry.accepted lease.entry.unit most result }
     {
         let mut burst = Burst::new(lease);
         burst.go(most);
@@ -145,11 +141,7 @@ impl<'a> Burst<'a> {
     pub fn go(&mut self, most: u32)
         requires few { most ≤ 65536 }
         requires none { self.old.steps ≡ 0 }
-        ensures accepted { self.new.accepted ≡ self.old.accepted }
-        ensures before { self.new.before ≡ self.old.before }
-        ensures few { self.new.steps ≤ most }
-        ensures made { IsMade self.new }
-        ensures sends_last { SendsLast self.new.accepted.program self.new.before self.new.steps }
+        ensures { IsBurstOn self.old.accepted self.old.before most self.new }
     {
         // If this growth is refused, each step asks for its own room.
         let _ = self.after.reserve_reads(most.min(RESERVED_READS) as usize);

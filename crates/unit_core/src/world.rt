@@ -27,13 +27,9 @@ impl Model for World {
 }
 
 impl World {
-    ghost use Rattle.std.specs.Prelude.{◌≡◌, [], IsTrue, ◌↔◌, IfOk, OnOk, OnErr};
-    ghost use Rattle.mips_plain.specs.MemoryMap.{byte_of};
+    ghost use Rattle.std.specs.Prelude.{◌≡◌, [], IsTrue, ◌↔◌};
     ghost use Rattle.mips_plain.specs.Access.{is_load};
-    ghost use Rattle.mips_plain.specs.Effect.{memory_after, output_after, outcome_after};
-    ghost use Rattle.machine_model.specs.Step.{stands};
-    ghost use Rattle.unit_core.specs.Worlds.{memory_of};
-    ghost use Rattle.unit_core.specs.ExecParts.{loads, IsAddress};
+    ghost use Rattle.unit_core.specs.ExecParts.{CarriesOut, CarriesOutLoad, IsAddress};
     ghost use Rattle.machine_model.specs.declared.event.Standing.TheVariants.{Running};
 
     /// A world with this memory, in which nothing was output and the run has not ended. Takes no memory.
@@ -92,12 +88,7 @@ impl World {
         fixed: &[u8],
     ) -> Result<Option<u32>, OutOfMemory>
         requires { self.old.outcome ≡ Running }
-        ensures loaded { IfOk result (λ word. word ≡ loads op.now a (byte_of fixed.now) (memory_of self.old)) }
-        ensures memory { OnOk result (memory_of self.new ≡ memory_after op.now a b (memory_of self.old)) }
-        ensures output { OnOk result (self.new.output ≡ output_after op.now a self.old.output) }
-        ensures outcome { OnOk result (self.new.outcome ≡ stands (outcome_after op.now a)) }
-        ensures fixed { self.new.contents.fixed ≡ self.old.contents.fixed }
-        ensures err { OnErr result (self.new ≡ self.old) }
+        ensures { CarriesOut op.now a b fixed.now self.old result self.new }
     {
         match *op {
             Op::Load(_, _, _, n) => return Ok(self.load(op, a, access_address(a, n), fixed)),
@@ -120,10 +111,7 @@ impl World {
         requires running { self.old.outcome ≡ Running }
         requires load { IsTrue (is_load op.now) }
         requires address { IsAddress op.now a address }
-        ensures word { result ≡ loads op.now a (byte_of fixed.now) (memory_of self.old) }
-        ensures outcome { self.new.outcome ≡ stands (outcome_after op.now a) }
-        ensures output { self.new.output ≡ self.old.output }
-        ensures contents { self.new.contents ≡ self.old.contents }
+        ensures { CarriesOutLoad op.now a fixed.now self.old result self.new }
     {
         if let Some(word) = fixed_load(op, a, fixed) {
             return Some(word);

@@ -21,7 +21,7 @@ use Rattle.unit_turns.specs.declared.turn.Turn.TheVariants.{Choose, Wait}
 use Rattle.unit_turns.proofs.RingPlaces.{at_place, at_free, is_run, position_below, position_belongs}
 use Rattle.unit_turns.proofs.TurnKinds.{chooses}
 
--- there are choices behind a tail alone, while the run goes on
+-- there are choices after a tail alone, while the run goes on
 
 running_with : (p : Listing) (s : State) (running : Bool) (targets : List ℕ) → ((if running then targets else []) ≡ [] → ⊥) → running ≡ true
 running_with p s true targets h = refl

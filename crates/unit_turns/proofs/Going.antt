@@ -81,7 +81,7 @@ is_running_is (Unlisted at) e = absurd (true≢false (sym e))
 pub runs_on : (budget : ℕ) (s : State) (n : ℕ) → goes_on budget s n ≡ true → s.outcome ≡ Running
 runs_on budget s n e = is_running_is s.outcome (and_parts (is_running s.outcome) (nat_lt n budget) e).0
 
--- the turn of a position behind the head
+-- the turn of a position after the head
 
 either_false : (b : Bool) (c d : Course) → b ≡ false → cond b c d ≡ d
 either_false true c d e = absurd (true≢false e)
@@ -118,7 +118,7 @@ off_turn p units budget k c off = either_false (goes_on budget c.state (length c
 abbrev pub goes : ℕ → Course → Bool
 goes budget c = goes_on budget c.state (length c.events)
 
--- A turn has at most one event, one of the unit at its position, in a queue of so many units; no turn drops
+-- A turn has at most one event, one of the unit at its position, in a queue of this many units; no turn drops
 -- a unit.
 
 abbrev pub IsAt : (active k : ℕ) → Event → Type 0

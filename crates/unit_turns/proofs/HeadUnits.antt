@@ -13,7 +13,7 @@ use Rattle.machine_model.specs.declared.event.Spot.TheVariants.{Inside, Stopped}
 use Rattle.sequencer.specs.Machines.{MachineView, state, units_of}
 use Rattle.sequencer.specs.Rings.{unit_for}
 
--- the position of an event in a queue of so many units, 0 where there is none
+-- the position of an event in a queue of this many units, 0 where there is none
 abbrev place_of : (active : ℕ) → Option Event → ℕ
 place_of active None = 0
 place_of active (Some e) = position_of active e

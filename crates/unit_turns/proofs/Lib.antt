@@ -10,3 +10,4 @@ pub mod Tries
 pub mod Going
 pub mod Looping
 pub mod Together
+pub mod Reporting

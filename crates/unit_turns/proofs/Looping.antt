@@ -65,7 +65,7 @@ step_grows budget units old from mid by now h t on more =
       | inr over ↦ (let some : length old.history < length mid.history = h.grows.ended on over in omega arith)
     ]
 
--- a run: so many steps were taken
+-- a run: this many steps were taken
 pub record Running (budget units steps : ℕ) (old : MachineView) (from : Predictor) (now : MachineView) (to : Predictor) : Type 0 where
   pub kept : SameRing old now
   pub few : steps ≤ length now.history

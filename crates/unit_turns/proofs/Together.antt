@@ -1,6 +1,6 @@
 -- The events of a step are allowed where it begins: a turn changes the queue only at its own position and
--- behind it, and the turns that are left look only at their own positions, at those before them, and at which
--- task is next behind.
+-- after it, and the turns that are left look only at their own positions, at those before them, and at which
+-- task is next.
 use Rattle.std.proofs.Common.{◌≡◌, ℕ, zero, suc, ◌-◌, ◌<◌, ◌≤◌, ◌⊎◌, inl, inr, true, List, [], ◌∷◌, ◌++◌, length, take, Option, Some, None, refl, sym, ap, ◌∙◌, subst, arith, true≢false, append_assoc}
 use Rattle.std.specs.Prelude.{slice_get, slice_set, nat_eq, IfSome}
 use Rattle.std.specs.List.{All, last_or}
@@ -81,7 +81,7 @@ same_task (plain.Trapped trap) p u m index a b memory = refl
 
 -- the state where a step begins, and the one where the turns below a position are left
 
--- a unit behind those that are left: it has the task of the unit that was there, or it is new and follows
+-- a unit after those that are left: it has the task of the unit that was there, or it is new and follows
 -- the tail that was there
 abbrev pub IsBehind : Listing → (n : ℕ) → State → Active → Type 0
 IsBehind p n s0 u =
@@ -266,7 +266,7 @@ module _ (p : Listing) (units k : ℕ) (s0 s : State) (h : Untouched p (suc k) s
           | inr few ↦ (let P : State → Type 0 = λ x. IsAllowed p units x e in subst P (h.short few) (d, next))
         ]
 
-  -- what an event behind the head leaves as it was
+  -- what an event after the head leaves as it was
 
   changed : (d : State) (v : Active) → ((j : ℕ) → j < k → slice_get d.queue j ≡ slice_get s.queue j) → slice_get d.queue k ≡ Some v → IsBehind p k s0 v → Untouched p k s0 d
   changed d v same at behind = record {

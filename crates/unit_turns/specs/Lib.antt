@@ -5,4 +5,5 @@ pub mod Predictions
 pub mod Steps
 pub mod Courses
 pub mod Lockstep
+pub mod Reports
 pub mod SynchronousRunnerExamples

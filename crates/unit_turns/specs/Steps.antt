@@ -1,5 +1,5 @@
 -- The synchronous schedule: the machine advances in steps, and in a step each unit does at most one
--- event. The units take their turns from the last to the head. So the units behind a unit see what it
+-- event. The units take their turns from the last to the head. So the units after a unit see what it
 -- does in a step from the next step on: in one step a register moves at most one unit further. The
 -- schedule shows how far the marks let tasks overlap; it is no model of a processor's time, and has no
 -- latencies and no caches.
@@ -33,7 +33,7 @@ abbrev pub with_event : Listing → Course → Option Event → Course
 with_event p c None = c
 with_event p c (Some e) = record c { state = after p c.state e; events = c.events ++ e ∷ [] }
 
--- A unit at work behind the head: it squashes what is wrong behind it, else executes, else takes a
+-- A unit at work after the head: it squashes what is wrong after it, else executes, else takes a
 -- register, else sends one, the least register first.
 
 abbrev pub tries : (k : ℕ) → List Event

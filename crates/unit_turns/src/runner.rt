@@ -2,12 +2,11 @@
 
 ghost use Rattle.std.specs.Prelude.{◌≡◌, ◌<◌, ◌≤◌, ◌⊎◌, ◌↔◌, true, length, OnOk, IfOk, IfErr};
 ghost use Rattle.machine_model.specs.Answer.{most_events};
-ghost use Rattle.machine_model.specs.Replay.{Replays};
 ghost use Rattle.machine_model.specs.declared.event.Refused.TheVariants as refused;
 ghost use Rattle.machine_model.specs.declared.event.Standing.TheVariants as standing;
 ghost use Rattle.sequencer.specs.Machines.{state, units_of, SameRing};
-ghost use Rattle.unit_turns.specs.Steps.{beginning, goes_on as goes_on_by, step as step_of, after_steps, Takes};
-ghost use Rattle.unit_turns.specs.Lockstep.{AreSteps};
+ghost use Rattle.unit_turns.specs.Steps.{goes_on as goes_on_by, step as step_of, after_steps, Takes};
+ghost use Rattle.unit_turns.specs.Reports.{IsStepsReportOf};
 ghost use Rattle.unit_turns.specs.Courses.{course};
 
 use crate::predictor::Predictor;
@@ -37,15 +36,7 @@ pub fn run_steps<'a>(
 ) -> Result<StepsReport<'a>, StepsFault>
     ensures units { (result ≡ Err StepsFault.Units) ↔ ((units ≡ 0) ⊎ (16 < units)) }
     ensures budget { (result ≡ Err StepsFault.Budget) ↔ ((0 < units) × (units ≤ 16) × ((budget ≡ 0) ⊎ (1000000 < budget))) }
-    ensures over { IfOk result (λ report. (report.machine.accepted ≡ accepted.now) × (units_of report.machine ≡ units)) }
-    ensures replay { IfOk result (λ report. Replays report.machine.accepted.program (units_of report.machine) report.machine.history (state report.machine)) }
-    ensures steps { IfOk result (λ report. Takes accepted.now.program units budget (beginning accepted.now.program predictor) report.steps) }
-    ensures state { IfOk result (λ report. state report.machine ≡ (after_steps accepted.now.program units budget report.steps (beginning accepted.now.program predictor)).state) }
-    ensures events { IfOk result (λ report. report.machine.history ≡ (after_steps accepted.now.program units budget report.steps (beginning accepted.now.program predictor)).events) }
-    ensures lockstep { IfOk result (λ report. AreSteps accepted.now.program units budget predictor report.steps) }
-    ensures ended { IfOk result (λ report. (report.how ≡ StepsEnd.Ended) ↔ ((state report.machine).outcome ≡ standing.Running → ⊥)) }
-    ensures spent { IfOk result (λ report. report.how ≡ StepsEnd.OutOfBudget → budget ≤ length report.machine.history) }
-    ensures within { IfOk result (λ report. length report.machine.history ≤ budget) }
+    ensures report { IfOk result (IsStepsReportOf accepted.now units budget predictor) }
 {
     if units == 0 || units > MOST_UNITS {
         return Err(StepsFault::Units);
@@ -61,7 +52,7 @@ pub fn run_steps<'a>(
     }
 }
 
-/// Runs the accepted program in steps, as `run_steps` does, on a machine of so many units, up to this many
+/// Runs the accepted program in steps, as `run_steps` does, on a machine of this many units, up to this many
 /// events.
 ///
 /// # Errors
@@ -74,15 +65,7 @@ pub fn run_steps_on<'a>(
     budget: Budget,
     mut predictor: Predictor,
 ) -> Result<StepsReport<'a>, AllocError>
-    ensures over { IfOk result (λ report. (report.machine.accepted ≡ accepted.now) × (units_of report.machine ≡ units)) }
-    ensures replay { IfOk result (λ report. Replays report.machine.accepted.program (units_of report.machine) report.machine.history (state report.machine)) }
-    ensures steps { IfOk result (λ report. Takes accepted.now.program units budget (beginning accepted.now.program predictor) report.steps) }
-    ensures state { IfOk result (λ report. state report.machine ≡ (after_steps accepted.now.program units budget report.steps (beginning accepted.now.program predictor)).state) }
-    ensures events { IfOk result (λ report. report.machine.history ≡ (after_steps accepted.now.program units budget report.steps (beginning accepted.now.program predictor)).events) }
-    ensures lockstep { IfOk result (λ report. AreSteps accepted.now.program units budget predictor report.steps) }
-    ensures ended { IfOk result (λ report. (report.how ≡ StepsEnd.Ended) ↔ ((state report.machine).outcome ≡ standing.Running → ⊥)) }
-    ensures spent { IfOk result (λ report. report.how ≡ StepsEnd.OutOfBudget → budget ≤ length report.machine.history) }
-    ensures within { IfOk result (λ report. length report.machine.history ≤ budget) }
+    ensures { IfOk result (IsStepsReportOf accepted.now units budget predictor) }
 {
     let size = units.get();
     let most = budget.get();

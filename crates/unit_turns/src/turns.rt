@@ -45,7 +45,7 @@ pub(crate) fn turn_of_head(machine: &mut Machine<'_>, budget: u32) -> Result<(),
     apply(machine, event)
 }
 
-/// The turn of the unit at a position behind the head: of one at work, or of the free one after the tail.
+/// The turn of the unit at a position after the head: of one at work, or of the free one after the tail.
 ///
 /// # Errors
 ///
@@ -71,7 +71,7 @@ pub(crate) fn turn_behind(
     apply(machine, event)
 }
 
-/// The event of the unit at a position behind the head, if it has one.
+/// The event of the unit at a position after the head, if it has one.
 fn event_behind(machine: &Machine<'_>, predictor: &mut Predictor, position: u32) -> Option<Event>
     requires running { (state machine.now).outcome ≡ standing.Running }
     requires room { length machine.now.history < most_events }
@@ -89,7 +89,7 @@ fn event_behind(machine: &Machine<'_>, predictor: &mut Predictor, position: u32)
     None
 }
 
-/// The event of the unit at work at a position behind the head.
+/// The event of the unit at work at a position after the head.
 fn event_at_work(machine: &Machine<'_>, position: u32) -> Option<Event>
     requires running { (state machine.now).outcome ≡ standing.Running }
     requires room { length machine.now.history < most_events }

@@ -4,7 +4,7 @@ use Rattle.sequencer.specs.Machines.{SameRing}
 use Rattle.threaded_runner.specs.Holds.{RunsHead}
 use Rattle.threaded_runner.proofs.desk.exec_head.Given as goal
 
--- so many instructions were executed
+-- this many instructions were executed
 abbrev pub invariant-loop-steps : goal.invariant-loop-steps
 invariant-loop-steps l = record {
   ran : RunsHead l.initial.machine l.steps l.machine;

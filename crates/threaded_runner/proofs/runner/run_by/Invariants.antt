@@ -1,4 +1,4 @@
--- The run is over the program and certificate that it is given, with so many units and workers and this budget.
+-- The run is over the program and certificate that it is given, with this many units and workers and this budget.
 use Rattle.threaded_runner.proofs.runner.run_by.Given as goal
 
 abbrev pub ghosts-run_named : goal.ghosts-run_named

@@ -1,4 +1,4 @@
--- Each step makes the burst one longer, also the one behind which it ends, which alone sends anew.
+-- Each step makes the burst one longer, also the one after which it ends, which alone sends anew.
 use Rattle.std.proofs.Common.{◌∙◌, arith, sym}
 use Rattle.unit_core.specs.Units.{active_of}
 use Rattle.unit_core.specs.Bursts.{HasSentTheSame}

@@ -4,7 +4,7 @@ use Rattle.unit_core.specs.Units.{active_of, IsPlaced}
 use Rattle.unit_core.specs.Bursts.{Makes, SendsLast}
 use Rattle.unit_core.proofs.burst.run_ahead.Given as goal
 
--- the unit is so many steps on, and has sent what it had sent
+-- the unit is this many steps on, and has sent what it had sent
 abbrev pub invariant-loop : goal.invariant-loop
 invariant-loop l = record {
   few : l.steps ≤ l.counter;

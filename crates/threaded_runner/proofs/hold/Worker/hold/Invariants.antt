@@ -2,7 +2,7 @@ use Rattle.threaded_runner.specs.Holds.{TakesTurns}
 use Rattle.threaded_runner.specs.Workers.{IsSameWorker}
 use Rattle.threaded_runner.proofs.hold.Worker.hold.Given as goal
 
--- so many turns were taken
+-- this many turns were taken
 abbrev pub invariant-loop : goal.invariant-loop
 invariant-loop g l = record {
   turns : TakesTurns l.initial.self.share l.counter l.initial.desk l.desk;

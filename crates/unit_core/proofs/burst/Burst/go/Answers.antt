@@ -1,4 +1,4 @@
--- A burst without a step has the unit before also behind it, so what is made on the one is made on the
+-- A burst without a step has the unit before also after it, so what is made on the one is made on the
 -- other.
 use Rattle.std.specs.Prelude.{◌≡◌, ℕ, ◌≤◌}
 use Rattle.std.proofs.Common.{◌∙◌, ap, subst, arith, List}
@@ -33,8 +33,8 @@ invariant_of-self c =
       placed = c.run_ahead-self-inside.ensures.placed;
     }
 
-pub returns-clause-made : goal.returns-clause-made
-returns-clause-made c =
+pub returns : goal.returns
+returns c =
     let i = c.self.inside in
     let p = i.accepted.now.program in
     let none : i.steps ≡ 0 = ap (λ (b : BurstView). b.steps) c.self.view_is ∙ c.requires.none in
@@ -44,17 +44,13 @@ returns-clause-made c =
     let n = c.run_ahead-self-inside.result in
     let few : n ≤ 65536 = omega (arith, c.run_ahead-self-inside.ensures.few, c.requires.few) in
     record {
-      few = few;
-      made = made_on p (unlogged i.before) c.reserve_reads.new.self c.run_ahead-self-inside.new.unit n same c.run_ahead-self-inside.ensures.made;
-      placed = c.run_ahead-self-inside.ensures.placed;
+      accepted = ap (λ (b : BurstView). b.accepted) c.self.view_is;
+      before = ap (λ (b : BurstView). b.before) c.self.view_is;
+      few = c.run_ahead-self-inside.ensures.few;
+      made = record {
+        few = few;
+        made = made_on p (unlogged i.before) c.reserve_reads.new.self c.run_ahead-self-inside.new.unit n same c.run_ahead-self-inside.ensures.made;
+        placed = c.run_ahead-self-inside.ensures.placed;
+      };
+      sends_last = sends_on p (unlogged i.before) c.reserve_reads.new.self n same c.run_ahead-self-inside.ensures.sends_last;
     }
-
-pub returns-clause-sends_last : goal.returns-clause-sends_last
-returns-clause-sends_last c =
-    let i = c.self.inside in
-    let p = i.accepted.now.program in
-    let none : i.steps ≡ 0 = ap (λ (b : BurstView). b.steps) c.self.view_is ∙ c.requires.none in
-    let start : Makes p (unlogged i.before) 0 i.after = subst (λ (n : ℕ). Makes p (unlogged i.before) n i.after) none c.self.invariant.made in
-    let same : (log : List Read) → with_log (active_of c.reserve_reads.new.self) log ≡ with_log (active_of (unlogged i.before)) log =
-    λ log. ap (λ (v : UnitView). with_log (active_of v) log) c.reserve_reads.ensures ∙ begins_as p (unlogged i.before) i.after start log in
-    sends_on p (unlogged i.before) c.reserve_reads.new.self c.run_ahead-self-inside.result same c.run_ahead-self-inside.ensures.sends_last
