@@ -194,7 +194,7 @@ def cases(folder):
     """All cases; texts that are made are written into the folder."""
     for example in sorted(path for path in EXAMPLES.iterdir() if (path / "program.s").exists()):
         certified, is_sound = (example / "certificate.cert2").exists(), example.name != "five-findings"
-        yield from of_example(example, ON_PROGRAM if example.name not in ("spin", "corner-operands") else ON_PROGRAM[5:])
+        yield from of_example(example, ON_PROGRAM if example.name != "spin" else ON_PROGRAM[5:])
         if not certified:
             continue
         yield from of_example(example, ON_BOTH)

@@ -1,7 +1,7 @@
-//! The certificate of the program `count` in both spellings, every beginning of them, and texts that are no
-//! certificates.
+//! The certificate of the program `count` in both spellings, every beginning of them, texts that are no certificates,
+//! and certificates that are made of lists.
 
-use crate::given::{assembled, cert, expect_counted};
+use crate::given::{assembled, cert};
 use mask_certificate::certificate::{Cert, ListFault};
 use mask_certificate::fault::CertFault;
 use mask_certificate::reading::read;
@@ -26,7 +26,6 @@ fn both_spellings_are_read(rt: HostRuntime) {
 // Asserts that a text spells the certificate, which is written in its wide spelling.
 fn expect_read(rt: &impl Abort, alloc: Global, program: &Program, text: &str) {
     let cert = cert(rt, alloc, program, text);
-    expect_counted(rt, &cert);
     let written = write(alloc, &cert, program).ok();
     let written = written.expect(rt, "room for a text");
     assert!(rt; written.as_slice() == COUNT_CERTIFICATE_WIDE.as_bytes());
@@ -118,36 +117,13 @@ fn build(
 }
 
 #[test]
-fn a_list_is_built(rt: HostRuntime) {
+fn lists_are_judged(rt: HostRuntime) {
     let cert = build(&rt, rt.alloc(), 0, &[(0, 1), (4095, 2)]).ok();
     let cert = cert.expect(&rt, "a certificate");
     assert!(rt; cert.mask(0, 4095).map(RegSet::bits) == Some(2));
-}
-
-/// Lists, the last of which is wrong: how many are empty before it, its indices and masks, and the fault.
-struct BadLists<'a> {
-    empty: u32,
-    entries: &'a [(u32, u64)],
-    fault: (usize, ListFault),
-}
-
-const BAD_LISTS: [BadLists<'static>; 2] = [
-    BadLists {
-        empty: 1,
-        entries: &[(3, 1), (3, 1)],
-        fault: (2, ListFault::NotRising(1, 1)),
-    },
-    BadLists {
-        empty: 0,
-        entries: &[(4096, 1)],
-        fault: (1, ListFault::OutOfCode(0, 0)),
-    },
-];
-
-#[test]
-fn bad_lists_come_back(rt: HostRuntime) {
-    for lists in &BAD_LISTS {
-        let answer = build(&rt, rt.alloc(), lists.empty, lists.entries).err();
-        assert!(rt; answer == Some(lists.fault));
-    }
+    assert!(rt; cert.mask(0, 1).is_none());
+    let twice = build(&rt, rt.alloc(), 1, &[(3, 1), (3, 1)]).err();
+    assert!(rt; twice == Some((2, ListFault::NotRising(1, 1))));
+    let outside = build(&rt, rt.alloc(), 0, &[(4096, 1)]).err();
+    assert!(rt; outside == Some((1, ListFault::OutOfCode(0, 0))));
 }

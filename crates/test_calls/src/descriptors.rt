@@ -1,7 +1,6 @@
 //! The parts of a program, its reading calls, and names.
 
-use crate::numbers::{place, reg};
-use crate::test_texts_count::{COUNT, assembled};
+use crate::given::{assembled, place, reg};
 use mips_instructions::instruction::Op;
 use mips_instructions::number::RegSet;
 use std::alloc::Global;
@@ -10,6 +9,7 @@ use task_descriptor::descriptor::{Descriptor, Marked, Stop};
 use task_descriptor::name::{Name, begins_name, continues_name};
 use task_descriptor::places::Places;
 use task_descriptor::program::{BuildFault, Parts, Program};
+use test_programs::programs::COUNT;
 
 // The list of this one item.
 fn one<T: Drop>(rt: &impl Abort, alloc: Global, item: T) -> Vec<T> {
@@ -48,17 +48,12 @@ fn parts(rt: &impl Abort, alloc: Global) -> Parts {
 fn builds_parts_made_by_hand(rt: HostRuntime) {
     let built = Program::build(parts(&rt, rt.alloc()));
     let program = built.ok().expect(&rt, "a program");
-    expect_parts(&rt, &program);
-    assert!(rt; program.tasks().len() == 1);
-    expect_task(&rt, &program.tasks()[0]);
-}
-
-// Asserts that a program has the code and data of the parts.
-fn expect_parts(rt: &impl Abort, program: &Program) {
-    assert!(rt; program.code() == [last_jump(rt)].as_slice());
+    assert!(rt; program.code() == [last_jump(&rt)].as_slice());
     assert!(rt; program.bytes() == [5].as_slice());
     assert!(rt; program.fixed() == [7].as_slice());
-    assert!(rt; program.start() == place(rt, 0));
+    assert!(rt; program.start() == place(&rt, 0));
+    assert!(rt; program.tasks().len() == 1);
+    expect_task(&rt, &program.tasks()[0]);
 }
 
 // Asserts that a task is that of the parts.
@@ -67,56 +62,6 @@ fn expect_task(rt: &impl Abort, task: &Descriptor) {
     assert!(rt; task.entry == place(rt, 0));
     assert!(rt; task.create.bits() == 0x100);
     assert!(rt; task.targets.as_slice() == [place(rt, 0)].as_slice());
-}
-
-#[test]
-fn builds_and_reads(rt: HostRuntime) {
-    let parts = assembled(&rt, rt.alloc(), COUNT).parts();
-    let program = Program::build(parts).ok().expect(&rt, "a program");
-    expect_sizes(&rt, &program);
-    expect_indices(&rt, &program);
-    expect_beginning(&rt, rt.alloc(), &program);
-    assert!(rt; program.parts().code.len() == 6);
-}
-
-fn expect_sizes(rt: &impl Abort, program: &Program) {
-    assert!(rt; program.code().len() == 6);
-    assert!(rt; program.tasks().len() == 2);
-    assert!(rt; program.start().get() == 0);
-    assert!(rt; program.bytes().is_empty());
-    assert!(rt; program.fixed() == [7].as_slice());
-}
-
-// Asserts that the plain machine of a program begins with its first instruction.
-fn expect_beginning(rt: &impl Abort, alloc: Global, program: &Program) {
-    let machine = program.plain(alloc).ok();
-    let machine = machine.expect(rt, "room for a machine");
-    assert!(rt; machine.pc() == 0x0040_0000);
-    assert!(rt; machine.count() == 0);
-}
-
-// Addresses, and the instruction that is there.
-const INDICES: [(u32, Option<u32>); 3] = [
-    (0x0040_0014, Some(5)),
-    (0x0040_0018, None),
-    (0x0040_0001, None),
-];
-
-fn expect_indices(rt: &impl Abort, program: &Program) {
-    for (address, index) in INDICES {
-        assert!(rt; program.index(address) == index, "{address:#x}");
-    }
-    assert!(rt; program.address(place(rt, 4)) == 0x0040_0010);
-    assert!(rt; program.task_at(4) == Some(1));
-    assert!(rt; program.task_at(5) == None);
-}
-
-#[test]
-fn tells_programs_apart(rt: HostRuntime) {
-    let count = assembled(&rt, rt.alloc(), COUNT);
-    assert!(rt; count.is_same(&assembled(&rt, rt.alloc(), COUNT)));
-    let other = Program::build(parts(&rt, rt.alloc())).ok();
-    assert!(rt; !count.is_same(&other.expect(&rt, "a program")));
 }
 
 #[test]
@@ -137,34 +82,37 @@ fn refuses_a_forward_bit_on_halt(rt: HostRuntime) {
     }
 }
 
-// Texts, and whether they are names.
-const NAMES: [(&str, bool); 3] = [("_loop1", true), ("1loop", false), ("", false)];
-
-#[test]
-fn names(rt: HostRuntime) {
-    for (text, is_name) in NAMES {
-        let name = Name::new(text.as_bytes());
-        assert!(rt; name.is_some() == is_name);
-        if let Some(name) = name {
-            assert!(rt; name.bytes() == text.as_bytes());
-            assert!(rt; name.as_str() == text);
-        }
-    }
-}
-
-// Bytes, and whether they begin and whether they continue a name.
-const BYTES: [(u8, bool, bool); 3] = [
-    (b'_', true, true),
-    (b'1', false, true),
-    (b'-', false, false),
+// Addresses, and the instruction that is there.
+const INDICES: [(u32, Option<u32>); 3] = [
+    (0x0040_0014, Some(5)),
+    (0x0040_0018, None),
+    (0x0040_0001, None),
 ];
 
 #[test]
-fn bytes_of_names(rt: HostRuntime) {
-    for (byte, begins, continues) in BYTES {
-        assert!(rt; begins_name(byte) == begins);
-        assert!(rt; continues_name(byte) == continues);
+fn places_of_count(rt: HostRuntime) {
+    let program = assembled(&rt, rt.alloc(), COUNT);
+    for (address, index) in INDICES {
+        assert!(rt; program.index(address) == index, "{address:#x}");
     }
+    assert!(rt; program.address(place(&rt, 4)) == 0x0040_0010);
+    assert!(rt; program.task_at(4) == Some(1));
+    assert!(rt; program.task_at(5) == None);
+    let machine = program.plain(rt.alloc()).ok();
+    let machine = machine.expect(&rt, "room for a machine");
+    assert!(rt; machine.pc() == 0x0040_0000);
+    assert!(rt; machine.count() == 0);
+}
+
+#[test]
+fn names(rt: HostRuntime) {
+    let name = Name::new(b"_loop1").expect(&rt, "a name");
+    assert!(rt; name.bytes() == b"_loop1".as_slice());
+    assert!(rt; name.as_str() == "_loop1");
+    assert!(rt; Name::new(b"1loop").is_none());
+    assert!(rt; Name::new(b"").is_none());
+    assert!(rt; begins_name(b'_') && !begins_name(b'1'));
+    assert!(rt; continues_name(b'1') && !continues_name(b'-'));
 }
 
 #[test]

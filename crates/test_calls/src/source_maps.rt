@@ -16,18 +16,14 @@ fn at(line: u32, column: usize) -> Position {
     Position { line, column }
 }
 
+// The two instructions of `li` stand at one place.
 #[test]
-fn two_instructions_stand_at_one_place(rt: HostRuntime) {
+fn all_have_places(rt: HostRuntime) {
     let map = source_map(rt.alloc(), TEXT).ok().expect(&rt, "a map");
     let code = [at(2, 4), at(2, 4), at(3, 3)];
     assert!(rt; map.code.as_slice() == code.as_slice());
     assert!(rt; map.tasks.as_slice() == [at(1, 1)].as_slice());
     assert!(rt; map.start == Some(at(6, 1)));
-}
-
-#[test]
-fn labels_and_data_have_places(rt: HostRuntime) {
-    let map = source_map(rt.alloc(), TEXT).ok().expect(&rt, "a map");
     let labels = [at(2, 1), at(5, 2), at(5, 5)];
     for (label, place) in map.labels.as_slice().iter().zip(labels) {
         assert!(rt; label.position == place);

@@ -1,11 +1,9 @@
 //! Marks that cost speed, one of each kind. They were found by hand, by the definitions of the kinds.
 
-use crate::given::assembled;
+use crate::given::{assembled, reg};
 use annotator::certify::certify;
 use finding_paths::mark::CostlyMark;
 use finding_paths::search::costly_marks;
-use mips_instructions::number::Reg;
-use std::process::Abort;
 
 // There is no warning for B: no task follows it.
 const LOOSE: &str = ".task A create=$8,$9,$11 targets=B
@@ -31,18 +29,14 @@ fn each_kind_is_found_once(rt: HostRuntime) {
     let wanted = [
         CostlyMark::NeverProduced {
             task: 0,
-            register: register(&rt, 11),
+            register: reg(&rt, 11),
         },
         CostlyMark::NotForwarded { index: 2 },
         CostlyMark::SentBefore {
             index: 3,
-            register: register(&rt, 9),
+            register: reg(&rt, 9),
         },
         CostlyMark::Unreached { index: 5 },
     ];
     assert!(rt; found.as_slice() == wanted.as_slice());
-}
-
-fn register(rt: &impl Abort, number: u8) -> Reg {
-    Reg::new(number).expect(rt, "a register")
 }

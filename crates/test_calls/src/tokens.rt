@@ -1,9 +1,15 @@
-//! What no clause says: that there is memory for the tokens. The expected values are the grammar's own
-//! examples.
+//! The tokens of lines, and what a line says: what no clause says, that there is memory for them. The expected values are
+//! the grammar's own examples.
 
-use crate::numbers::reg;
+use crate::given::reg;
+use mips_instructions::instruction::BranchTwoKind;
+use mips_instructions::number::Gpr;
+use program_statements::line::statement_of;
+use program_statements::statement::{Instruction, Marks, Section, Statement, Target};
 use program_tokens::line::{first_line, line_tokens, read_tokens};
 use program_tokens::token::{Directive, Mark, Number, Token, TokenFault};
+use task_descriptor::descriptor::Stop;
+use task_descriptor::name::Name;
 
 #[test]
 fn an_instruction(rt: HostRuntime) {
@@ -29,43 +35,38 @@ fn lines_of_a_text(rt: HostRuntime) {
     assert!(rt; rest.is_none());
 }
 
-/// A line, and what is read of it.
-struct Line<'a> {
-    text: &'a [u8],
-    tokens: usize,
-    first: Option<Token>,
-    fault: Option<TokenFault>,
-}
-
-const LINES: [Line<'static>; 3] = [
-    Line {
-        text: b".word1,2\r",
-        tokens: 4,
-        first: Some(Token::Directive(Directive::Word)),
-        fault: None,
-    },
-    Line {
-        text: b"1a",
-        tokens: 0,
-        first: None,
-        fault: Some(TokenFault::Token),
-    },
-    Line {
-        text: b"# \xC3",
-        tokens: 0,
-        first: None,
-        fault: Some(TokenFault::NotAscii),
-    },
-];
-
 // Each line's tokens take the place of those before them.
 #[test]
 fn reads_lines(rt: HostRuntime) {
     let mut tokens = Vec::new(rt.alloc());
-    for line in &LINES {
-        let answer = read_tokens(&mut tokens, line.text);
-        assert!(rt; answer.err() == line.fault);
-        assert!(rt; tokens.len() == line.tokens);
-        assert!(rt; tokens.first().copied() == line.first);
+    assert!(rt; read_tokens(&mut tokens, b".word1,2\r").is_ok());
+    assert!(rt; tokens.len() == 4);
+    assert!(rt; tokens.first().copied() == Some(Token::Directive(Directive::Word)));
+    assert!(rt; read_tokens(&mut tokens, b"1a").err() == Some(TokenFault::Token));
+    assert!(rt; tokens.is_empty());
+    assert!(rt; read_tokens(&mut tokens, b"# \xC3").err() == Some(TokenFault::NotAscii));
+}
+
+#[test]
+fn a_branch_with_marks(rt: HostRuntime) {
+    let tokens = line_tokens(rt.alloc(), b"bne $8,$9,A !s!f").ok();
+    let tokens = tokens.expect(&rt, "tokens");
+    let (first, second) = (Gpr::new(8), Gpr::new(9));
+    let branch = Instruction::BranchTwo(
+        BranchTwoKind::Bne,
+        first.expect(&rt, "a register"),
+        second.expect(&rt, "a register"),
+        Target::Label(Name::new(b"A").expect(&rt, "a name")),
+    );
+    let marks = Marks {
+        forward: true,
+        stop: Stop::Always,
+    };
+    match statement_of(rt.alloc(), Section::Text, &tokens) {
+        Ok(Statement::Code(instruction, found)) => {
+            assert!(rt; instruction == branch);
+            assert!(rt; found == marks);
+        }
+        _ => panic!(rt; "no instruction"),
     }
 }

@@ -1,29 +1,41 @@
 //! Bursts of the head, and how a machine takes them over.
 
 use crate::given::{BURST, Given, TRIES};
-use crate::machines::machine_text;
+use crate::machines::{machine_notes, shows_machine};
+use crate::notes::Notes;
 use machine_model::event::{Refused, Standing};
 use sequencer::machine::Machine;
 use unit_core::burst::Burst;
 
-// Bursts of the head, as long as they get, and one head event after each.
-pub(crate) fn bursts(given: &Given<'_>, hands_in: bool) -> Option<()> {
-    let accepted = given.accepted()?;
-    let mut machine = Machine::new(given.alloc(), &accepted, 1).ok()?;
+/// Bursts of the head, as long as they get, and one head event after each.
+pub(crate) fn makes_bursts(given: &Given<'_>, machine: &mut Machine<'_>) -> Option<()> {
     for _ in 0..TRIES {
         if machine.outcome() != Standing::Running {
-            return given.shows(machine_text(given, &machine)?.as_bytes());
+            return shows_machine(given, machine);
         }
-        if hands_in {
-            hands_in_burst(given, &mut machine)?;
-        } else {
-            makes_burst(given, &mut machine)?;
-        }
-        if let Some(event) = machine.head_event() {
-            machine.apply(event).ok()?;
-        }
+        makes_burst(given, machine)?;
+        applies_head_event(machine)?;
     }
     None
+}
+
+/// Bursts of the head that are handed in, as long as they get, and one head event after each.
+pub(crate) fn hands_in_bursts(given: &Given<'_>, machine: &mut Machine<'_>) -> Option<()> {
+    for _ in 0..TRIES {
+        if machine.outcome() != Standing::Running {
+            return shows_machine(given, machine);
+        }
+        hands_in_burst(given, machine)?;
+        applies_head_event(machine)?;
+    }
+    None
+}
+
+fn applies_head_event(machine: &mut Machine<'_>) -> Option<()> {
+    match machine.head_event() {
+        Some(event) => machine.apply(event).ok(),
+        None => Some(()),
+    }
 }
 
 // A burst whose reads find no room ends early, and is one nevertheless.
@@ -54,8 +66,8 @@ fn hands_in_burst(given: &Given<'_>, machine: &mut Machine<'_>) -> Option<()> {
         return Some(());
     };
     let mut burst = Burst::run(lease, BURST);
-    let before = machine_text(given, machine)?;
-    let made = burst_text(given, &burst)?;
+    let before = machine_notes(given, machine);
+    let made = burst_notes(given, &burst);
     for _ in 0..TRIES {
         given.begins();
         let answer = machine.apply_burst(burst);
@@ -64,8 +76,8 @@ fn hands_in_burst(given: &Given<'_>, machine: &mut Machine<'_>) -> Option<()> {
             Ok(_) => return Some(()),
             Err((back, fault)) => {
                 burst = back;
-                let is_same = machine_text(given, machine)? == before
-                    && burst_text(given, &burst)? == made;
+                let is_same = machine_notes(given, machine).is_same(&before)
+                    && burst_notes(given, &burst).is_same(&made);
                 given.refused(fault == Refused::OutOfMemory, is_same);
             }
         }
@@ -73,12 +85,18 @@ fn hands_in_burst(given: &Given<'_>, machine: &mut Machine<'_>) -> Option<()> {
     None
 }
 
-pub(crate) fn burst_text(given: &Given<'_>, burst: &Burst<'_>) -> Option<String> {
-    format!(in given.alloc();
+fn burst_notes(given: &Given<'_>, burst: &Burst<'_>) -> Notes {
+    let mut notes = Notes::new(given.alloc());
+    write_burst(&mut notes, burst);
+    notes
+}
+
+pub(crate) fn write_burst(notes: &mut Notes, burst: &Burst<'_>) {
+    write!(
+        notes,
         "{} {:?} {:?}",
         burst.steps(),
         burst.before(),
         burst.after()
-    )
-    .ok()
+    );
 }

@@ -1,82 +1,95 @@
 //! Certificates, and the checks of one worker and of several.
 
 use crate::given::{Given, Runtime, TRIES};
+use crate::notes::Notes;
 use mark_checker::check::{check_task, verdict};
+use mask_certificate::certificate::Cert;
 use mask_certificate::fault::CertFault;
 use mask_certificate::reading::read;
 use mask_certificate::writing::write;
 use parallel_check::checking::{accepts_shared, verdict_shared};
 use parallel_check::fault::ShareFault;
 use parallel_check::gate::Open as OpenCheck;
+use task_descriptor::program::Program;
 
-pub(crate) fn reads_certificate(given: &Given<'_>) -> Option<()> {
-    let program = given.assembled()?;
+/// A call on a program and its certificate by one worker.
+#[derive(Clone, Copy)]
+pub(crate) enum OfPair {
+    Write,
+    CheckTask,
+    Verdict,
+}
+
+/// Makes a call on the program and its certificate until it is not refused.
+pub(crate) fn of_pair(given: &Given<'_>, call: OfPair) -> Option<()> {
+    let (program, cert) = given.pair()?;
     for _ in 0..TRIES {
-        given.begins();
-        let answer = read(given.alloc(), &given.certificate, &program);
-        given.ends();
-        match answer {
-            Ok(cert) => return given.shows_certificate(&cert, &program),
-            Err(fault) => given.refused(fault == CertFault::OutOfMemory, true),
+        if once(given, &program, &cert, call) {
+            return Some(());
         }
     }
     None
 }
 
-pub(crate) fn writes_certificate(given: &Given<'_>) -> Option<()> {
-    let program = given.assembled()?;
-    let cert = given.certified(&program)?;
-    for _ in 0..TRIES {
-        given.begins();
-        let answer = write(given.alloc(), &cert, &program);
-        given.ends();
-        match answer {
-            Ok(text) => return given.shows(&text),
-            Err(_) => given.refused(true, true),
-        }
+// Makes the call once, and tells whether it answered.
+fn once(given: &Given<'_>, program: &Program, cert: &Cert, call: OfPair) -> bool {
+    match call {
+        OfPair::Write => writes_certificate(given, program, cert),
+        OfPair::CheckTask => checks_task(given, program, cert),
+        OfPair::Verdict => checks(given, program, cert),
     }
-    None
 }
 
-pub(crate) fn checks_task(given: &Given<'_>) -> Option<()> {
-    let program = given.assembled()?;
-    let cert = given.certified(&program)?;
-    for _ in 0..TRIES {
-        given.begins();
-        let answer = check_task(given.alloc(), &program, &cert, 0);
-        given.ends();
-        match answer {
-            Ok(found) => {
-                let text = format!(in given.alloc(); "{found:?}").ok()?;
-                return given.shows(text.as_bytes());
-            }
-            Err(_) => given.refused(true, true),
-        }
+pub(crate) fn reads_certificate(given: &Given<'_>, program: &Program) -> bool {
+    given.begins();
+    let answer = read(given.alloc(), &given.certificate, program);
+    given.ends();
+    match answer {
+        Ok(cert) => given.shows_certificate(&cert, program).is_some(),
+        Err(fault) => given.refused_once(fault == CertFault::OutOfMemory),
     }
-    None
 }
 
-pub(crate) fn checks(given: &Given<'_>) -> Option<()> {
-    let program = given.assembled()?;
-    let cert = given.certified(&program)?;
-    for _ in 0..TRIES {
-        given.begins();
-        let answer = verdict(given.alloc(), &program, &cert);
-        given.ends();
-        match answer {
-            Ok(verdict) => {
-                let text = format!(in given.alloc(); "{verdict:?}").ok()?;
-                return given.shows(text.as_bytes());
-            }
-            Err(_) => given.refused(true, true),
-        }
+fn writes_certificate(given: &Given<'_>, program: &Program, cert: &Cert) -> bool {
+    given.begins();
+    let answer = write(given.alloc(), cert, program);
+    given.ends();
+    match answer {
+        Ok(text) => given.shows(&text).is_some(),
+        Err(_) => given.refused_once(true),
     }
-    None
+}
+
+fn checks_task(given: &Given<'_>, program: &Program, cert: &Cert) -> bool {
+    given.begins();
+    let answer = check_task(given.alloc(), program, cert, 0);
+    given.ends();
+    match answer {
+        Ok(found) => {
+            let mut notes = Notes::new(given.alloc());
+            write!(notes, "{found:?}");
+            given.shows_notes(&notes).is_some()
+        }
+        Err(_) => given.refused_once(true),
+    }
+}
+
+fn checks(given: &Given<'_>, program: &Program, cert: &Cert) -> bool {
+    given.begins();
+    let answer = verdict(given.alloc(), program, cert);
+    given.ends();
+    match answer {
+        Ok(verdict) => {
+            let mut notes = Notes::new(given.alloc());
+            write!(notes, "{verdict:?}");
+            given.shows_notes(&notes).is_some()
+        }
+        Err(_) => given.refused_once(true),
+    }
 }
 
 pub(crate) fn checks_shared(given: &Given<'_>, rt: &impl Runtime) -> Option<()> {
-    let program = given.assembled()?;
-    let cert = given.certified(&program)?;
+    let (program, cert) = given.pair()?;
     let (alloc, workers) = (given.alloc(), given.workers);
     for _ in 0..TRIES {
         given.begins();
@@ -84,8 +97,9 @@ pub(crate) fn checks_shared(given: &Given<'_>, rt: &impl Runtime) -> Option<()> 
         given.ends();
         match answer {
             Ok(verdict) => {
-                let text = format!(in alloc; "{verdict:?}").ok()?;
-                return given.shows(text.as_bytes());
+                let mut notes = Notes::new(alloc);
+                write!(notes, "{verdict:?}");
+                return given.shows_notes(&notes);
             }
             Err(fault) => given.refused(fault == ShareFault::OutOfMemory, true),
         }
@@ -94,8 +108,7 @@ pub(crate) fn checks_shared(given: &Given<'_>, rt: &impl Runtime) -> Option<()> 
 }
 
 pub(crate) fn accepts_by_several(given: &Given<'_>, rt: &impl Runtime) -> Option<()> {
-    let program = given.assembled()?;
-    let cert = given.certified(&program)?;
+    let (program, cert) = given.pair()?;
     let (alloc, workers) = (given.alloc(), given.workers);
     for _ in 0..TRIES {
         given.begins();

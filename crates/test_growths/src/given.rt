@@ -1,5 +1,6 @@
 //! What the calls are given, and the lines about them.
 
+use crate::notes::Notes;
 use annotated_asm::assembler::assemble;
 use canonical_text::print::print;
 use mark_checker::accept::Accepted;
@@ -66,10 +67,20 @@ impl Given<'_> {
         });
     }
 
+    /// Reports a refusal after which the call is made again; the answer is that there was none yet.
+    pub(crate) fn refused_once(&self, is_memory: bool) -> bool {
+        self.refused(is_memory, true);
+        false
+    }
+
     pub(crate) fn shows(&self, bytes: &[u8]) -> Option<()> {
         self.says(b"answer\n");
         self.says(bytes);
         Some(())
+    }
+
+    pub(crate) fn shows_notes(&self, notes: &Notes) -> Option<()> {
+        self.shows(notes.as_bytes()?)
     }
 
     pub(crate) fn shows_program(&self, program: &Program) -> Option<()> {
@@ -90,9 +101,15 @@ impl Given<'_> {
         read(self.alloc(), &self.certificate, program).ok()
     }
 
-    pub(crate) fn accepted(&self) -> Option<Accepted> {
+    /// The program and its certificate.
+    pub(crate) fn pair(&self) -> Option<(Program, Cert)> {
         let program = self.assembled()?;
         let cert = self.certified(&program)?;
+        Some((program, cert))
+    }
+
+    pub(crate) fn accepted(&self) -> Option<Accepted> {
+        let (program, cert) = self.pair()?;
         Accepted::new(program, cert).ok()
     }
 }

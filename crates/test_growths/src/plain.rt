@@ -1,59 +1,64 @@
 //! Data memory and the plain machine.
 
 use crate::given::{Given, MANY, TRIES};
+use crate::notes::Notes;
 use mips_instructions::instruction::Op;
 use mips_instructions::number::Reg;
 use mips_plain::memory::{Memory, MemoryFault};
 use mips_plain::outcome::Outcome;
 use mips_plain::plain::{Plain, PlainFault};
-use std::fmt::Write;
+use task_descriptor::program::Program;
 
-pub(crate) fn makes_memory(given: &Given<'_>) -> Option<()> {
-    let program = given.assembled()?;
-    for _ in 0..TRIES {
-        given.begins();
-        let answer = Memory::new(given.alloc(), program.bytes(), program.fixed());
-        given.ends();
-        match answer {
-            Ok(memory) => return given.shows(memory.fixed().get(..64)?),
-            Err(fault) => given.refused(fault == MemoryFault::OutOfMemory, true),
-        }
+pub(crate) fn makes_memory(given: &Given<'_>, program: &Program) -> bool {
+    given.begins();
+    let answer = Memory::new(given.alloc(), program.bytes(), program.fixed());
+    given.ends();
+    match answer {
+        Ok(memory) => match memory.fixed().get(..64) {
+            Some(bytes) => given.shows(bytes).is_some(),
+            None => false,
+        },
+        Err(fault) => given.refused_once(fault == MemoryFault::OutOfMemory),
     }
-    None
 }
 
-pub(crate) fn makes_plain(given: &Given<'_>) -> Option<()> {
-    let program = given.assembled()?;
-    for _ in 0..TRIES {
-        given.begins();
-        let answer = program.plain(given.alloc());
-        given.ends();
-        match answer {
-            Ok(plain) => return given.shows(plain_text(given, &plain)?.as_bytes()),
-            Err(_) => given.refused(true, true),
-        }
+pub(crate) fn makes_plain(given: &Given<'_>, program: &Program) -> bool {
+    given.begins();
+    let answer = program.plain(given.alloc());
+    given.ends();
+    match answer {
+        Ok(plain) => shows_plain(given, &plain).is_some(),
+        Err(_) => given.refused_once(true),
     }
-    None
 }
 
-// A refusal returns the code.
 pub(crate) fn makes_plain_of_code(given: &Given<'_>) -> Option<()> {
     let program = given.assembled()?;
+    let code = code_of(given, &program)?;
+    makes_plain_of(given, &program, code)
+}
+
+fn code_of(given: &Given<'_>, program: &Program) -> Option<Vec<Op>> {
     let mut code = Vec::new(given.alloc());
     for marked in program.code() {
         code.push(marked.op).ok()?;
     }
-    let before = code_text(given, &code)?;
+    Some(code)
+}
+
+// A refusal returns the code.
+fn makes_plain_of(given: &Given<'_>, program: &Program, mut code: Vec<Op>) -> Option<()> {
+    let before = code_notes(given, &code);
+    let (bytes, fixed) = (program.bytes(), program.fixed());
     for _ in 0..TRIES {
-        let (bytes, fixed) = (program.bytes(), program.fixed());
         given.begins();
         let answer = Plain::new(given.alloc(), code, bytes, fixed, program.start());
         given.ends();
         match answer {
-            Ok(plain) => return given.shows(plain_text(given, &plain)?.as_bytes()),
+            Ok(plain) => return shows_plain(given, &plain),
             Err(refused) => {
                 code = refused.code;
-                let is_same = code_text(given, &code)? == before;
+                let is_same = code_notes(given, &code).is_same(&before);
                 given.refused(refused.fault == PlainFault::OutOfMemory, is_same);
             }
         }
@@ -61,47 +66,64 @@ pub(crate) fn makes_plain_of_code(given: &Given<'_>) -> Option<()> {
     None
 }
 
-fn code_text(given: &Given<'_>, code: &[Op]) -> Option<String> {
-    format!(in given.alloc(); "{code:?}").ok()
+fn code_notes(given: &Given<'_>, code: &[Op]) -> Notes {
+    let mut notes = Notes::new(given.alloc());
+    write!(notes, "{code:?}");
+    notes
 }
 
-fn plain_text(given: &Given<'_>, plain: &Plain) -> Option<String> {
-    let mut text = format!(in given.alloc();
-        "{} {} {:?}\n",
+fn shows_plain(given: &Given<'_>, plain: &Plain) -> Option<()> {
+    given.shows_notes(&plain_notes(given, plain))
+}
+
+fn plain_notes(given: &Given<'_>, plain: &Plain) -> Notes {
+    let mut notes = Notes::new(given.alloc());
+    writeln!(
+        notes,
+        "{} {} {:?}",
         plain.count(),
         plain.pc(),
         plain.outcome()
-    ).ok()?;
-    writeln!(text, "{:?}", plain.output()).ok()?;
+    );
+    writeln!(notes, "{:?}", plain.output());
     for number in 0..34 {
-        writeln!(text, "{}", plain.reg(Reg::new(number)?)).ok()?;
+        if let Some(register) = Reg::new(number) {
+            writeln!(notes, "{}", plain.reg(register));
+        }
     }
-    Some(text)
+    notes
 }
 
 pub(crate) fn steps_plain(given: &Given<'_>) -> Option<()> {
     let program = given.assembled()?;
     let mut plain = program.plain(given.alloc()).ok()?;
+    steps_on(given, &mut plain)
+}
+
+fn steps_on(given: &Given<'_>, plain: &mut Plain) -> Option<()> {
     for _ in 0..TRIES {
         if plain.outcome() != Outcome::Running || plain.count() > MANY {
-            return given.shows(plain_text(given, &plain)?.as_bytes());
+            return shows_plain(given, plain);
         }
-        let before = plain_text(given, &plain)?;
+        let before = plain_notes(given, plain);
         given.begins();
         let answer = plain.step();
         given.ends();
         if answer.is_err() {
-            let is_same = plain_text(given, &plain)? == before;
-            given.refused(true, is_same);
+            given.refused(true, plain_notes(given, plain).is_same(&before));
         }
     }
     None
 }
 
-// What was executed before the refusal stays.
 pub(crate) fn runs_plain(given: &Given<'_>) -> Option<()> {
     let program = given.assembled()?;
     let mut plain = program.plain(given.alloc()).ok()?;
+    runs_on(given, &mut plain)
+}
+
+// What was executed before the refusal stays.
+fn runs_on(given: &Given<'_>, plain: &mut Plain) -> Option<()> {
     for _ in 0..TRIES {
         let before = plain.count();
         if before > MANY {
@@ -111,7 +133,7 @@ pub(crate) fn runs_plain(given: &Given<'_>) -> Option<()> {
         let answer = plain.run(MANY);
         given.ends();
         if answer.is_ok() {
-            return given.shows(plain_text(given, &plain)?.as_bytes());
+            return shows_plain(given, plain);
         }
         let goes_on = plain.outcome() == Outcome::Running && plain.count() >= before;
         given.refused(true, goes_on);

@@ -1,12 +1,12 @@
 //! Units on their own: instructions of a head and of a unit ahead, and bursts that are taken over.
 
-use crate::bursts::burst_text;
+use crate::bursts::write_burst;
 use crate::given::{BURST, Given, TRIES};
+use crate::notes::Notes;
 use mark_checker::accept::Accepted;
 use mips_instructions::number::RegSet;
 use mips_plain::memory::Memory;
 use register_ring::port::Port;
-use std::fmt::Write;
 use std::marker::Model;
 use unit_core::burst::Burst;
 use unit_core::unit::Unit;
@@ -73,52 +73,78 @@ impl<'a> Trial<'a> {
         }
     }
 
-    fn text(&self, given: &Given<'_>) -> Option<String> {
+    fn write(&self, notes: &mut Notes) {
         let (outcome, output) = (self.world.outcome(), self.world.output());
-        format!(in given.alloc(); "{:?} {outcome:?} {output:?}\n", self.unit).ok()
+        writeln!(notes, "{:?} {outcome:?} {output:?}", self.unit);
+    }
+
+    fn notes(&self, given: &Given<'_>) -> Notes {
+        let mut notes = Notes::new(given.alloc());
+        self.write(&mut notes);
+        notes
     }
 }
 
 /// The instructions of a unit of each task, until it waits or the run ends.
 pub(crate) fn executes(given: &Given<'_>, is_head: bool) -> Option<()> {
     let accepted = given.accepted()?;
-    let mut text = String::new(given.alloc());
+    let mut notes = Notes::new(given.alloc());
     for task in 0..accepted.program().tasks().len() {
-        let mut trial = Trial::new(given, &accepted, task as u32)?;
-        runs_on(given, &mut trial, is_head)?;
-        text.push_str(trial.text(given)?.as_str()).ok()?;
+        executes_task(given, &accepted, task as u32, is_head, &mut notes)?;
     }
-    given.shows(text.as_bytes())
+    given.shows_notes(&notes)
 }
 
-fn runs_on(given: &Given<'_>, trial: &mut Trial<'_>, is_head: bool) -> Option<()> {
+fn executes_task(
+    given: &Given<'_>,
+    accepted: &Accepted,
+    task: u32,
+    is_head: bool,
+    notes: &mut Notes,
+) -> Option<()> {
+    let mut trial = Trial::new(given, accepted, task)?;
+    runs_on(given, &mut trial, is_head);
+    trial.write(notes);
+    Some(())
+}
+
+fn runs_on(given: &Given<'_>, trial: &mut Trial<'_>, is_head: bool) {
     for _ in 0..TRIES {
-        let before = trial.text(given)?;
+        let before = trial.notes(given);
         given.begins();
         let answer = trial.step(is_head);
         given.ends();
         match answer {
             Some(Ok(())) => {}
             Some(Err(Wait::OutOfMemory)) => {
-                let is_same = trial.text(given)? == before;
-                given.refused(true, is_same);
+                given.refused(true, trial.notes(given).is_same(&before));
             }
-            _ => return Some(()),
+            _ => return,
         }
     }
-    Some(())
 }
 
 /// Bursts of a unit of each task, after some of its instructions, that the unit takes over.
 pub(crate) fn takes(given: &Given<'_>) -> Option<()> {
     let accepted = given.accepted()?;
-    let mut text = String::new(given.alloc());
+    let mut notes = Notes::new(given.alloc());
     for task in 0..accepted.program().tasks().len() {
-        for count in 0..4 {
-            takes_after(given, &accepted, task as u32, count, &mut text)?;
-        }
+        takes_of_task(given, &accepted, task as u32, &mut notes)?;
     }
-    given.shows(text.as_bytes())
+    given.shows_notes(&notes)
+}
+
+fn takes_of_task(
+    given: &Given<'_>,
+    accepted: &Accepted,
+    task: u32,
+    notes: &mut Notes,
+) -> Option<()> {
+    for count in 0..4 {
+        takes_after(given, accepted, task, count, true, notes)?;
+        takes_after(given, accepted, task, count, false, notes)?;
+    }
+    Some(())
 }
 
 fn takes_after(
@@ -126,45 +152,51 @@ fn takes_after(
     accepted: &Accepted,
     task: u32,
     count: u32,
-    text: &mut String,
+    is_short: bool,
+    notes: &mut Notes,
 ) -> Option<()> {
-    for is_short in [true, false] {
-        let mut trial = Trial::new(given, accepted, task)?;
-        for _ in 0..count {
-            let _ = trial.step(true);
-        }
-        takes_burst(given, trial, is_short, text)?;
+    let mut trial = Trial::new(given, accepted, task)?;
+    for _ in 0..count {
+        let _ = trial.step(true);
     }
-    Some(())
+    let burst = trial.burst(is_short);
+    let Trial { mut unit, .. } = trial;
+    takes_burst(given, &mut unit, burst, notes)
 }
 
 // A refusal returns the burst.
 fn takes_burst(
     given: &Given<'_>,
-    trial: Trial<'_>,
-    is_short: bool,
-    text: &mut String,
+    unit: &mut Unit,
+    mut burst: Burst<'_>,
+    notes: &mut Notes,
 ) -> Option<()> {
-    let mut burst = trial.burst(is_short);
-    let Trial { mut unit, .. } = trial;
     for _ in 0..TRIES {
-        let before = both_text(given, &unit, &burst)?;
+        let before = both_notes(given, unit, &burst);
         given.begins();
         let answer = unit.take(burst);
         given.ends();
         match answer {
-            Ok(steps) => return writeln!(text, "{steps} {unit:?}").ok(),
+            Ok(steps) => {
+                write_taken(notes, steps, unit);
+                return Some(());
+            }
             Err((back, _)) => {
                 burst = back;
-                let is_same = both_text(given, &unit, &burst)? == before;
-                given.refused(true, is_same);
+                given.refused(true, both_notes(given, unit, &burst).is_same(&before));
             }
         }
     }
     None
 }
 
-fn both_text(given: &Given<'_>, unit: &Unit, burst: &Burst<'_>) -> Option<String> {
-    let burst = burst_text(given, burst)?;
-    format!(in given.alloc(); "{unit:?} {burst}").ok()
+fn write_taken(notes: &mut Notes, steps: u32, unit: &Unit) {
+    writeln!(notes, "{steps} {unit:?}");
+}
+
+fn both_notes(given: &Given<'_>, unit: &Unit, burst: &Burst<'_>) -> Notes {
+    let mut notes = Notes::new(given.alloc());
+    write!(notes, "{unit:?} ");
+    write_burst(&mut notes, burst);
+    notes
 }

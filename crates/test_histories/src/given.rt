@@ -1,19 +1,13 @@
-//! Accepted programs, machines that were given some events, and lives.
+//! Accepted programs, and machines that were given some events.
 
-ghost use Rattle.std.specs.Prelude.{◌≡◌, ◌<◌, ◌≤◌};
+ghost use Rattle.std.specs.Prelude.{◌<◌, ◌≤◌};
 
 use machine_model::event::Event;
 use mark_checker::accept::Accepted;
-use mips_instructions::number::Reg;
 use sequencer::machine::Machine;
 use std::alloc::Global;
 use std::process::Abort;
-use task_lives::life::{Ending, Life};
 use test_programs::acceptance;
-
-pub(crate) fn register(rt: &impl Abort, number: u8) -> Reg {
-    Reg::new(number).expect(rt, "a register")
-}
 
 /// A program, accepted with its certificate.
 pub(crate) fn accepted(
@@ -25,13 +19,8 @@ pub(crate) fn accepted(
     acceptance::accepted(alloc, program, certificate).expect(rt, "accepted")
 }
 
-/// A machine of `units` units at the start of its program.
-pub(crate) fn machine<'a>(
-    rt: &impl Abort,
-    alloc: Global,
-    accepted: &'a Accepted,
-    units: u32,
-) -> Machine<'a>
+// A machine of `units` units at the start of its program.
+fn machine<'a>(rt: &impl Abort, alloc: Global, accepted: &'a Accepted, units: u32) -> Machine<'a>
     ensures some { 0 < units }
     ensures few { units ≤ 16 }
 {
@@ -39,7 +28,7 @@ pub(crate) fn machine<'a>(
     machine.expect(rt, "a machine")
 }
 
-/// Like `machine`, but after some events, none of which was refused.
+/// A machine of `units` units after some events from the start of its program on, none of which was refused.
 pub(crate) fn played<'a>(
     rt: &impl Abort,
     alloc: Global,
@@ -62,57 +51,4 @@ fn apply_all(rt: &impl Abort, machine: &mut Machine<'_>, events: &[Event]) {
 
 fn expect_applied(rt: &impl Abort, machine: &mut Machine<'_>, event: &Event) {
     assert!(rt; machine.apply(*event).is_ok());
-}
-
-/// Four tasks of `COUNT`, of which two are dropped.
-pub(crate) const A_DROP: [Event; 5] = [
-    Event::Assign(0),
-    Event::Assign(0),
-    Event::Assign(1),
-    Event::Drop(1),
-    Event::Assign(0),
-];
-
-/// Two rounds of `COUNT` on two units. Its second task is predicted after the first round and squashed;
-/// its unit takes the next round, which is unfinished.
-pub(crate) fn two_rounds(rt: &impl Abort) -> [Event; 16] {
-    let (r8, r9, r10) = (register(rt, 8), register(rt, 9), register(rt, 10));
-    [
-        Event::Assign(0),
-        Event::Assign(1),
-        Event::Exec(0),
-        Event::Exec(0),
-        Event::Transfer(1, r8),
-        Event::Transfer(1, r9),
-        Event::Exec(0),
-        Event::Exec(0),
-        Event::Drain(0, r10),
-        Event::Squash(0),
-        Event::Assign(0),
-        Event::Transfer(1, r8),
-        Event::Transfer(1, r9),
-        Event::Exec(1),
-        Event::Exec(1),
-        Event::Retire,
-    ]
-}
-
-pub(crate) fn life(
-    task: u32,
-    unit: u32,
-    first: u32,
-    last: u32,
-    executed: u32,
-    ending: Ending,
-) -> Life
-    ensures { result.executed ≡ executed }
-{
-    Life {
-        task,
-        unit,
-        first,
-        last,
-        executed,
-        ending,
-    }
 }

@@ -1,5 +1,5 @@
 //! Tests of the views of the history of a run, worked out by hand: the lives of tasks, their summaries, pictures of
-//! runs and of curves, and traces.
+//! runs and of curves, and traces. What a command line prints of them is a row of `test_program`.
 #![tactic(auto)]
 
 #[cfg(test)]
@@ -9,14 +9,6 @@ mod drawn;
 #[cfg(test)]
 mod given;
 #[cfg(test)]
-mod json_lines;
+mod lives;
 #[cfg(test)]
-mod machines;
-#[cfg(test)]
-mod memory;
-#[cfg(test)]
-mod played;
-#[cfg(test)]
-mod summaries;
-#[cfg(test)]
-mod tasks;
+mod traces;

@@ -1,6 +1,6 @@
 //! `annotate`: what is proposed, and what `check` reports for it.
 
-use crate::answers::{AnswerRow, Bench, EMPTY, answer, expect, expect_of, run_all, texts_of};
+use crate::answers::{Bench, answer, expect, expect_of, texts_of};
 use std::alloc::Global;
 use std::process::Abort;
 use test_programs::certificates::COUNT_CERTIFICATE_WIDE;
@@ -9,61 +9,53 @@ use test_programs::programs::{
     UNLISTED_JUMP, WRONG_PATH_LOAD, WRONG_PATH_SPIN,
 };
 
-// The proposal forwards $10 as well, since no path writes it again.
-const PROPOSALS: [AnswerRow<'static>; 3] = [
-    AnswerRow {
-        words: "annotate a.s",
-        program: COUNT_BARE,
-        expected: COUNT_FORWARDED,
-        ..EMPTY
-    },
-    AnswerRow {
-        words: "annotate --emit cert a.s",
-        program: COUNT_BARE,
-        expected: COUNT_CERTIFICATE_WIDE,
-        ..EMPTY
-    },
-    AnswerRow {
-        words: "annotate --emit keep a.s",
-        program: COUNT,
-        expected: COUNT_CERTIFICATE_WIDE,
-        ..EMPTY
-    },
+// The words, the program, and what is written. The proposal for `COUNT` forwards $10 as well, since no path writes it
+// again; that for `READ_ONLY` is the program.
+const PROPOSALS: [(&str, &str, &str); 5] = [
+    ("annotate a.s", COUNT_BARE, COUNT_FORWARDED),
+    (
+        "annotate --emit cert a.s",
+        COUNT_BARE,
+        COUNT_CERTIFICATE_WIDE,
+    ),
+    ("annotate --emit keep a.s", COUNT, COUNT_CERTIFICATE_WIDE),
+    ("print a.s", READ_ONLY, READ_ONLY_PRINTED),
+    ("annotate a.s", READ_ONLY, READ_ONLY_PRINTED),
 ];
 
+const READ_ONLY_PRINTED: &str = ".start A
+.task A create=$8 targets=B,C
+.task B create=$9,$10 targets=C
+.task C create=- targets=-
+A:
+addiu $8,$0,1 !f
+bne $8,$0,C !s
+B:
+lui $9,4096
+ori $9,$9,0
+lw $9,0($9) !f
+lw $10,1($9) !f !s
+C:
+out $8
+halt
+.rodata
+.word 0x00000007
+";
+
 #[test]
-fn annotates_count(rt: HostRuntime) {
-    run_all(&rt, rt.alloc(), &PROPOSALS);
-}
-
-// What the words write of a program, with status 0.
-fn annotated(rt: &impl Bench, alloc: Global, words: &str, program: &[u8]) -> Vec<u8> {
-    let texts = texts_of(rt, alloc, program, b"", b"");
-    let (written, status) = answer(rt, alloc, words, &texts);
-    assert!(rt; status == 0, "{words}");
-    written
-}
-
-// Asserts what `check` writes for a program and its certificate.
-fn expect_checked(
-    rt: &impl Bench,
-    alloc: Global,
-    program: &[u8],
-    certificate: &[u8],
-    expected: &str,
-    status: u8,
-) {
-    let texts = texts_of(rt, alloc, program, certificate, b"");
-    expect(rt, alloc, "check a.s a.cert", &texts, expected, status);
+fn annotates_programs(rt: HostRuntime) {
+    for &(words, program, expected) in &PROPOSALS {
+        expect_of(&rt, rt.alloc(), words, program, expected, 0);
+    }
 }
 
 // Asserts what `check` writes for the program that is proposed and its certificate.
 fn expect_proposed(rt: &impl Bench, alloc: Global, program: &str, expected: &str, status: u8) {
-    let program = program.as_bytes();
-    let proposed = annotated(rt, alloc, "annotate a.s", program);
-    let certificate = annotated(rt, alloc, "annotate --emit cert a.s", program);
-    let (proposed, certificate) = (proposed.as_slice(), certificate.as_slice());
-    expect_checked(rt, alloc, proposed, certificate, expected, status);
+    let texts = texts_of(rt, alloc, program.as_bytes(), b"", b"");
+    let (proposed, _) = answer(rt, alloc, "annotate a.s", &texts);
+    let (certificate, _) = answer(rt, alloc, "annotate --emit cert a.s", &texts);
+    let texts = texts_of(rt, alloc, proposed.as_slice(), certificate.as_slice(), b"");
+    expect(rt, alloc, "check a.s a.cert", &texts, expected, status);
 }
 
 // The program with no forward bits and with empty create masks.
@@ -92,43 +84,12 @@ const ACCEPTED: [(&str, &str); 8] = [
 ];
 
 #[test]
-fn proposes_what_is_accepted(rt: HostRuntime) {
+fn proposes_programs(rt: HostRuntime) {
     for &(program, expected) in &ACCEPTED {
         let bare = bare(&rt, rt.alloc(), program);
         expect_proposed(&rt, rt.alloc(), bare.as_str(), expected, 0);
     }
-}
-
-// Targets stay as written.
-#[test]
-fn leaves_targets(rt: HostRuntime) {
+    // Targets stay as written.
     let expected = "B 1 rule 9 -\nB 1 rule 12 -\nrefused 2\n";
     expect_proposed(&rt, rt.alloc(), FIVE_FINDINGS, expected, 1);
-}
-
-// The marks are as proposed already; read-only data stay.
-const READ_ONLY_PRINTED: &str = ".start A
-.task A create=$8 targets=B,C
-.task B create=$9,$10 targets=C
-.task C create=- targets=-
-A:
-addiu $8,$0,1 !f
-bne $8,$0,C !s
-B:
-lui $9,4096
-ori $9,$9,0
-lw $9,0($9) !f
-lw $10,1($9) !f !s
-C:
-out $8
-halt
-.rodata
-.word 0x00000007
-";
-
-#[test]
-fn keeps_read_only_data(rt: HostRuntime) {
-    for &words in &["print a.s", "annotate a.s"] {
-        expect_of(&rt, rt.alloc(), words, READ_ONLY, READ_ONLY_PRINTED, 0);
-    }
 }

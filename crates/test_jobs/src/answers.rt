@@ -1,4 +1,4 @@
-//! One run of a job, as the program does it, but for its files; and tables of runs.
+//! One run of a job, as the program does it, but for its files.
 
 use command_line::words::request_of;
 use jobs::job::{Job, Texts};
@@ -21,7 +21,7 @@ pub struct AnswerRow<'a> {
     pub words: &'a str,
     /// The program text.
     pub program: &'a str,
-    /// The certificate; empty where the job has none.
+    /// The certificate.
     pub certificate: &'a str,
     /// The event script; empty where the job has none.
     pub script: &'a str,
@@ -31,78 +31,23 @@ pub struct AnswerRow<'a> {
     pub status: u8,
 }
 
-/// A row with nothing in it.
-pub const EMPTY: AnswerRow<'static> = AnswerRow {
-    words: "",
-    program: "",
-    certificate: "",
-    script: "",
-    expected: "",
-    status: 0,
-};
-
 impl AnswerRow<'_> {
     /// Asserts the answer, and that a certificate in `cert 1` gives it in `cert 2` too.
     pub fn runs(&self, rt: &impl Bench, alloc: Global) {
-        self.runs_as(rt, alloc, self.words);
-    }
-
-    /// Like `runs`, but with these words.
-    pub fn runs_as(&self, rt: &impl Bench, alloc: Global, words: &str) {
-        self.runs_with(rt, alloc, words, self.certificate);
+        self.runs_with(rt, alloc, self.certificate);
         if self.certificate.starts_with("cert 1") {
             let wide = widened(rt, alloc, self.certificate);
-            self.runs_with(rt, alloc, words, wide.as_str());
+            self.runs_with(rt, alloc, wide.as_str());
         }
     }
 
-    // Asserts the answer where the words and the certificate are these.
-    fn runs_with(&self, rt: &impl Bench, alloc: Global, words: &str, certificate: &str) {
+    // Asserts the answer where the certificate is this one.
+    fn runs_with(&self, rt: &impl Bench, alloc: Global, certificate: &str) {
         let program = self.program.as_bytes();
         let script = self.script.as_bytes();
         let texts = texts_of(rt, alloc, program, certificate.as_bytes(), script);
-        expect(rt, alloc, words, &texts, self.expected, self.status);
+        expect(rt, alloc, self.words, &texts, self.expected, self.status);
     }
-}
-
-/// Asserts the answer of each row.
-pub fn run_all(rt: &impl Bench, alloc: Global, rows: &[AnswerRow<'_>]) {
-    for row in rows {
-        row.runs(rt, alloc);
-    }
-}
-
-/// Asserts what the words write of each program of a table, and the status.
-pub fn expect_of_each(
-    rt: &impl Bench,
-    alloc: Global,
-    words: &str,
-    programs: &[(&str, &str)],
-    status: u8,
-) {
-    for (program, expected) in programs {
-        expect_of(rt, alloc, words, *program, *expected, status);
-    }
-}
-
-/// Asserts what the words write of a program alone, and the status.
-pub fn expect_of(
-    rt: &impl Bench,
-    alloc: Global,
-    words: &str,
-    program: &str,
-    expected: &str,
-    status: u8,
-) {
-    let row = AnswerRow {
-        words,
-        program,
-        certificate: "",
-        script: "",
-        expected,
-        status,
-    };
-    row.runs(rt, alloc);
 }
 
 // A certificate in `cert 1` as it is spelled in `cert 2`: each mask with eight zeros before it.
@@ -118,6 +63,19 @@ fn widened(rt: &impl Abort, alloc: Global, certificate: &str) -> String {
         assert!(rt; writeln!(text, "{first} {zeros}{rest}").is_ok());
     }
     text
+}
+
+/// Asserts what the words write of a program alone, and the status.
+pub fn expect_of(
+    rt: &impl Bench,
+    alloc: Global,
+    words: &str,
+    program: &str,
+    expected: &str,
+    status: u8,
+) {
+    let texts = texts_of(rt, alloc, program.as_bytes(), b"", b"");
+    expect(rt, alloc, words, &texts, expected, status);
 }
 
 /// The texts of a program, of its certificate and of a script; one that the job does not have is empty.

@@ -1,122 +1,66 @@
 //! Programs at the limits and just beyond.
 
-use crate::answers::{Bench, answer, expect, texts_of};
+use crate::answers::{Bench, answer, expect_of, texts_of};
 use std::alloc::Global;
 use std::process::Abort;
-
-// How large a program is made: at most 65,536 bytes in one `.space`.
-#[derive(Clone, Copy)]
-struct Sizes {
-    instructions: usize,
-    tasks: usize,
-    targets: usize,
-    bytes: usize,
-    fixed: usize,
-}
-
-// The greatest sizes that are allowed.
-const MOST: Sizes = Sizes {
-    instructions: 4096,
-    tasks: 1024,
-    targets: 16,
-    bytes: 65_536,
-    fixed: 65_536,
-};
-
-const BEYOND: [Sizes; 5] = [
-    Sizes {
-        instructions: 4097,
-        ..MOST
-    },
-    Sizes {
-        tasks: 1025,
-        ..MOST
-    },
-    Sizes {
-        targets: 17,
-        ..MOST
-    },
-    Sizes {
-        bytes: 65_537,
-        ..MOST
-    },
-    Sizes {
-        fixed: 65_537,
-        ..MOST
-    },
-];
-
-impl Sizes {
-    // A program of these sizes: task n begins at instruction n.
-    fn program(self, rt: &impl Abort, alloc: Global) -> String {
-        let mut text = String::new(alloc);
-        let others = repeated(rt, alloc, ",T0", self.targets.saturating_sub(1));
-        for task in 0..self.tasks {
-            let written = writeln!(text, ".task T{task} create=- targets=T0{others}");
-            assert!(rt; written.is_ok());
-        }
-        self.write_code(rt, alloc, &mut text);
-        write_section(rt, alloc, &mut text, ".data", self.bytes);
-        write_section(rt, alloc, &mut text, ".rodata", self.fixed);
-        text
-    }
-
-    fn write_code(self, rt: &impl Abort, alloc: Global, text: &mut String) {
-        for task in 0..self.tasks {
-            assert!(rt; writeln!(text, "T{task}: nop").is_ok());
-        }
-        let others = self.instructions.saturating_sub(self.tasks);
-        let others = repeated(rt, alloc, "nop\n", others);
-        assert!(rt; text.push_str(others.as_str()).is_ok());
-    }
-}
 
 fn repeated(rt: &impl Abort, alloc: Global, text: &str, times: usize) -> String {
     let text = text.repeat(alloc, times).ok();
     text.expect(rt, "room for a text")
 }
 
-// This many zero bytes.
-fn write_section(rt: &impl Abort, alloc: Global, text: &mut String, name: &str, bytes: usize) {
-    let space = bytes.min(65_536);
-    let others = repeated(rt, alloc, ".byte 0\n", bytes.saturating_sub(space));
-    assert!(rt; write!(text, "{name}\n.space {space}\n{others}").is_ok());
-}
-
-// What `print` writes for a program, with status 0.
-fn printed(rt: &impl Bench, alloc: Global, program: &[u8]) -> Vec<u8> {
-    let texts = texts_of(rt, alloc, program, b"", b"");
-    let (printed, status) = answer(rt, alloc, "print a.s", &texts);
-    assert!(rt; status == 0);
-    printed
+// A program at each limit: 65,536 bytes of data and as many of read-only data, 4,096 instructions, and 1,024 tasks of
+// 16 targets each. A label stands at the last instruction, where no task begins. The last line is that of a task, and
+// has no LF.
+fn largest(rt: &impl Abort, alloc: Global) -> String {
+    let mut text = String::new(alloc);
+    assert!(rt; write!(text, ".data\n.space 65536\n.rodata\n.space 65536\n.text\n").is_ok());
+    for task in 0..1024 {
+        assert!(rt; writeln!(text, "T{task}: nop").is_ok());
+    }
+    let nops = repeated(rt, alloc, "nop\n", 3071);
+    assert!(rt; write!(text, "{nops}LAST: nop").is_ok());
+    let others = repeated(rt, alloc, ",T0", 15);
+    for task in 0..1024 {
+        let written = write!(text, "\n.task T{task} create=- targets=T0{others}");
+        assert!(rt; written.is_ok());
+    }
+    text
 }
 
 #[test]
 fn prints_the_largest_program(rt: HostRuntime) {
-    let program = MOST.program(&rt, rt.alloc());
-    let once = printed(&rt, rt.alloc(), program.as_bytes());
-    let again = printed(&rt, rt.alloc(), once.as_slice());
+    let program = largest(&rt, rt.alloc());
+    let texts = texts_of(&rt, rt.alloc(), program.as_bytes(), b"", b"");
+    let (once, _) = answer(&rt, rt.alloc(), "print a.s", &texts);
+    let texts = texts_of(&rt, rt.alloc(), once.as_slice(), b"", b"");
+    let (again, status) = answer(&rt, rt.alloc(), "print a.s", &texts);
+    assert!(rt; status == 0);
     assert!(rt; again.as_slice() == once.as_slice());
 }
 
-// Asserts what `print` reports for a text.
-fn expect_refused(rt: &impl Bench, alloc: Global, program: &[u8], expected: &str) {
-    let texts = texts_of(rt, alloc, program, b"", b"");
-    expect(rt, alloc, "print a.s", &texts, expected, 1);
-}
+// What takes the largest program beyond a limit, if it stands at its end.
+const MORE: [&str; 5] = [
+    ",T0",
+    "\n.task LAST create=- targets=-",
+    "\nnop",
+    "\n.data\n.byte 0",
+    "\n.rodata\n.byte 0",
+];
 
 #[test]
 fn refuses_larger_programs(rt: HostRuntime) {
-    for sizes in &BEYOND {
-        let program = sizes.program(&rt, rt.alloc());
-        let expected = "program refused: 10 Build 1 TooMany\n";
-        expect_refused(&rt, rt.alloc(), program.as_bytes(), expected);
+    for &more in &MORE {
+        expect_too_many(&rt, rt.alloc(), more);
     }
-}
-
-#[test]
-fn refuses_longer_texts(rt: HostRuntime) {
     let long = repeated(&rt, rt.alloc(), " ", 4_194_305);
     let expected = "program refused: 1 TooLong\n";
-    expect_refused(&rt, rt.alloc(), long.as_bytes(), expected);
+    expect_of(&rt, rt.alloc(), "print a.s", long.as_str(), expected, 1);
+}
+
+fn expect_too_many(rt: &impl Bench, alloc: Global, more: &str) {
+    let mut program = largest(rt, alloc);
+    assert!(rt; program.push_str(more).is_ok());
+    let expected = "program refused: 10 Build 1 TooMany\n";
+    expect_of(rt, alloc, "print a.s", program.as_str(), expected, 1);
 }

@@ -1,19 +1,16 @@
-//! Files that several threads fetch, and readers and writers that fail.
+//! Files that several threads fetch, and readers that fail.
 
 ghost use Rattle.std.specs.Prelude.{◌≡◌, ◌≤◌, length, take};
 
-use crate::answers::{Bench, texts_of};
-use jobs::job::Job;
+use crate::answers::Bench;
 use std::alloc::Global;
 use std::io;
-use std::io::{ErrorKind, Read, Write};
+use std::io::{ErrorKind, Read};
 use std::process::Abort;
 use text_pieces::positioned::PositionedFile;
 use text_pieces::serial::{FetchFault, fetch};
 use text_pieces::shared::fetch_shared;
 use text_pieces::text::Text;
-use verdict_report::fault::ServeFault;
-use verdict_report::serve::serve;
 
 // Gives one byte a read, is interrupted first, and fails at its last read.
 #[derive(Drop)]
@@ -89,17 +86,10 @@ fn fetches_from_worn_readers(rt: HostRuntime) {
 
 #[test]
 fn fetches_one_byte_more(rt: HostRuntime) {
-    expect_fetched(&rt, rt.alloc(), 4, b"count");
-    expect_fetched(&rt, rt.alloc(), 3, b"coun");
-}
-
-// Asserts what is fetched of a word.
-fn expect_fetched(rt: &impl Abort, alloc: Global, most: u64, expected: &[u8]) {
-    assert!(rt; most < 5);
     let mut text = b"count".as_slice();
-    let fetched = fetch(alloc, &mut text, most).ok();
-    let fetched = fetched.expect(rt, "room for a text");
-    assert!(rt; fetched.as_slice() == expected, "at most {most}");
+    let fetched = fetch(rt.alloc(), &mut text, 3).ok();
+    let fetched = fetched.expect(&rt, "room for a text");
+    assert!(rt; fetched.as_slice() == b"coun".as_slice());
 }
 
 // A file that is held in memory. It may report a size other than its own, and its positioned reads fail
@@ -222,50 +212,10 @@ fn fetches_by_several_threads(rt: HostRuntime) {
         expect_shared(&rt, rt.alloc(), &mut file, 200_000, 134_217_728);
         expect_shared(&rt, rt.alloc(), &mut file, u64::MAX, long - 1);
     }
-}
-
-#[test]
-fn fails_as_one_thread_does(rt: HostRuntime) {
-    let mut file = long_file(&rt, rt.alloc());
+    // It fails as one thread does.
+    file.told = Some(long);
     file.fails_from = 0;
     file.is_worn = true;
     let answer = fetch_shared(&rt, rt.alloc(), &mut file, 134_217_728, 4).err();
     assert!(&rt; answer == Some(FetchFault::Read(ErrorKind::Other)));
-}
-
-// Takes one byte a write, and fails at the write of this number.
-#[derive(Drop)]
-struct Full {
-    room: u32,
-}
-
-impl Write for Full {
-    fn write(&mut self, buf: &[u8]) -> io::Result<usize> {
-        if self.room == 0 {
-            return Err(io::Error::from(ErrorKind::Other));
-        }
-        self.room -= 1;
-        Ok(buf.len().min(1))
-    }
-
-    fn flush(&mut self) -> io::Result<()> {
-        Ok(())
-    }
-}
-
-// Asserts what `print` of a text with a fault answers where the writer has this room.
-fn expect_written(rt: &impl Bench, alloc: Global, room: u32, expected: Result<u8, ServeFault>) {
-    let texts = texts_of(rt, alloc, b"foo", b"", b"");
-    let mut writer = Full { room };
-    let answer = serve(rt, alloc, &Job::Print, &texts, &mut writer);
-    assert!(rt; answer == expected, "room for {room}");
-}
-
-// `program refused: 4 Mnemonic line 1` and its LF are 35 bytes.
-#[test]
-fn fails_to_write(rt: HostRuntime) {
-    for room in 0..35 {
-        expect_written(&rt, rt.alloc(), room, Err(ServeFault::Write));
-    }
-    expect_written(&rt, rt.alloc(), 35, Ok(1));
 }

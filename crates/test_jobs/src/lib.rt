@@ -1,7 +1,8 @@
 //! Tests of the program's jobs, from the words of a command line to the bytes that are written and
-//! the status. The expected bytes are those of the formats and of the instructions' own rules, worked
-//! out by hand. Writers that keep back what is not flushed show that reports and messages about faults arrive. Files in
-//! memory show that a result that goes to a file is there whole, or that the file is as it was.
+//! the status: the worked examples, and what no row of a table can show. The expected bytes are those of the formats
+//! and of the instructions' own rules, worked out by hand. A writer that keeps back what is not flushed shows that
+//! reports and messages about faults arrive. Files in memory show that a result that goes to a file is there whole, or
+//! that the file is as it was.
 #![tactic(auto)]
 
 #[cfg(test)]
@@ -11,15 +12,9 @@ mod answers;
 #[cfg(test)]
 mod at_the_limits;
 #[cfg(test)]
-mod certificates;
-#[cfg(test)]
 mod check;
 #[cfg(test)]
 mod files;
-#[cfg(test)]
-mod flushed_reports;
-#[cfg(test)]
-mod held_back;
 #[cfg(test)]
 mod print;
 #[cfg(test)]
@@ -31,12 +26,10 @@ mod result_files;
 #[cfg(test)]
 mod run;
 #[cfg(test)]
-mod scripts;
-#[cfg(test)]
 mod seq;
-#[cfg(test)]
-mod shared_check;
 #[cfg(test)]
 mod told_faults;
 #[cfg(test)]
 mod words;
+#[cfg(test)]
+mod writers;

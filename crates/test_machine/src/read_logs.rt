@@ -5,62 +5,40 @@ use std::alloc::Global;
 use std::process::Abort;
 use unit_core::read_log::ReadLog;
 
-fn read_at(pc: u32) -> Read {
-    Read { pc, a: 0, b: 0 }
-}
-
-/// Asserts which read of the log stands at an index of a chunk.
-fn expect_read(rt: &impl Abort, chunk: &[Read], index: usize, pc: u32) {
-    assert!(rt; chunk.get(index).copied() == Some(read_at(pc)));
-}
-
-/// A log of the given number of reads, with addresses counting up from 0.
+/// A log of the given number of reads.
 fn log_of(rt: &impl Abort, alloc: Global, count: u32) -> ReadLog {
     let mut log = ReadLog::new(alloc);
     for pc in 0..count {
         let room = log.reserve(1);
         room.expect(rt, "room for a read");
-        log.push_reserved(read_at(pc));
+        log.push_reserved(Read { pc, a: 0, b: 0 });
     }
     log
 }
 
-#[test]
-fn short_logs_are_joined(rt: HostRuntime) {
-    let mut log = log_of(&rt, rt.alloc(), 3);
-    let mut other = log_of(&rt, rt.alloc(), 4);
-    assert!(rt; log.append(&mut other).is_ok());
-    assert!(rt; log.len() == 7);
-    assert!(rt; other.len() == 0);
-    let (closed, current) = log.chunks();
-    assert!(rt; closed.is_empty());
-    expect_read(&rt, current, 2, 2);
-    expect_read(&rt, current, 3, 0);
-    expect_read(&rt, current, 6, 3);
-}
+// The numbers of reads of two logs, and the numbers of closed chunks and of reads in the last one after the second was
+// appended to the first.
+const LOGS: [(u32, u32, usize, usize); 3] = [(3, 4, 0, 7), (3, 1_200, 1, 1_200), (1_200, 2, 1, 2)];
 
 #[test]
-fn long_log_is_moved(rt: HostRuntime) {
-    let mut log = log_of(&rt, rt.alloc(), 3);
-    let mut other = log_of(&rt, rt.alloc(), 1_200);
-    assert!(rt; log.append(&mut other).is_ok());
-    assert!(rt; log.len() == 1_203);
-    assert!(rt; other.len() == 0);
-    let (closed, current) = log.chunks();
-    assert!(rt; closed.len() == 1);
-    assert!(rt; closed[0].len() == 3);
-    assert!(rt; current.len() == 1_200);
-    expect_read(&rt, current, 1_199, 1_199);
+fn long_logs_are_moved(rt: HostRuntime) {
+    for (first, second, closed, last) in LOGS {
+        expect_chunks(&rt, rt.alloc(), first, second, closed, last);
+    }
 }
 
-#[test]
-fn short_log_goes_behind_a_long_one(rt: HostRuntime) {
-    let mut log = log_of(&rt, rt.alloc(), 1_200);
-    let mut other = log_of(&rt, rt.alloc(), 2);
+fn expect_chunks(
+    rt: &impl Abort,
+    alloc: Global,
+    first: u32,
+    second: u32,
+    closed: usize,
+    last: usize,
+) {
+    let mut log = log_of(rt, alloc, first);
+    let mut other = log_of(rt, alloc, second);
     assert!(rt; log.append(&mut other).is_ok());
-    assert!(rt; log.append(&mut other).is_ok());
-    let (closed, current) = log.chunks();
-    assert!(rt; closed.len() == 1);
-    assert!(rt; current.len() == 2);
-    expect_read(&rt, current, 1, 1);
+    let (chunks, current) = log.chunks();
+    assert!(rt; chunks.len() == closed);
+    assert!(rt; current.len() == last);
 }

@@ -1,7 +1,6 @@
 //! The worked examples of one unit, on task A of two programs.
 
-use crate::given::register;
-use crate::programs::{count, release};
+use crate::given::{accepted, register};
 use machine_model::event::Spot;
 use mark_checker::accept::Accepted;
 use mips_instructions::number::{Reg, RegSet};
@@ -10,7 +9,9 @@ use register_ring::port::{AlreadyThere, Port};
 use std::alloc::Global;
 use std::marker::Model;
 use std::process::Abort;
-use unit_core::burst::{Burst, MOST_STEPS};
+use test_programs::certificates::{COUNT_CERTIFICATE, RELEASE_CERTIFICATE};
+use test_programs::programs::{COUNT, RELEASE_CREATES_MORE};
+use unit_core::burst::Burst;
 use unit_core::unit::Unit;
 use unit_core::wait::{DrainFault, Wait};
 use unit_core::world::World;
@@ -19,15 +20,6 @@ use unit_core::world::World;
 fn zeros(rt: &impl Abort, reserved: u64) -> Port {
     let reserved = RegSet::from_bits(reserved).expect(rt, "a mask");
     Port::fresh(&[0; 34], reserved)
-}
-
-/// Registers of 0, except for register 8, which arrived with 2 and does not arrive again.
-fn two_in_register_8(rt: &impl Abort) -> Port {
-    let mut port = zeros(rt, 0x100);
-    let r8 = register(rt, 8);
-    assert!(rt; port.arrive(r8, 2).is_ok());
-    assert!(rt; matches!(port.arrive(r8, 2), Err(AlreadyThere)));
-    port
 }
 
 /// A unit of a program, and the world that the head's instructions change.
@@ -77,10 +69,9 @@ impl<'a> Trial<'a> {
         self.unit.drain(self.accepted, register).err()
     }
 
-    /// A burst of at most the given number of steps.
-    fn burst(&self, rt: &impl Abort, most: u32) -> Burst<'a> {
-        assert!(rt; most <= MOST_STEPS);
-        Burst::run(self.unit.lease(self.accepted), most)
+    /// A burst of at most 64 steps.
+    fn burst(&self) -> Burst<'a> {
+        Burst::run(self.unit.lease(self.accepted), 64)
     }
 }
 
@@ -91,12 +82,10 @@ fn expect_steps(rt: &impl Abort, trial: &mut Trial<'_>, answers: &[Option<Wait>]
     }
 }
 
-/// Asserts how drains of some registers are answered.
-fn expect_drains(rt: &impl Abort, trial: &mut Trial<'_>, drains: &[(u8, Option<DrainFault>)]) {
-    for (number, answer) in drains {
-        let register = register(rt, *number);
-        assert!(rt; trial.drain(register) == *answer, "register {number}");
-    }
+/// Asserts how the drain of a register is answered.
+fn expect_drain(rt: &impl Abort, trial: &mut Trial<'_>, number: u8, answer: Option<DrainFault>) {
+    let register = register(rt, number);
+    assert!(rt; trial.drain(register) == answer, "register {number}");
 }
 
 /// Asserts the value of a register.
@@ -107,48 +96,58 @@ fn expect_value(rt: &impl Abort, unit: &Unit, number: u8, value: u32) {
 
 #[test]
 fn unit_runs_task(rt: HostRuntime) {
-    let accepted = count(&rt, rt.alloc());
+    let accepted = accepted(&rt, rt.alloc(), COUNT, COUNT_CERTIFICATE);
     let mut trial = Trial::new(&rt, rt.alloc(), &accepted, zeros(&rt, 0));
-    expect_steps(&rt, &mut trial, &[None, None, None, None]);
+    let answers = [None, None, None, None, Some(Wait::Stopped)];
+    expect_steps(&rt, &mut trial, &answers);
     assert!(rt; trial.unit.spot() == Spot::Stopped(0x0040_0000));
     assert!(rt; trial.unit.reads().len() == 4);
     for number in 8..11 {
         expect_value(&rt, &trial.unit, number, 1);
     }
-}
-
-#[test]
-fn unit_drains(rt: HostRuntime) {
-    let accepted = count(&rt, rt.alloc());
-    let mut trial = Trial::new(&rt, rt.alloc(), &accepted, zeros(&rt, 0));
-    let answers = [None, None, None, None, Some(Wait::Stopped)];
-    expect_steps(&rt, &mut trial, &answers);
-    let drains = [
+    for (number, answer) in [
         (7, Some(DrainFault::NotInCreate)),
         (8, Some(DrainFault::AlreadySent)),
         (10, None),
         (10, Some(DrainFault::AlreadySent)),
-    ];
-    expect_drains(&rt, &mut trial, &drains);
+    ] {
+        expect_drain(&rt, &mut trial, number, answer);
+    }
 }
 
+// Register 7 is in the create mask but never written.
 #[test]
 fn unit_drain_no_value(rt: HostRuntime) {
-    let accepted = release(&rt, rt.alloc());
+    let accepted = accepted(&rt, rt.alloc(), RELEASE_CREATES_MORE, RELEASE_CERTIFICATE);
     let mut trial = Trial::new(&rt, rt.alloc(), &accepted, zeros(&rt, 0x80));
     expect_steps(&rt, &mut trial, &[None, None, None]);
     assert!(rt; trial.unit.spot() == Spot::Stopped(0x0040_0014));
-    expect_drains(&rt, &mut trial, &[(7, Some(DrainFault::NoValue))]);
+    expect_drain(&rt, &mut trial, 7, Some(DrainFault::NoValue));
 }
 
 #[test]
 fn unit_waits(rt: HostRuntime) {
-    let accepted = count(&rt, rt.alloc());
+    let accepted = accepted(&rt, rt.alloc(), COUNT, COUNT_CERTIFICATE);
     let mut trial = Trial::new(&rt, rt.alloc(), &accepted, zeros(&rt, 0x100));
-    expect_drains(&rt, &mut trial, &[(8, Some(DrainFault::NotStopped))]);
+    expect_drain(&rt, &mut trial, 8, Some(DrainFault::NotStopped));
     let waiting = Some(Wait::Waiting(register(&rt, 8)));
-    expect_steps(&rt, &mut trial, &[waiting]);
+    assert!(rt; trial.step(&rt) == waiting);
     assert!(rt; trial.step_ahead() == waiting);
+}
+
+// Register 8 has arrived with 2 and does not arrive again.
+#[test]
+fn unit_uses_what_arrived(rt: HostRuntime) {
+    let accepted = accepted(&rt, rt.alloc(), COUNT, COUNT_CERTIFICATE);
+    let r8 = register(&rt, 8);
+    let mut port = zeros(&rt, 0x100);
+    assert!(rt; port.arrive(r8, 2) == Ok(()));
+    assert!(rt; port.arrive(r8, 3) == Err(AlreadyThere));
+    let mut trial = Trial::new(&rt, rt.alloc(), &accepted, port);
+    assert!(rt; trial.step(&rt) == None);
+    expect_value(&rt, &trial.unit, 8, 3);
+    assert!(rt; trial.step_ahead() == None);
+    expect_value(&rt, &trial.unit, 9, 3);
 }
 
 #[test]
@@ -159,45 +158,17 @@ fn texts_of_answers(rt: HostRuntime) {
     assert!(rt; text.as_str() == "2 Waiting $33, 4 NoValue");
 }
 
+// Register 5 arrives while the burst is made, and stays.
 #[test]
-fn arrived_register_is_used(rt: HostRuntime) {
-    let accepted = count(&rt, rt.alloc());
-    let mut head = Trial::new(&rt, rt.alloc(), &accepted, two_in_register_8(&rt));
-    expect_steps(&rt, &mut head, &[None]);
-    expect_value(&rt, &head.unit, 8, 3);
-    let mut ahead = Trial::new(&rt, rt.alloc(), &accepted, two_in_register_8(&rt));
-    assert!(rt; ahead.step_ahead() == None);
-    expect_value(&rt, &ahead.unit, 8, 3);
-}
-
-// A burst ends after the instruction that sends a register for the first time.
-#[test]
-fn burst_ends_behind_a_first_send(rt: HostRuntime) {
-    let accepted = count(&rt, rt.alloc());
-    let trial = Trial::new(&rt, rt.alloc(), &accepted, zeros(&rt, 0));
-    let burst = trial.burst(&rt, MOST_STEPS);
-    let Trial { mut unit, .. } = trial;
-    expect_taken(&rt, &mut unit, burst, 1, 1);
-}
-
-#[test]
-fn burst_is_taken_once(rt: HostRuntime) {
-    let accepted = count(&rt, rt.alloc());
+fn burst_is_taken(rt: HostRuntime) {
+    let accepted = accepted(&rt, rt.alloc(), COUNT, COUNT_CERTIFICATE);
     let mut trial = Trial::new(&rt, rt.alloc(), &accepted, zeros(&rt, 0x20));
     expect_steps(&rt, &mut trial, &[None, None]);
-    let burst = trial.burst(&rt, 64);
-    let again = trial.burst(&rt, 1);
+    let burst = trial.burst();
     let Trial { mut unit, .. } = trial;
     assert!(rt; unit.arrive(register(&rt, 5), 9) == Ok(()));
-    expect_taken(&rt, &mut unit, burst, 2, 2);
-    expect_taken(&rt, &mut unit, again, 1, 0);
+    assert!(rt; burst.after().reads().len() == 2);
+    assert!(rt; unit.take(burst).ok() == Some(2));
     expect_value(&rt, &unit, 5, 9);
     assert!(rt; unit.reads().len() == 4);
-}
-
-/// Asserts how many steps a burst has, and how many of them a unit takes over.
-fn expect_taken(rt: &impl Abort, unit: &mut Unit, burst: Burst<'_>, steps: u32, taken: u32) {
-    assert!(rt; burst.steps() == steps);
-    assert!(rt; burst.after().reads().len() == steps as usize);
-    assert!(rt; unit.take(burst).ok() == Some(taken));
 }
