@@ -1,4 +1,4 @@
--- One line more: its items go behind those of the lines before it.
+-- One line more: its items go after those of the lines before it.
 use Rattle.std.proofs.Common.{◌≡◌, ℕ, ◌+◌, List, ◌∷◌, ◌++◌, Result, Ok, Err, ap, sym, ◌∙◌, subst, refl, [], append-nil, Option, Some, None, IfSome, IfNone}
 use Rattle.annotated_asm.specs.declared.fault.AsmFault.{AsmFault}
 use Rattle.annotated_asm.specs.declared.fault.AsmFault.TheVariants as text
@@ -126,7 +126,7 @@ told_fault : (e : AsmFault) (items : List PlacedStatement) (n : ℕ) (here : Sec
 told_fault e items n here line lines total h told =
     ends e told.front n here line lines total (fails_elsewhere e items told.front (line_items n here line) h) told.whole
 
--- the same of the first line of some, with others behind it or none
+-- the same of the first line of some, with others after it or none
 pub told_fault_first : {R : Type 0} (e : AsmFault) (items : List PlacedStatement) (n : ℕ) (here : Section) (line : List ℕ) (behind : Option R) (spelled : R → List (List ℕ))
     (lines : List (List ℕ)) (total : Result (List PlacedStatement) AsmFault)
     → IfSome behind (λ rest. lines ≡ line ∷ spelled rest)

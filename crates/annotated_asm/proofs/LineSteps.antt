@@ -1,4 +1,4 @@
--- One line more: the map with it is where the map with the lines behind it begins.
+-- One line more: the map with it is where the map with the lines after it begins.
 use Rattle.std.proofs.Common.{◌≡◌, ℕ, ◌+◌, ◌*◌, List, length, drop, [], ◌∷◌, Option, Some, None, Result, Ok, Err, ap, sym, ◌∙◌, subst, IfSome, IfNone}
 use Rattle.program_statements.specs.Steps.{◌>>=◌}
 use Rattle.program_statements.specs.declared.statement.Section.{Section}
@@ -28,7 +28,7 @@ line_read front n here line tokens said e f =
     ap (λ (r : Result (List Token) AsmFault). r >>= λ ts. on_line n (statement_of here (after_labels ts)) >>= λ x. Ok (added front n here (line_spans line) ts x, section_after here x)) e
     ∙ ap (λ (r : Result Statement AsmFault). r >>= λ x. Ok (added front n here (line_spans line) tokens x, section_after here x)) f
 
--- the same in the terms of the code: the places and the tokens behind the labels as it has them
+-- the same in the terms of the code: the places and the tokens after the labels as it has them
 pub line_told : (front last : Sources) (n : ℕ) (here : Section) (line : List ℕ) (tokens rest : List Token) (spans own : List TokenSpan) (number : ℕ) (labels : List LabelSource) (said : Statement)
     → tokens_on_line n (line_tokens line) ≡ Ok tokens → spans ≡ line_spans line
     → rest ≡ after_labels tokens → number ≡ 2 * length (labels_of tokens) → own ≡ drop number spans → labels ≡ label_sources n spans 0 tokens

@@ -1,4 +1,4 @@
--- Bytes behind bytes of the same section may stand in one item: layout, names and program are the same.
+-- Bytes after bytes of the same section may stand in one item: layout, names and program are the same.
 use Rattle.std.specs.Prelude.{slice_index_or, slice_set}
 use Rattle.std.proofs.Common.{◌≡◌, ℕ, ◌+◌, ◌-◌, ◌∷◌, ◌++◌, [], suc, ◌<◌, Bool, true, false, List, Result, Ok, Err, refl, ap, sym, ◌∙◌, length, append_assoc, length-append, if◌then◌else◌, arith, ◌≤◌}
 use Rattle.task_descriptor.specs.Listing.{Listing, build_fault}
@@ -68,7 +68,7 @@ alike_then xs ys zs first second = record {
   program = λ labels front. first.program labels front ∙ second.program labels front;
 }
 
--- also with more items behind them
+-- also with more items after them
 pub alike_before : (xs ys more : List PlacedStatement) → AreAlike xs ys → AreAlike (xs ++ more) (ys ++ more)
 alike_before xs ys more alike = record {
   layout = λ front. laid_append front xs more

@@ -1,4 +1,4 @@
--- The targets of a task are taken from the front, each with the comma behind it.
+-- The targets of a task are taken from the front, each with the comma after it.
 use Rattle.std.proofs.Common.{◌≡◌, ℕ, List, [], ◌∷◌, ◌++◌, drop, refl, sym, ◌∙◌, ap, append_assoc}
 use Rattle.program_tokens.specs.declared.span.TokenSpan.{TokenSpan}
 use Rattle.annotated_asm.specs.declared.position.Stretch.{Stretch}

@@ -87,7 +87,7 @@ none_listed test (x ∷ xs) f =
     or_from (test x) (list_any test xs) (f x (or_left (nat_eq x x) (list_any (nat_eq x) xs) (eq-eqb x x refl)))
     (none_listed test xs (λ j h. f j (or_right (nat_eq j x) (list_any (nat_eq j) xs) h)))
 
--- a register of a successor's least mask is written behind it
+-- a register of a successor's least mask is written after it
 pub next_writes : (p : Listing) (d : Descriptor) (es : List (ℕ × ℕ)) → LeastList p d es → (i r : ℕ) (m : Marked) → slice_get p.code i ≡ Some m
     → next_has p es m i r ≡ true → (j : ℕ) × Edge p false i j × MayWrite p j r
 next_writes p d es least i r m there h =

@@ -182,7 +182,7 @@ creates_more p cert n es code creates creates' create least is same pushed exact
       λ w. (exact r).1 (record { place = w.place; listed = (listed_reached p d es list w.place).1 w.reached; at = w.at; is_there = subst (λ (c : List Marked). slice_get c w.place ≡ Some w.at) (sym same) w.is_there; produced = w.produced }),
     )
 
--- what is written behind an instruction
+-- what is written after an instruction
 pub behind_exact : (p : Listing) (masks : List ℕ) (i r : ℕ) (next : Next) (first second joined : ℕ) → AreExact p masks → ((j : ℕ) → (is_among next j ≡ true) ↔ Follows p i j)
     → has first r ≡ holds_at next.first (λ j. has (get_or masks j 0) r) → has second r ≡ holds_at next.second (λ j. has (get_or masks j 0) r)
     → has joined r ≡ (has first r || has second r) → (has joined r ≡ true) ↔ WrittenBehind p i r
@@ -203,7 +203,7 @@ behind_exact p masks i r next first second joined exact among one two members = 
     from : (j : ℕ) → is_among next j ≡ true → test j ≡ true → WrittenBehind p i r
     from j h held = record { next = j; follows = (among j).0 h; writes = (exact.exact j r).0 held }
 
--- the last writes: each destination is left when those written behind are taken off
+-- the last writes: each destination is left when those written after are taken off
 not_both : (a b : Bool) → (a && not b) ≡ true → b ≡ true → ⊥
 not_both true true h e = cc
 not_both true false h e = cc

@@ -22,7 +22,7 @@ use Rattle.canonical_text.proofs.Spelling.{Reads, line_reads, no_newline}
 abbrev pub onto : List PlacedStatement → Result (List PlacedStatement) AsmFault → Result (List PlacedStatement) AsmFault
 onto front read = read >>= λ others. Ok (front ++ others)
 
--- from line n in a section the text gives these items, and behind it stands line m, in a section of its own
+-- from line n in a section the text gives these items, and after it stands line m, in a section of its own
 pub record Chunk (n : ℕ) (here : Section) (text : List ℕ) (m : ℕ) (behind : Section) (items : List PlacedStatement) : Type 0 where
   pub reads : (rest : List ℕ) → items_from n here (lines (text ++ rest)) ≡ onto items (items_from m behind (lines rest))
 

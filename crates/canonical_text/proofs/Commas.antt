@@ -1,4 +1,4 @@
--- One more piece behind those that are joined: a comma stands before it unless it is the first.
+-- One more piece after those that are joined: a comma stands before it unless it is the first.
 use Rattle.std.proofs.Common.{◌≡◌, ◌++◌, ◌∷◌, [], List, ℕ, Bool, true, false, refl, sym, ap, ◌∙◌, append_assoc, append-nil, ◌<◌, ◌+◌, zero, suc, nat_eq, length, map, take, get_or, arith}
 use Rattle.std.proofs.lemmas.List.{map_more}
 use Rattle.std.proofs.lemmas.Bool.{eqb-true, false_from_ne_true}

@@ -1,5 +1,5 @@
--- A line cut behind a token: the tokens before the cut are read again in front of any bytes that go on no token,
--- and the tokens behind it are those of the bytes behind it.
+-- A line cut after a token: the tokens before the cut are read again in front of any bytes that go on no token,
+-- and the tokens after it are those of the bytes after it.
 use Rattle.std.proofs.Common.{◌≡◌, ℕ, zero, suc, ◌+◌, ◌≤◌, ◌<◌, List, [], ◌∷◌, ◌++◌, Bool, true, false, cond, Option, Some, None, Result, Ok, Err, length, take, drop, arith, refl, ap, sym, subst, ◌∙◌}
 use Rattle.std.specs.Prelude.{◌==◌, not, take_while, slice_get, if◌then◌else◌}
 use Rattle.std.specs.List.{prefix_len, list_all}
@@ -79,7 +79,7 @@ all_run p (b ∷ bs) =
       | false ↦ λ e. refl
     ]) refl
 
--- a run is found again in front of other bytes, where the cut lies behind its end
+-- a run is found again in front of other bytes, where the cut lies after its end
 run_before : (p : ℕ → Bool) (bs y : List ℕ) (e : ℕ) → prefix_len p bs < e → e ≤ length bs → take_while p (take e bs ++ y) ≡ take_while p bs
 run_before p [] y e less within = absurd (omega (arith, less, within))
 run_before p (b ∷ bs) y zero less within = absurd (omega (arith, less))
@@ -175,7 +175,7 @@ single t (Err bad) = refl
 none_there : (k : ℕ) (span : TokenSpan) → (let no : List TokenSpan = [] in slice_get no k) ≡ Some span → ⊥
 none_there k span h = let past : (let no : List TokenSpan = [] in slice_get no k) ≡ None = slice_get_past [] k (omega arith) in cc
 
--- a token ends behind the bytes before it
+-- a token ends after the bytes before it
 here_or_later : (P : Type 0) (here : TokenSpan) (rest : List TokenSpan) (k : ℕ) (span : TokenSpan) → (k ≡ 0 → here ≡ span → P) → ((m : ℕ) → k ≡ suc m → slice_get rest m ≡ Some span → P)
     → slice_get (here ∷ rest) k ≡ Some span → P
 here_or_later P here rest zero span first later h = first refl cc

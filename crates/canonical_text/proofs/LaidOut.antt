@@ -25,7 +25,7 @@ use Rattle.canonical_text.proofs.Meanings.{written}
 use Rattle.canonical_text.proofs.Layouts.{found, swap_bytes, code_symbol, label_rows, rows, lookup-append, other_label}
 use Rattle.canonical_text.proofs.SourceItems.{item, start_items, behind_one, task_items, behind_tasks, label_items, code_statement, code_items, behind_code, byte_items, data_items, section_items, behind_section, section_behind, items}
 
--- One list of items behind another.
+-- One list of items after another.
 
 after_first : (read : Result Layout AsmFault) (xs ys : List PlacedStatement)
     → ((layout : Layout) → laid layout (xs ++ ys) ≡ (laid layout xs >>= λ next. laid next ys))

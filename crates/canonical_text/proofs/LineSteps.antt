@@ -1,4 +1,4 @@
--- One line more: what is written with it is where the lines behind it begin.
+-- One line more: what is written with it is where the lines after it begin.
 use Rattle.std.proofs.Common.{◌≡◌, ℕ, ◌+◌, List, [], ◌∷◌, Option, Some, None, Result, Ok, Err, ap, sym, ◌∙◌, subst, IfSome, IfNone}
 use Rattle.program_statements.specs.Steps.{◌>>=◌}
 use Rattle.program_statements.specs.declared.statement.Section.{Section}

@@ -31,7 +31,7 @@ abbrev IsStop : Stop → Type 0
 IsStop stop.None = ⊥
 IsStop _ = Unit {0}
 
--- behind a forward bit and a stop there is no mark
+-- after a forward bit and a stop there is no mark
 full : (s : Stop) (ts : List Token) (m : Marks) → IsStop s → marks_after (marks true s) ts ≡ Ok m → (ts ≡ []) × (marks true s ≡ m)
 full s [] m there h = (refl, cc)
 full stop.None (t ∷ ts) m there h = absurd there
@@ -54,7 +54,7 @@ full stop.NotTaken (t ∷ ts) m there h = absurd cc
 ended : (P : List Token → Marks → Type 0) (now : Marks) (ts : List Token) (m : Marks) → (ts ≡ []) × (now ≡ m) → P [] now → P ts m
 ended P now ts m is last = subst (λ (xs : List Token). P xs m) (sym is.0) (subst (P []) is.1 last)
 
--- behind a stop there may be a forward bit
+-- after a stop there may be a forward bit
 behind_stop : (s : Stop) (ts : List Token) (m : Marks) → IsStop s → marks_after (marks false s) ts ≡ Ok m
     → ((ts ≡ []) × (marks false s ≡ m)) ⊎ ((ts ≡ forward_mark ∷ []) × (marks true s ≡ m))
 behind_stop s [] m there h = inl (refl, cc)
@@ -75,7 +75,7 @@ behind_stop stop.NotTaken (token.Mark mark.Taken ∷ ts) m there h = absurd cc
 behind_stop stop.NotTaken (token.Mark mark.NotTaken ∷ ts) m there h = absurd cc
 behind_stop stop.NotTaken (t ∷ ts) m there h = absurd cc
 
--- behind a forward bit there may be a stop
+-- after a forward bit there may be a stop
 behind_forward : (ts : List Token) (m : Marks) → marks_after (marks true stop.None) ts ≡ Ok m → IsSpelled (forward_mark ∷ ts) m
 behind_forward [] m h = let same : marks true stop.None ≡ m = cc in subst (IsSpelled (forward_mark ∷ [])) same (before stop.None)
 behind_forward (token.Mark mark.Forward ∷ ts) m h = absurd cc

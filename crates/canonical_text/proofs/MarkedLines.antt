@@ -35,7 +35,7 @@ counted_marks front marks none all same =
     (no_run is_mark (reverse front) (sym (list_any-IsPermutation is_mark front (reverse front) (IsPermutation-reverse front)) ∙ none))
     ∙ same
 
--- the statement of tokens with marks behind them
+-- the statement of tokens with marks after them
 pub marked_statement : (here : Section) (t : Token) (ts marks : List Token) → list_any is_mark (t ∷ ts) ≡ false
     → list_all is_mark (reverse marks) ≡ true → length (reverse marks) ≡ length marks
     → statement_of here ((t ∷ ts) ++ marks) ≡ (unmarked here (t ∷ ts) >>= with_marks marks)

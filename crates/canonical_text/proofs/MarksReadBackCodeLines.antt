@@ -166,7 +166,7 @@ removal_before x t xs other mark =
     (ap (λ (ys : List Token). take (suc (n - 1)) all ++ ys) left ∙ ap (λ (ys : List Token). ys ++ t ∷ []) (ap (λ m. take m all) front ∙ take-append_seam (x ∷ xs) ms))
     (subst MarkFirst (sym left) mark)
 
--- it stands behind a stop
+-- it stands after a stop
 removal_behind : (x t : Token) (xs : List Token) → Removal ((x ∷ xs) ++ t ∷ forward_mark ∷ []) ((x ∷ xs) ++ t ∷ [])
 removal_behind x t xs =
     subst (λ (ys : List Token). Removal ys ((x ∷ xs) ++ t ∷ [])) (append_assoc (x ∷ xs) (t ∷ []) (forward_mark ∷ [])) (removal_last x (xs ++ t ∷ []))

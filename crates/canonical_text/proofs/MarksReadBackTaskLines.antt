@@ -41,7 +41,7 @@ create_back [] name rest = refl
 create_back (r ∷ []) name rest = ap (λ read. read >>= λ x. Ok (with_registers 0 x.0, x.1)) (registers_back r [] (token.Name name ∷ rest) refl)
 create_back (r ∷ q ∷ rs) name rest = ap (λ read. read >>= λ x. Ok (with_registers 0 x.0, x.1)) (registers_back r (q ∷ rs) (token.Name name ∷ rest) refl)
 
--- What keeps the list and what is behind it apart.
+-- What keeps the list and what is after it apart.
 
 separators : (rest : List ℕ) → (separator rest ≡ []) ⊎ (separator rest ≡ 32 ∷ [])
 separators [] = inl refl

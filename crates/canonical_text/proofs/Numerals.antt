@@ -74,7 +74,7 @@ no_leading_zero (suc n) small =
     let first = first_decimal (suc n) (omega arith) (omega arith) in
     and_right (nat_lt 1 (length (decimal (suc n)))) _ (ne_eqb (slice_index (decimal (suc n)) 0) 48 (λ e. omega (arith, first, e)))
 
--- so many hexadecimal digits write each number below this
+-- this many hexadecimal digits write each number below this
 abbrev pub beyond : ℕ → ℕ
 beyond zero = 1
 beyond (suc count) = 16 * beyond count

@@ -134,7 +134,7 @@ operands_read : (tasks : List Descriptor) (os : List InstructionOperand) → All
 operands_read tasks [] t h = done
 operands_read tasks (o ∷ os) t h = more (operand_reads tasks o t h.0) (operands_read tasks os t h.1)
 
--- the tokens behind the name
+-- the tokens after the name
 abbrev pub behind_name : List Descriptor → Op → List Token
 behind_name tasks o = comma_tokens (map (operand_tokens tasks) (operands o))
 

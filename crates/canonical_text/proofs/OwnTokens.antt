@@ -1,4 +1,4 @@
--- The tokens of a statement stand behind those of its line's labels, which stay as they are.
+-- The tokens of a statement stand after those of its line's labels, which stay as they are.
 use Rattle.std.proofs.Common.{◌≡◌, ℕ, zero, suc, ◌+◌, ◌-◌, ◌≤◌, ◌<◌, List, [], ◌∷◌, ◌++◌, true, Result, Ok, length, take, drop, arith, refl, ap, sym, subst, ◌∙◌, append_assoc, length-append, zero-add}
 use Rattle.std.specs.Prelude.{slice_get}
 use Rattle.std.specs.List.{list_all}
@@ -56,7 +56,7 @@ own_place line tokens l i =
     ap (λ n. behind_token (slice_get (drop n (line_spans line)) i)) (front_size tokens l)
     ∙ ap behind_token (get_drop (length l.front) (line_spans line) i)
 
--- the tokens up to one of the statement, and behind it
+-- the tokens up to one of the statement, and after it
 front_tokens : (tokens : List Token) (l : Labelled tokens) (i : ℕ) → take (suc (length l.front + i)) tokens ≡ l.front ++ take (suc i) (after_labels tokens)
 front_tokens tokens l i =
     let size : suc (length l.front + i) ≡ length l.front + suc i = omega arith in
@@ -70,7 +70,7 @@ behind_tokens tokens l i =
 inside : (tokens : List Token) (l : Labelled tokens) (i : ℕ) → i < length (after_labels tokens) → length l.front + i < length tokens
 inside tokens l i h = omega (arith, h, ap length l.whole, length-append l.front (after_labels tokens))
 
--- what stands in a line's text behind a token of the statement
+-- what stands in a line's text after a token of the statement
 abbrev pub text_behind : List ℕ → List Token → ℕ → List ℕ
 text_behind line tokens i = drop (behind_token (slice_get (own_spans line tokens) i)) (strip_carriage_return line)
 

@@ -1,4 +1,4 @@
--- The parts of a program's text, one behind another, are its canonical text.
+-- The parts of a program's text, one after another, are its canonical text.
 use Rattle.std.proofs.Common.{◌≡◌, ◌++◌, List, ℕ, Option, ap, ◌∙◌, append_assoc, find, nat_eq, codes}
 use Rattle.std.specs.List.{flat_map}
 use Rattle.task_descriptor.specs.Listing.{Listing}

@@ -87,7 +87,7 @@ digit_not_start b h =
     (or_from _ _ (and_left (nat_le 65 b) (nat_le b 90) (lt-leb 65 b (omega arith))) (and_left (nat_le 97 b) (nat_le b 122) (lt-leb 97 b (omega arith))))
     (ne_eqb b 95 (λ e. omega arith))
 
--- a number whose magnitude is known, digits and letters behind a first digit
+-- a number whose magnitude is known, digits and letters after a first digit
 number_reads : (b n : ℕ) (bs : List ℕ) → is_ascii_digit b ≡ true → list_all is_ascii_alphanumeric bs ≡ true
     → magnitude_of (b ∷ bs) ≡ Some n → n < 2 ^ 40 → Reads (b ∷ bs) (token.Number (Small (pos n)) ∷ [])
 unfolding kind_of token_of number_of

@@ -137,7 +137,7 @@ reads_back text p q h d =
           ∙ ap (built q) d.well;
     }
 
--- The same of the text's items, however they were read.
+-- So it is of the text's items, however they were read.
 pub law : (text : List ℕ) (items : List PlacedStatement) (p q : Listing) → parse text ≡ Ok p → items_from 1 Text (lines text) ≡ Ok items → DiffersInMarks p q items
     → (bytes : List ℕ) × (marked_text text q ≡ Ok bytes) × (length bytes ≤ 4194304 → parse bytes ≡ Ok q)
 law text items p q h read d =

@@ -48,7 +48,7 @@ no_return (b ∷ bs) (suc i) h = no_return bs i (and_parts (is_text_byte b) (lis
 kept : (text : List ℕ) → list_all is_text_byte text ≡ true → strip_carriage_return text ≡ text
 kept text h = cond-false (slice_index text (length text - 1) == 13) (take (length text - 1) text) text (no_return text (length text - 1) h)
 
--- A line is its text and, it may be, a carriage return, which stands behind other texts as well.
+-- A line is its text and, it may be, a carriage return, which stands after other texts as well.
 
 pub record Tail (line text tail : List ℕ) : Type 0 where
   pub whole : line ≡ text ++ tail
@@ -103,7 +103,7 @@ part_plain : (p : ℕ → Bool) (e : ℕ) (x : List ℕ) → list_all p x ≡ tr
 part_plain p e x h =
     and_parts (list_all p (take e x)) (list_all p (drop e x)) (sym (list_all-append p (take e x) (drop e x)) ∙ ap (list_all p) (take-append-drop e x) ∙ h)
 
--- the cut behind a token of a text
+-- the cut after a token of a text
 pub text_cut : (x : List ℕ) (ts : List Token) (i : ℕ) → tokens_after 0 x ≡ Ok ts → i < length ts
     → Cut 0 i (behind_token (slice_get (spans_after 1 0 x) i)) x ts
 text_cut x ts i read inside =

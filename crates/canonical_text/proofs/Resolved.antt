@@ -191,7 +191,7 @@ codes_back labels tasks n index (m ∷ code) p h =
     ∙ codes_back labels tasks (behind_one n at + 1) (index + 1) code (record p { code = p.code ++ m ∷ [] }) h
     ∙ ap (λ (all : List Marked). Ok (record p { code = all })) (append_assoc p.code (m ∷ []) code)
 
--- data go behind data
+-- data go after data
 data_twice : (p : Listing) (here : Section) (a b : List ℕ) → with_data (with_data p here a) here b ≡ with_data p here (a ++ b)
 data_twice p section.Text a b = refl
 data_twice p section.Data a b = ap (λ (all : List ℕ). record p { bytes = all }) (append_assoc p.bytes a b)

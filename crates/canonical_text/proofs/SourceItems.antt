@@ -14,7 +14,7 @@ use Rattle.canonical_text.proofs.Meanings.{target_of, written}
 abbrev pub item : ℕ → Section → Statement → PlacedStatement
 item n here s = record { line = n; section = here; statement = s }
 
--- Each with the number of its line, and the number of the line behind it.
+-- Each with the number of its line, and the number of the line after it.
 
 abbrev pub start_items : ℕ → Option Descriptor → List PlacedStatement
 start_items n None = []

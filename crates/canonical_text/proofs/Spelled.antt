@@ -1,4 +1,4 @@
--- One more operand behind those that are written: a blank stands before the first, a comma before each other.
+-- One more operand after those that are written: a blank stands before the first, a comma before each other.
 use Rattle.std.proofs.Common.{◌≡◌, ◌++◌, ◌∷◌, [], List, ℕ, Bool, refl, sym, ap, ◌∙◌, append_assoc, ◌<◌, ◌+◌, nat_eq, length, map, take, get_or}
 use Rattle.std.proofs.lemmas.List.{map_more}
 use Rattle.canonical_text.specs.CanonicalText.{commas, no_pieces, spelled, before_operand}

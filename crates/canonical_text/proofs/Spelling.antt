@@ -16,7 +16,7 @@ use Rattle.program_tokens.specs.declared.token.LineFault.{LineFault}
 use Rattle.program_tokens.specs.declared.token.LineFault.TheVariants as fault
 use Rattle.program_tokens.proofs.Steps.{with_tokens, token_again, blank_step}
 
--- no token goes on behind the end of a text, nor with such a byte
+-- no token goes on after the end of a text, nor with such a byte
 abbrev pub ends : List ℕ → Bool
 ends [] = true
 ends (b ∷ bs) = not (is_name_byte b)

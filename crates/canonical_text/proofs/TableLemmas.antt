@@ -1,4 +1,4 @@
--- The table of the tasks from some on, from the last task to the first: each begins before those behind it.
+-- The table of the tasks from some on, from the last task to the first: each begins before those after it.
 use Rattle.std.specs.Prelude.{ℕ, suc, ◌≡◌, ◌<◌, ◌≤◌, ◌==◌, Bool, true, false, Option, Some, None, List, ◌∷◌, length, find, drop, replicate, slice_get, slice_index, slice_set, if◌then◌else◌}
 use Rattle.std.specs.Option.{option_copied}
 use Rattle.std.specs.Slice.{IsItemAt}

@@ -1,4 +1,4 @@
--- The tokens of a task: what stands before its create mask, the mask, and what stands behind it; with another mask
+-- The tokens of a task: what stands before its create mask, the mask, and what stands after it; with another mask
 -- it is the same task with that.
 use Rattle.std.proofs.Common.{◌≡◌, ℕ, suc, ◌+◌, ◌*◌, List, [], ◌∷◌, ◌++◌, Bool, true, false, Option, Some, None, Result, Ok, Err, length, arith, refl, ap, sym, ◌∙◌}
 use Rattle.std.proofs.lemmas.List.{append-nil}

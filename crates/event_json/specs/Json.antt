@@ -14,7 +14,7 @@ use Rattle.event_json.specs.Times.{steps_of}
 use Rattle.event_json.specs.declared.source.EventSource.{EventSource}
 use Rattle.event_json.specs.declared.last_line.LastLine.{LastLine}
 
--- a line for what the lines are; a line for each of some events on a machine of so many units at the start of a
+-- a line for what the lines are; a line for each of some events on a machine of this many units at the start of a
 -- program of this name, which may be empty, whose instructions stand at these places, and whose events were chosen by
 -- this source; and a line for how the machine then
 -- stands

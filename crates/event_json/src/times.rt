@@ -40,7 +40,7 @@ pub(crate) fn steps_of(
     }
 }
 
-/// The time after an event of this time, where so many units are at work.
+/// The time after an event of this time, where this many units are at work.
 fn time_with(clock: &Clock, active: u64, time: u32, event: Event) -> u32
     requires { time < 2 ^ 31 }
     ensures value { result ≡ time_after clock.now active time event }

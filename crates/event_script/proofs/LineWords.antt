@@ -17,7 +17,7 @@ position_named name tasks =
     let at = λ (n : ℕ). λ (long : ℕ). cond {A = Option ℕ} (ltb n long) (Some n) None in
     ap (λ (n : ℕ). at n (length (names_in tasks))) (place_named name tasks) ∙ ap (at (position_or_len (λ task. bytes_eq task.name name) tasks)) (length-map tasks (λ (task : Descriptor). task.name))
 
--- three words, and more behind them
+-- three words, and more after them
 pub four_words : (names : List (List ℕ)) (line verb operands first second third rest : List ℕ)
     → slice_split is_space line ≡ verb ∷ slice_split is_space operands
     → slice_split is_space operands ≡ first ∷ slice_split is_space second

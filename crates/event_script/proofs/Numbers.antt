@@ -8,7 +8,7 @@ use Rattle.std.proofs.lemmas.List.{at_drop_all}
 use Rattle.std.proofs.lemmas.Option.{cond_some}
 use Rattle.event_script.specs.EventScript.{has_leading_zero, is_number, number_in}
 
--- the number that digits write behind those of n, where each is one
+-- the number that digits write after those of n, where each is one
 abbrev pub number_after : ℕ → List ℕ → Option ℕ
 number_after n [] = Some n
 number_after n (c ∷ cs) = cond (is_ascii_digit c) (number_after (n * 10 + digit_value c) cs) None

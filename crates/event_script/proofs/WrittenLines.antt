@@ -174,7 +174,7 @@ record IsLineOf (names : List (List ℕ)) (event : Event) (line : List ℕ) : Ty
   no_newline : Lacks is_newline line
 
 module _ (names : List (List ℕ)) where
-  -- a verb with a position behind it
+  -- a verb with a position after it
   with_position : (verb : List ℕ) (k : ℕ) (event : Event) → k ≤ 999 → Lacks is_space verb → Lacks is_newline verb
       → event_of names (verb ∷ decimal k ∷ []) ≡ at_position verb (number_in (decimal k)) → at_position verb (Some k) ≡ Ok event
       → IsLineOf names event (verb ++ 32 ∷ decimal k)
@@ -186,7 +186,7 @@ module _ (names : List (List ℕ)) where
         no_newline = lacks_append is_newline verb (32 ∷ decimal k) newline (refl, number.1.no_newline);
       }
 
-  -- a verb with a position and a register behind it
+  -- a verb with a position and a register after it
   with_register : (verb : List ℕ) (k r : ℕ) (event : Event) → k ≤ 999 → r < 34 → Lacks is_space verb → Lacks is_newline verb
       → with_two verb (Some k) (Some r) ≡ Ok event
       → IsLineOf names event (verb ++ 32 ∷ (decimal k ++ 32 ∷ (36 ∷ decimal r)))

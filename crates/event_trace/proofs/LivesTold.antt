@@ -72,7 +72,7 @@ executed_more false life = none_more life
 
 -- ---- what changes tell, where they are those of an event
 
--- the unit at position k is at work after the event, among so many
+-- the unit at position k is at work after the event, among this many
 record Stays (k left : ℕ) (e : Event) (cs : List Change) : Type 0 where
   pub to : ℕ
   pub goes_to : position_after k e ≡ Some to

@@ -85,7 +85,7 @@ none_unless other cs none = refl
 
 -- ---- the units of each event
 
--- the unit behind one that retires
+-- the unit after one that retires
 abbrev pub next_head : List Active → List Change
 next_head [] = []
 next_head (u ∷ us) = AtUnit 1 u.task BecameHead ∷ []

@@ -107,7 +107,7 @@ abbrev pub retired : Option Active → List Change
 retired None = []
 retired (Some u) = AtUnit 0 u.task (Retired (unwrap_or (exit_of u.place) 0)) ∷ []
 
--- the unit behind one that retires: before the event it was at position 1
+-- the unit after one that retires: before the event it was at position 1
 abbrev pub became_head : (before : ℕ → Bool) → Option Active → List Change
 became_head before None = []
 became_head before (Some v) = AtUnit 1 v.task BecameHead ∷ taken before v

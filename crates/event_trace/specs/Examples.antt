@@ -46,7 +46,7 @@ life task unit first last executed ending = record {
   ending = ending;
 }
 
--- two tasks begin, each executes an instruction, and the first retires; behind the other, which executes one more, a
+-- two tasks begin, each executes an instruction, and the first retires; after the other, which executes one more, a
 -- third begins, and is dropped
 abbrev some_changes : List (List Change)
 some_changes =
@@ -63,7 +63,7 @@ some_changes =
 pub lives_of_three : lives_told 2 some_changes ≡ life 0 0 0 4 1 ended.Retired ∷ life 1 1 1 7 2 ended.Unfinished ∷ life 2 0 5 7 0 ended.Dropped ∷ []
 lives_of_three = refl
 
--- what is behind a unit that began wrongly is squashed with it
+-- what is after a unit that began wrongly is squashed with it
 pub lives_squashed : lives_told 3 ((AtUnit 0 0 (Began 0) ∷ []) ∷ (AtUnit 1 1 (Began 5) ∷ []) ∷ (AtUnit 2 1 (Began 5) ∷ []) ∷ (AtUnit 1 1 Squashed ∷ AtUnit 2 1 Squashed ∷ []) ∷ [])
     ≡ life 0 0 0 3 0 ended.Unfinished ∷ life 1 1 1 3 0 ended.Squashed ∷ life 1 2 2 3 0 ended.Squashed ∷ []
 lives_squashed = refl

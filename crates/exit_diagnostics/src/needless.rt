@@ -27,12 +27,11 @@ impl Model for Instructions {
 }
 
 ghost use Rattle.std.specs.Prelude.{◌≡◌, ℕ, ◌<◌, ◌↔◌, true, length, slice_get, IfOk, Some};
-ghost use Rattle.std.specs.List.{list_any};
 ghost use Rattle.task_descriptor.specs.Listing.{Listing};
 ghost use Rattle.task_graph.specs.Members.{Reaches};
 ghost use Rattle.task_graph.specs.Neighbours.{Follows, is_among as is_one_of};
 ghost use Rattle.task_graph.specs.SearchSteps.{is_marked as is_marked_of};
-ghost use Rattle.mark_subjects.specs.Subjects.{targets_of, end_in};
+ghost use Rattle.mark_subjects.specs.Subjects.{end_in};
 ghost use Rattle.exit_diagnostics.specs.Needless.{unstopped, without_stop, with_code, is_past, ends_if_indirect, stays_right, comes_to, IsNeedless};
 ghost use Rattle.exit_diagnostics.specs.NeedlessSteps.{is_listed, exits_listed, is_right, some_wrong, exits_to, some_exits_to, lacks, some_lacks, is_wrong_target, some_target_wrong, all_right};
 
@@ -262,8 +261,8 @@ fn all_right(subject: &Subject, code: &Instructions, marks: &[bool], task: u32, 
 }
 
 /// Whether a task ends at an instruction that should have no stop: without it, this task and each other one that reaches
-/// the instruction go right wherever they come from there, as far as exits are concerned. It looks at each instruction at
-/// most once for each target of the task, and at each task at most as often.
+/// the instruction go right wherever they come from there, as far as exits are concerned. It searches the program once,
+/// then looks at each instruction once, and at each instruction and each task once more for each target of the task.
 ///
 /// # Errors
 ///

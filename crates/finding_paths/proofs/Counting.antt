@@ -41,7 +41,7 @@ first_contains most xs x h =
     let less = take_less most xs in
     (h.0, omega (arith, less, h.1), sym (get_or-take most xs h.0 x (omega (arith, few, h.1))) ∙ h.2)
 
--- the list with the first of what is behind it
+-- the list with the first of what is after it
 pub list_more : {X : Type 0} (most : ℕ) (xs ys all list new : List X) → list ≡ take most xs → xs ++ ys ≡ all → new ≡ list ++ take (most - length list) ys → new ≡ take most all
 list_more most xs ys all list new first both appended =
     appended ∙ ap (λ zs. zs ++ take (most - length zs) ys) first ∙ sym (take_room most xs ys) ∙ ap (take most) both
@@ -114,7 +114,7 @@ places_few : (entry : ℕ) (es : List (ℕ × ℕ)) → length (places entry es)
 places_few entry [] = omega arith
 places_few entry (e ∷ es) = places_step entry e es (nat_lt e.0 entry) (nat_eq e.0 entry) (places_few entry es)
 
--- the last index is below 4,096, and so many indices stand before it
+-- the last index is below 4,096, and this many indices stand before it
 list_few : (es : List (ℕ × ℕ)) → Rises es → length es ≤ 4096
 list_few [] rises = omega arith
 list_few (e ∷ es) rises =

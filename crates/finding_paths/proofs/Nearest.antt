@@ -37,7 +37,7 @@ no_fewer visits order k l m n (behind {k = i} {n = s} {v = u} is near) at_first 
 no_fewer visits order k l m n (behind {k = i} {n = s} {v = u} is near) (behind {k = j} {n = t} {v = v} also far) le =
     let sooner = no_fewer visits order u.from v.from s t near far (order i j u v (omega arith) is also) in omega arith
 
--- a visit of the index in fewer steps, and one behind the first
+-- a visit of the index in fewer steps, and one after the first
 record Near (visits : List Visit) (index bound : ℕ) : Type 0 where
   place : ℕ
   stands : StandsAt visits place index

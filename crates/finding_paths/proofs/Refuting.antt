@@ -37,7 +37,7 @@ may_write : (p : Listing) (i k r : ℕ) → Path p i k → is_sought p (Writes r
 may_write p i k r path h =
     let w = writer (slice_get p.code k) k r h in record { place = k; comes = path; at = w.at; is_there = w.is_there; writes = w.writes }
 
--- the first edge of a path, and what is behind it
+-- the first edge of a path, and what is after it
 record Split (p : Listing) (i k : ℕ) : Type 0 where
   next : ℕ
   edge : Edge p false i next

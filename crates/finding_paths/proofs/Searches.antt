@@ -1,5 +1,5 @@
--- A search along edges: each mark is of a visit behind the first; each inner successor of a visit that was
--- looked at is marked; and none that was looked at, behind the first, is sought.
+-- A search along edges: each mark is of a visit after the first; each inner successor of a visit that was
+-- looked at is marked; and none that was looked at, after the first, is sought.
 use Rattle.std.proofs.Common.{◌≡◌, ℕ, ◌+◌, ◌-◌, ◌<◌, ◌≤◌, ◌⊎◌, ◌↔◌, Bool, true, false, if◌then◌else◌, Option, Some, None, List, [], ◌∷◌, ◌++◌, length, get_or, slice_get, replicate, refl, sym, ◌∙◌, ap, subst, inl, inr, arith, length-append, zero, suc}
 use Rattle.std.specs.Prelude.{sum_by, slice_set, IfSome, IfNone}
 use Rattle.std.proofs.lemmas.Bool.{cases_eq, cases_Bool, or_cases}

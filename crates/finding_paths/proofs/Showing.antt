@@ -39,7 +39,7 @@ index_sought p i m there = ap (λ (o : Option Marked). is_sought_at o (At i) i) 
 both : (a b : Bool) → a ≡ true → b ≡ true → a && b ≡ true
 both a b e f = ap (λ (x : Bool). x && b) e ∙ f
 
--- an edge and the path behind it are a path of one edge at least
+-- an edge and the path after it are a path of one edge at least
 edge_first : (p : Listing) (i j k : ℕ) → Edge p false i j → Path p j k → Onward p i k
 edge_first p i j k e stay = record { before = i; path = stay; edge = e }
 edge_first p i j k e (onward {j = h} path last) = record { before = h; path = path_before p i j h e path; edge = last }

@@ -74,7 +74,7 @@ module _ (p : Listing) where
       some.1 ∙ ap Some (sym (value_right p h r some.0 some.1) ∙ ap (λ (k : ℕ). (plain_of p k).regs r) h.count) in
       subst (λ (y : Active). value y r ≡ Some ((plain_of p (c + length x.log)).regs r)) same is
 
-  -- a unit behind the head changes
+  -- a unit after the head changes
   pub behind_changes : (c : ℕ) (us : List Active) (next : ℕ) (memory : ℕ → ℕ) (output : List ℕ) (k : ℕ) (u v : Active) → slice_get us (suc k) ≡ Some u → v.task ≡ u.task → ((q : Bool) (i : ℕ) → UnitRight p q i u → UnitRight p q i v) → QueueRight p c us next memory output → QueueRight p c (slice_set us (suc k) v) next memory output
   behind_changes c [] next memory output k u v e same keeps q = absurd (cc)
   behind_changes c (x ∷ us) next memory output k u v e same keeps q = record {

@@ -146,7 +146,7 @@ module _ (p : Listing) where
         subst (Good p) (sym is) (good_queue s queue runs inv
         (moved_on p fits sound (count_c s) s.queue s.next s.memory s.output d.ahead r d.word d.giver d.unit d.is_giver here d.has_word inv.queue))
 
-    -- Exec behind the head: memory, output and outcome stay
+    -- Exec after the head: memory, output and outcome stay
     ahead_good : (s : State) (k : ℕ) (u : Active) (i : ℕ) (at : Marked) (a b : ℕ) → s.outcome ≡ standing.Running → InvAt p (count_c s) s → slice_get s.queue (suc k) ≡ Some u → IsNext p u i at a b → may_run_ahead at.op a ≡ true → Good p (exec_leaves p s (suc k) u at i a b)
     ahead_good s k u i at a b runs inv is_u is_next ahead =
         settled (exec_leaves p s (suc k) u at i a b) (ap stands (ahead_runs at.op a ahead)) (record {

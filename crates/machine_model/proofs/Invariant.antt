@@ -24,12 +24,12 @@ abbrev pub PlaceRight : Listing → (t n m : ℕ) → Spot → Type 0
 PlaceRight p t n m (Inside i) = Path p (task_at p t).entry i × Follows p n m × ((plain_of p m).pc ≡ address i)
 PlaceRight p t n m (Stopped at) = Ends p n m × ((plain_of p m).pc ≡ at)
 
--- nothing behind this place writes r
+-- nothing after this place writes r
 abbrev pub Last : Listing → Spot → ℕ → Type 0
 Last p (Inside i) r = MayWrite p i r → ⊥
 Last p (Stopped at) r = Unit {0}
 
--- a unit behind the head has left memory and output as they were, in the plain run too
+-- a unit after the head has left memory and output as they were, in the plain run too
 abbrev pub Quiet : Listing → (behind : Bool) → (n m : ℕ) → Type 0
 Quiet p false n m = Unit {0}
 Quiet p true n m = ((plain_of p m).memory ≡ (plain_of p n).memory) × ((plain_of p m).output ≡ (plain_of p n).output)

@@ -104,7 +104,7 @@ pub record Drains (p : Listing) (s : State) (k r : ℕ) (s' : State) : Type 0 wh
   pub sends : Sends p unit r after
   pub is : s' ≡ record s { queue = slice_set s.queue k after }
 
--- Squash: the next unit begins elsewhere than this one stopped, so all behind this one are removed
+-- Squash: the next unit begins elsewhere than this one stopped, so all after this one are removed
 
 pub record Squashes (p : Listing) (s : State) (k : ℕ) (s' : State) : Type 0 where
   pub unit : Active
@@ -160,7 +160,7 @@ pub record Faults (p : Listing) (s : State) (s' : State) : Type 0 where
   pub is_unlisted : is_listed p head.task exit ≡ false
   pub is : s' ≡ record s { outcome = standing.Unlisted exit }
 
--- Drop: a unit behind the head and all behind it are removed
+-- Drop: a unit after the head and all after it are removed
 
 pub record Drops (s : State) (k : ℕ) (s' : State) : Type 0 where
   pub unit : Active

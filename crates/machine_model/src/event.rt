@@ -15,14 +15,14 @@ pub enum Event {
     Transfer(u32, Reg),
     /// The stopped unit at position k sends this register of its create mask.
     Drain(u32, Reg),
-    /// The unit at position k has stopped, and the next unit begins elsewhere: all behind k are removed.
+    /// The unit at position k has stopped, and the next unit begins elsewhere: all after k are removed.
     Squash(u32),
     /// The head, stopped at a listed exit with its create mask sent, passes on its registers and reads,
     /// and leaves.
     Retire,
     /// The head has stopped at an address that is not listed: the run ends.
     Fault,
-    /// The unit at position k, which is not the head, and all behind it are removed.
+    /// The unit at position k, which is not the head, and all after it are removed.
     Drop(u32),
 }
 

@@ -171,7 +171,7 @@ drop_all [] (suc k) h = refl
 drop_all (x ∷ xs) zero h = absurd (omega arith)
 drop_all (x ∷ xs) (suc k) h = drop_all xs k (omega arith)
 
--- at the end of the list the entry is behind, where nothing is found
+-- at the end of the list nothing is found
 pub ends_begun : (p : Listing) (d : Descriptor) (es entries : List (ℕ × ℕ)) (t : ℕ) (begun : Bool) (k : ℕ) → length entries ≤ k → d.entry < length p.code
     → flat_map (rules_at p d es t) (left_places begun d.entry (drop k entries)) ≡ [] → begun ≡ true
 ends_begun p d es entries t true k past inside nothing = refl

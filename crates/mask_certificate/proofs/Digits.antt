@@ -21,12 +21,12 @@ table_right byte small = eqb-true _ _ (agree_below_at (λ b. eqb (get_or MASK_DI
 pub digit_most : (byte : ℕ) → byte < 256 → mask_digit byte ≤ 2 ^ 34
 digit_most byte small = leb-true _ _ (agree_below_at (λ b. leb (mask_digit b) (2 ^ 34)) (λ _. true) 256 byte refl small)
 
--- digits behind others
+-- digits after others
 pub after_append : (n : ℕ) (front back : List ℕ) → digits_value_after 16 n (front ++ back) ≡ digits_value_after 16 (digits_value_after 16 n front) back
 after_append n [] back = refl
 after_append n (c ∷ front) back = after_append (n * 16 + digit_value c) front back
 
--- each digit behind a number makes it 16 times as great, or more
+-- each digit after a number makes it 16 times as great, or more
 after_least : (n least : ℕ) (ds : List ℕ) → least ≤ n → least * 16 ^ length ds ≤ digits_value_after 16 n ds
 after_least n least [] le = omega arith
 after_least n least (c ∷ ds) le =

@@ -1,5 +1,5 @@
 -- A text in parts is read as its lines are: the lines of what is left of a part come first, and then those
--- of the parts behind it.
+-- of the parts after it.
 use Rattle.std.proofs.Common.{◌≡◌, ◌⊎◌, ℕ, zero, suc, ◌+◌, ◌-◌, ◌<◌, Bool, true, false, cond, not, ◌&&◌, eqb, List, [], ◌∷◌, ◌++◌, length, take, drop, Option, Some, None, Ok, Err, refl, sym, ◌∙◌, ap, inl, inr, arith, nat_eq}
 use Rattle.std.specs.Prelude.{codes, slice_index}
 use Rattle.std.specs.List.{list_all, position, starts_with}

@@ -108,7 +108,7 @@ module _ (entries : List (ℕ × ℕ)) (rises : Rises entries) (index : ℕ) whe
 
 -- ---- a table of positions
 
--- so many indices stand before that of an entry
+-- this many indices stand before that of an entry
 pub position_small : (entries : List (ℕ × ℕ)) → Rises entries → (k : ℕ) → k < length entries → k ≤ (get_or entries k (0, 0)).0
 position_small entries rises zero lt = omega arith
 position_small entries rises (suc k) lt =
@@ -144,7 +144,7 @@ positions_more entries rises positions n index lt is long so_far k less = elim (
       get_or-set_other positions index (get_or entries k (0, 0)).0 n 0 apart ∙ so_far k before
 ]
 
--- an index behind the code
+-- an index after the code
 pub mask_beyond : (entries : List (ℕ × ℕ)) → Rises entries → (index : ℕ) → 4096 ≤ index → mask_at entries index ≡ None
 mask_beyond entries rises index beyond = absent entries index (λ k lt same. omega (arith, index_small entries rises k lt))
 

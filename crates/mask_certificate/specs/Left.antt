@@ -14,7 +14,7 @@ abbrev pub left_of : Left → List ℕ
 left_of left = left.rest ++ joined left.behind
 
 -- How far a text in parts has been read: text is the part being read, with blocks of it; rest is what is
--- left of that part, and behind are the parts after it. Nothing is left of a part only if no part comes
+-- left of that part, and `behind` are the parts after it. Nothing is left of a part only if no part comes
 -- after it.
 pub record IsLeft (text : List ℕ) (blocks : List BlockView) (rest : List ℕ) (behind : List (List ℕ)) : Type 0 where
   pub end : IsEnd text rest

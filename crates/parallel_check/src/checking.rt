@@ -42,7 +42,7 @@ pub fn verdict_shared<G: CheckGate, R: Threads + Sync>(
     Ok(verdict_by(rt, alloc, program, cert, workers, gate)?)
 }
 
-/// The findings of all tasks, as `verdict_shared` has them, by so many workers.
+/// The findings of all tasks, as `verdict_shared` has them, by this many workers.
 ///
 /// # Errors
 ///

@@ -92,7 +92,7 @@ assigned a v q t accum n port u pushed is reserved arrived sent more =
     let assigns = more ∙ add-one v.assigns in
     λ j. record (state_of v) { queue = queue j; assigns = assigns j }
 
--- the head retired: what it sent is in the registers, its log behind the reads, and its commit behind the
+-- the head retired: what it sent is in the registers, its log after the reads, and its commit after the
 -- commits
 pub retired : (p : Listing) (v v0 : ProcessorView) (u : Active) (q : QueueView) (regs : List ℕ) (exit create : ℕ) (reads : List Read) (commits : List Commit) → v ≡ v0 → slice_get (actives v.queue) 0 ≡ Some u → option_and_then (λ x. exit_of x.place) (slice_get (actives v0.queue) 0) ≡ Some exit → create ≡ (task_at p u.task).create → ((r : ℕ) → slice_index regs r ≡ unwrap_or (if has create r then u.sent r else None) (slice_index v.registers r)) → actives q ≡ filled (λ r. slice_index regs r) (drop 1 (actives v.queue)) → reads ≡ v.reads ++ u.log → commits ≡ v.commits ++ record { task = u.task; exit = exit; count = length u.log } ∷ [] → state_of (record v { queue = q; registers = regs; next = exit; reads = reads; commits = commits }) ≡ after p (state_of v0) Retire
 retired p v v0 u q regs exit create reads commits same at exits creates handed queue joined listed =

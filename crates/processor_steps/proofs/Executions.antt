@@ -58,7 +58,7 @@ head_steps p units old new runs step regs next reads commits assigns =
       };
     }
 
--- a unit behind it: a burst of one step
+-- a unit after it: a burst of one step
 
 arrived_stays : (o : Outcome) (p : Listing) (u : Active) (m : Marked) (index a b : ℕ) (memory : ℕ → ℕ) → (executed o p u m index a b memory).arrived ≡ u.arrived
 arrived_stays outcome.Running p u m index a b memory = refl

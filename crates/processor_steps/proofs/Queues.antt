@@ -79,7 +79,7 @@ reserved_more p us i u r within here =
     ∙ reserved_joined p (take i us) (u ∷ []) r
     ∙ ap (λ (b : Bool). is_reserved p (map active_of (take i us)) r || b) (or_false (creates p (active_of u).task r))
 
--- behind a head that changed the queue is as it was
+-- after a head that changed the queue is as it was
 pub behind_head : {X : Type 0} (xs : List X) (x : X) → drop 1 (slice_set xs 0 x) ≡ drop 1 xs
 behind_head [] x = refl
 behind_head (y ∷ ys) x = refl

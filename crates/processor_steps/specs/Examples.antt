@@ -35,7 +35,7 @@ head = record {
       ∷ [];
 }
 
--- Behind it, another unit on the same task has taken register 8, written 2 to it and sent it; 9 and 10 are reserved.
+-- After it, another unit on the same task has taken register 8, written 2 to it and sent it; 9 and 10 are reserved.
 abbrev pub tail : UnitView
 tail = record {
   task = 0;

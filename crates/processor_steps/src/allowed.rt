@@ -127,7 +127,7 @@ impl Processor {
         Ok(())
     }
 
-    /// Whether all units behind a position may be squashed.
+    /// Whether all units after a position may be squashed.
     pub(crate) fn may_squash(&self, program: &Program, position: u32) -> Result<(), Refused>
         ensures { result_err result ≡ refusal program.now self.now.queue.capacity (state_of self.now) (event.Squash position) }
     {
@@ -176,7 +176,7 @@ impl Processor {
         Ok(exit)
     }
 
-    /// Whether the unit behind the head, if there is one, begins at an address.
+    /// Whether the unit after the head, if there is one, begins at an address.
     pub(crate) fn next_begins_at(&self, program: &Program, at: u32) -> bool
         ensures { result ≡ next_begins program.now (drop 1 (state_of self.now).queue) at }
     {
@@ -203,7 +203,7 @@ impl Processor {
         Ok(exit)
     }
 
-    /// Whether the unit at a position and all behind it may be dropped.
+    /// Whether the unit at a position and all after it may be dropped.
     pub(crate) fn may_drop(&self, program: &Program, position: u32) -> Result<(), Refused>
         ensures { result_err result ≡ refusal program.now self.now.queue.capacity (state_of self.now) (event.Drop position) }
     {

@@ -25,7 +25,7 @@ use unit_core::read_log::ReadLog;
 use unit_core::unit::Unit;
 
 impl Processor {
-    /// A unit begins a task behind the tail.
+    /// A unit begins a task after the tail.
     pub(crate) fn assign(&mut self, alloc: Global, accepted: &Accepted, task: u32)
         requires there { task < length accepted.now.program.tasks }
         requires free { length self.old.queue.units < self.old.queue.capacity }
@@ -86,7 +86,7 @@ impl Processor {
         self.queue.send(position as usize, accepted, register);
     }
 
-    /// Removes all units behind a position.
+    /// Removes all units after a position.
     pub(crate) fn squash(&mut self, program: &Program, position: u32)
         ensures state { state_of self.new ≡ after program.now (state_of self.old) (event.Squash position) }
         ensures kept { Keeps self.old self.new }
@@ -96,7 +96,7 @@ impl Processor {
         self.queue.keep(position as usize + 1);
     }
 
-    /// Removes the unit at a position and all behind it.
+    /// Removes the unit at a position and all after it.
     pub(crate) fn drop_from(&mut self, program: &Program, position: u32)
         ensures state { state_of self.new ≡ after program.now (state_of self.old) (event.Drop position) }
         ensures kept { Keeps self.old self.new }

@@ -212,7 +212,7 @@ impl Queue {
         }
     }
 
-    /// The unit at a position behind the head executes one instruction.
+    /// The unit at a position after the head executes one instruction.
     #[inline(always)]
     pub(crate) fn exec_ahead(&mut self, position: usize, accepted: &Accepted) -> Result<(), Refused>
         requires behind { 0 < position }

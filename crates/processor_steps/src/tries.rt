@@ -134,7 +134,7 @@ impl Processor {
         self.queue.exec_head(accepted, &mut self.world)
     }
 
-    /// Like `exec_head`, but for the unit at a position behind the head.
+    /// Like `exec_head`, but for the unit at a position after the head.
     ///
     /// # Errors
     ///

@@ -1,4 +1,4 @@
--- The first line of a text ends at its first LF, and the lines behind it are those of what is left.
+-- The first line of a text ends at its first LF, and the lines after it are those of what is left.
 use Rattle.std.proofs.Common.{◌≡◌, ℕ, ◌+◌, ◌-◌, ◌<◌, ◌≤◌, List, [], ◌∷◌, false, cond, Some, None, length, take, drop, arith, sym, ap, ◌∙◌}
 use Rattle.std.specs.Prelude.{◌==◌, nat_lt}
 use Rattle.std.specs.List.{position, position_or_len, slice_split}

@@ -22,7 +22,7 @@ unfolding register_named
 named_zero word is_zero =
     sym (position-cons (λ name. bytes_eq word name) (codes "zero") (drop 1 register_names) ∙ ap (λ b. cond b (Some 0) (option_map (λ n. n + 1) (position (λ name. bytes_eq word name) (drop 1 register_names)))) is_zero)
 
--- the registers behind it
+-- the registers after it
 pub named_later : (word : List ℕ) (place : Option ℕ) → bytes_eq word (codes "zero") ≡ false
     → place ≡ position (λ name. bytes_eq word name) (drop 1 register_names) → option_map (λ n. n + 1) place ≡ register_named word
 unfolding register_named

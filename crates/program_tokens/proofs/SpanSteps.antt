@@ -30,7 +30,7 @@ front_span : (column b : ℕ) (bs : List ℕ) → is_blank b ≡ false → (b ==
 unfolding spans_after
 front_span column b bs not_blank not_comment = rw (not_blank, not_comment) refl
 
--- a token's place and those behind it, as the code cuts them
+-- a token's place and those after it, as the code cuts them
 pub span_step : (column : ℕ) (rest bs behind : List ℕ) (b n : ℕ) (kind : Kind) → rest ≡ b ∷ bs → is_blank b ≡ false → b ≢ 35
     → kind ≡ kind_of b bs → n ≡ length (take_while (goes_on kind) bs) → behind ≡ drop (1 + n) rest
     → spans_after column 0 rest ≡ record { column = column; len = 1 + n } ∷ spans_after (column + (1 + n)) 0 behind

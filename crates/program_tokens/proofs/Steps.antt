@@ -48,7 +48,7 @@ run-le kind bs = omega (arith, length-take-le (prefix_len (goes_on kind) bs) bs 
 run_is : (kind : Kind) (bs : List ℕ) → take (length (take_while (goes_on kind) bs)) bs ≡ take_while (goes_on kind) bs
 run_is kind bs = ap (λ n. take n bs) (length-take-le (prefix_len (goes_on kind) bs) bs (prefix_len-le-length (goes_on kind) bs))
 
--- a token and what is behind it, as the code cuts them
+-- a token and what is after it, as the code cuts them
 pub token_step : (rest : List ℕ) (b : ℕ) (bs : List ℕ) (n : ℕ) → rest ≡ b ∷ bs → is_blank b ≡ false → (b == byte "#") ≡ false
     → n ≡ length (take_while (goes_on (kind_of b bs)) bs)
     → tokens_after 0 rest ≡ with_token (token_of (kind_of b bs) (take (1 + n) rest)) (tokens_after 0 (drop (1 + n) rest))
@@ -64,7 +64,7 @@ token_step rest b bs n is_rest not_blank not_comment is_run =
     ∙ ap (λ text. with_token (token_of (kind_of b bs) text) (tokens_after (length (take_while (goes_on (kind_of b bs)) bs)) bs)) (sym bytes)
     ∙ ap (with_token (token_of (kind_of b bs) (take (1 + n) rest))) others
 
--- The same in the terms of one turn of the loop: the bytes of the token, what is behind them, and the
+-- Again, in the terms of one turn of the loop: the bytes of the token, what is after them, and the
 -- token that was found.
 pub found_step : (rest bs bytes behind : List ℕ) (b n : ℕ) (kind : Kind) (found : Option Token)
     → rest ≡ b ∷ bs → is_blank b ≡ false → b ≢ 35 → kind ≡ kind_of b bs → n ≡ length (take_while (goes_on kind) bs)

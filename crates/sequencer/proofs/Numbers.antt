@@ -27,7 +27,7 @@ one_place c i j m first second same = elim (cases_lt i j) [
   | inr most ↦ (let e : c + j ≡ c + i = one_below (c + j) (c + i) m (omega arith) (omega arith) (sym same) in omega arith)
 ]
 
--- behind a head at h, the number u is p places on
+-- after a head at h, the number u is p places on
 pub around : (c h u n p : ℕ) → h ≡ (c + 0) % n → u < n → (h + p ≡ u) ⊎ (h + p ≡ u + n) → (c + p) % n ≡ u
 around c h u n p head small reached =
     let whole : (c + 0) / n * n + (c + 0) % n ≡ c + 0 = div-add-mod' (c + 0) n in

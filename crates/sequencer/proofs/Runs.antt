@@ -19,7 +19,7 @@ use Rattle.machine_model.specs.declared.event.Event.{Event}
 use Rattle.machine_model.specs.declared.event.Event.TheVariants.{Assign, Exec, Transfer, Drain, Squash, Retire, Fault, Drop}
 use Rattle.sequencer.specs.Rings.{EventFits}
 
--- more events behind a replay
+-- more events after a replay
 
 pub replays_more : ReplayCut → (p : Listing) (units : ℕ) (first second : List Event) (s s' : State) → Replays p units first s → ReplaysFrom p units s second s' → Replays p units (first ++ second) s'
 replays_more cut p units first second s s' before more = (cut p units (opening p) s' first second).1 (s, before, more)

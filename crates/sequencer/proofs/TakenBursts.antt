@@ -60,7 +60,7 @@ executes law m b f s' runs made is =
     (law p (units_of m) b.steps f.position (state m) (with_log (active_of b.before) log) (with_log (active_of b.after) (log ++ b.after.log)) f.unit.arrived
     (own log) f.has_more.more runs (f.is_unit ∙ ap Some f.has_more.is))
 
--- and exactly these events are behind its history
+-- and exactly these events are after its history
 pub takes : BurstsAreEvents → (m : MachineView) (b : BurstView) (f : IsFresh m b) (p' : ProcessorView) (h' : List Event) → (state m).outcome ≡ Running → IsMade b → AreDistinct (state m).queue
     → state_of p' ≡ with_queue (state m) (slice_set (state m).queue f.position (carried_on (active_of b.after) f.unit))
     → h' ≡ m.history ++ replicate b.steps (Exec f.position) → length m.history + b.steps ≤ most_events

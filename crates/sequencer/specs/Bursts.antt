@@ -14,7 +14,7 @@ use Rattle.processor_steps.specs.Processors.{position_with}
 use Rattle.sequencer.specs.Machines.{MachineView, state, units_of}
 
 -- the unit with this number on the ring is at work as this active task, and has not stopped; the head
--- has the number of retired tasks, modulo the number of units, and those behind it follow round the ring
+-- has the number of retired tasks, modulo the number of units, and those after it follow round the ring
 pub record IsAtWork (m : MachineView) (number : ℕ) (u : Active) : Type 0 where
   pub position : ℕ
   pub is_number : (length (state m).commits + position) % units_of m ≡ number

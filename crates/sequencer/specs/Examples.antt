@@ -65,7 +65,7 @@ unit_of_next = refl
 pub unit_of_free : unit_of 4 5 2 (Assign 0) ≡ 3
 unit_of_free = refl
 
--- two instructions of the head and one of the unit behind it, which is then given up
+-- two instructions of the head and one of the unit after it, which is then given up
 pub executes_three : executed_in (Assign 0 ∷ Exec 0 ∷ Assign 1 ∷ Exec 1 ∷ Exec 0 ∷ Drop 1 ∷ []) ≡ 3
 executes_three = refl
 

@@ -94,7 +94,7 @@ impl<'a> Machine<'a> {
         }
     }
 
-    /// A machine at the start of the program, with so many units, none of them at work. It reserves the
+    /// A machine at the start of the program, with this many units, none of them at work. It reserves the
     /// room of its history, once.
     ///
     /// # Errors
@@ -168,7 +168,7 @@ impl<'a> Machine<'a> {
         Ok(())
     }
 
-    /// Like `apply`, for an Exec of a unit behind the head.
+    /// Like `apply`, for an Exec of a unit after the head.
     #[inline(never)]
     fn apply_ahead(&mut self, position: u32) -> Result<(), Refused>
         requires behind { 0 < position }

@@ -16,7 +16,7 @@ past_by p places ring k q (inr past) none =
     ap (λ (us : List Active). units_stand p places ring (k + 1) us) (drop_all (k + 1) q (omega (arith, past.0)))
     ∙ sym (ap (λ (us : List Active). units_stand p places ring k us) (drop_all k q past.0))
 
--- behind the last unit there is none
+-- after the last unit there is none
 pub none_told : (p : Listing) (places : List Position) (ring : RingView) (k : ℕ) (q : List Active) (front : List ℕ) → slice_get q k ≡ None
     → front ++ units_stand p places ring (k + 1) (drop (k + 1) q) ≡ front ++ units_stand p places ring k (drop k q)
 none_told p places ring k q front none = ap (λ (bs : List ℕ). front ++ bs) (past_by p places ring k q (slice_get_cases q k).1 none)

@@ -67,7 +67,7 @@ labels_own n here line tokens read k (token.Name name ∷ token.Colon ∷ rest) 
     (labels_own n here line tokens read (k + 2) rest (dropped_twice k name tokens rest is))
 labels_own n here line tokens read k rest is = All-nil (Own n line)
 
--- the tokens behind the labels
+-- the tokens after the labels
 behind_labels : (tokens : List Token) → after_labels tokens ≡ drop (2 * length (labels_of tokens)) tokens
 behind_labels (token.Name name ∷ token.Colon ∷ rest) =
     let more : 2 * length (name ∷ labels_of rest) ≡ suc (suc (2 * length (labels_of rest))) = omega arith in

@@ -1,4 +1,4 @@
--- What is read of a line is within the line: its tokens are no more than its bytes, and none ends behind them; and
+-- What is read of a line is within the line: its tokens are no more than its bytes, and none ends after them; and
 -- a line is within its text.
 use Rattle.std.proofs.Common.{◌≡◌, ℕ, zero, suc, ◌+◌, ◌-◌, ◌<◌, ◌≤◌, ◌^◌, Bool, true, false, cond, List, [], ◌∷◌, length, take, Option, Some, None, Result, Ok, Err, IfSome, IfNone, arith, if◌then◌else◌, refl, ap, sym, subst}
 use Rattle.std.specs.Prelude.{◌==◌, take_while, slice_index}
@@ -51,7 +51,7 @@ shorter line false = omega arith
 pub stripped-le : (line : List ℕ) → length (strip_carriage_return line) ≤ length line
 stripped-le line = shorter line (slice_index line (length line - 1) == 13)
 
--- no place of a line ends behind its bytes
+-- no place of a line ends after its bytes
 pub places_end : (line : List ℕ) → All (λ (span : TokenSpan). span.column + span.len ≤ 1 + length (strip_carriage_return line)) (line_spans line)
 places_end line = ends_within 1 0 (1 + length (strip_carriage_return line)) (strip_carriage_return line) (omega arith)
 

@@ -1,5 +1,5 @@
 -- The bytes from the first of one token to the last of another, read alone, are these tokens and those between:
--- which bytes a token takes depends on them and on the byte behind them alone.
+-- which bytes a token takes depends on them and on the byte after them alone.
 use Rattle.std.specs.Prelude.{◌==◌, ◌&&◌, ◌||◌, take_while, slice_index, slice_get}
 use Rattle.std.specs.List.{prefix_len, list_all}
 use Rattle.std.specs.Char.{is_ascii_digit}
@@ -155,7 +155,7 @@ none_left (suc n) [] within = refl
 none_left zero (b ∷ bs) within = absurd (omega arith)
 none_left (suc n) (b ∷ bs) within = none_left n bs (omega arith)
 
--- the first token of a text that is cut behind it is the same
+-- the first token of a text that is cut after it is the same
 token_kept : (b e : ℕ) (bs : List ℕ) → is_blank b ≡ false → (b == byte "#") ≡ false → others_of b bs ≤ e
     → tokens_after 0 (b ∷ take e bs) ≡ with_token (token_of (kind_of b bs) (b ∷ take_while (goes_on (kind_of b bs)) bs)) (tokens_after (others_of b bs) (take e bs))
 token_kept b e bs not_blank not_comment within =
@@ -164,7 +164,7 @@ token_kept b e bs not_blank not_comment within =
     ∙ ap (λ k. with_token (token_of k (b ∷ take_while (goes_on k) (take e bs))) (tokens_after (length (take_while (goes_on k) (take e bs))) (take e bs))) (kind_kept b e bs short)
     ∙ ap (λ (xs : List ℕ). with_token (token_of (kind_of b bs) (b ∷ xs)) (tokens_after (length xs) (take e bs))) (run_is (goes_on (kind_of b bs)) e bs short)
 
--- The front: what is cut behind the token of number k has the tokens up to it.
+-- The front: what is cut after the token of number k has the tokens up to it.
 
 cut_first : (b : ℕ) (bs : List ℕ) (tokens : List Token) → is_blank b ≡ false → (b == byte "#") ≡ false
     → Led (token_of (kind_of b bs) (b ∷ take_while (goes_on (kind_of b bs)) bs)) (tokens_after (others_of b bs) bs) tokens

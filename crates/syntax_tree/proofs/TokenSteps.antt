@@ -1,4 +1,4 @@
--- One token more: what was told before it, and it, and those behind it.
+-- One token more: what was told before it, and it, and those after it.
 use Rattle.std.proofs.Common.{◌≡◌, ℕ, suc, ◌+◌, List, [], ◌∷◌, ◌++◌, ap, sym, ◌∙◌, append_assoc}
 use Rattle.syntax_tree.specs.declared.item.SyntaxSpan.{SyntaxSpan}
 use Rattle.syntax_tree.specs.Details.{Parts, between, token_spans}

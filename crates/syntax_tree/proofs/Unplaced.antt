@@ -35,7 +35,7 @@ labels_are n here places k (token.Name name ∷ token.Colon ∷ tokens) rest =
     ∙ led_by (asm.label_item n here name) (map (asm.label_item n here) (asm.labels_of tokens)) (without_places rest)
 labels_are n here places k tokens rest = sym (no_front (without_places rest))
 
--- the assembler's items of a line behind its labels, and of the lines behind it
+-- the assembler's items of a line after its labels, and of the lines after it
 abbrev read_as : List Unplaced → Section → Result (List Unplaced × Section) AsmFault
 read_as items next = Ok (items, next)
 

@@ -1,4 +1,4 @@
--- One line more: the items with it are where those of the lines behind it begin.
+-- One line more: the items with it are where those of the lines after it begin.
 use Rattle.std.proofs.Common.{◌≡◌, ℕ, ◌+◌, List, [], ◌∷◌, ◌++◌, refl, ap, sym, ◌∙◌, append_assoc, append-nil}
 use Rattle.program_statements.specs.declared.statement.Section.{Section}
 use Rattle.syntax_tree.specs.declared.item.Item.{Item}

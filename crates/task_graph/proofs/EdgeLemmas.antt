@@ -60,7 +60,7 @@ edges_exact p leaving i m onward branch among there on br am j = (
   ],
 )
 
--- The same of the inner ends that lie in the code.
+-- So it is of the inner ends that lie in the code.
 pub follows_exact : (p : Listing) (i n : ℕ) (m : Marked) (onward branch : Option ℕ) (among : ℕ → Bool)
     → slice_get p.code i ≡ Some m → n ≡ length p.code
     → ((j : ℕ) → (onward ≡ Some j) ↔ ((end_of false m i false ≡ Some j) × (j < n)))
@@ -82,7 +82,7 @@ follows_exact p i n m onward branch among there count on br am j = (
     from : (taken : Bool) → (end_of false m i taken ≡ Some j) × (j < n) → Follows p i j
     from taken h = record { edge = edge_from p false i j m taken there h.0; within = subst (λ k. j < k) count h.1 }
 
--- The same of the inner ends that don't.
+-- So it is of the inner ends that don't.
 pub falls_exact : (p : Listing) (i n : ℕ) (m : Marked) (off : Bool)
     → slice_get p.code i ≡ Some m → n ≡ length p.code
     → (off ≡ true) ↔ ((j : ℕ) × ((end_of false m i false ≡ Some j) ⊎ (end_of false m i true ≡ Some j)) × (n ≤ j))

@@ -68,7 +68,7 @@ carried_past e stays none ev k (w ∷ ws) es lives =
     let here = life_on ev k k e es w.life (stays k) (none k) in
     λ i. slice_set (rest i) w.index (here i)
 
--- Retire: the units behind the head come nearer to it
+-- Retire: the units after the head come nearer to it
 carried_nearer : (ev k : ℕ) (ws : List AtWork) (es : List Event) (lives : List Life) → carried_on ev (suc k) ws (Retire ∷ es) lives ≡ carried_on (suc ev) k ws es lives
 carried_nearer ev k [] es lives = refl
 carried_nearer ev k (w ∷ ws) es lives =
@@ -111,7 +111,7 @@ carried_end ev k (w ∷ ws) lives =
     let executes : w.life.executed + 0 ≡ w.life.executed = omega arith in
     λ i. slice_set (rest i) w.index (record (w.life) { last = ends i; executed = executes i; ending = Unfinished })
 
--- Assign: a task at work behind the tail, whose life is the last so far
+-- Assign: a task at work after the tail, whose life is the last so far
 pub carried_push : (ev k : ℕ) (ws : List AtWork) (es : List Event) (lives : List Life) (w : AtWork) (life : Life) → w.index ≡ length lives → AreWithin (length lives) ws → carried_on ev k (ws ++ w ∷ []) es (lives ++ life ∷ []) ≡ carried_on ev k ws es lives ++ completed ev w.life (course (k + length ws) es) ∷ []
 carried_push ev k [] es lives w life is before =
     let mine = completed ev w.life (course k es) in
@@ -129,7 +129,7 @@ carried_push ev k (v ∷ ws) es lives w life is before =
     ∙ set-append_left rest (last (suc k + length ws)) v.index mine within
     ∙ ap (λ (j : ℕ). slice_set rest v.index mine ++ last j) here
 
--- Exec: so many instructions of the unit at a position
+-- Exec: this many instructions of the unit at a position
 
 none_twice : (b : Bool) (x : ℕ) → x ≡ cond b 0 0 + x
 none_twice true x = omega arith

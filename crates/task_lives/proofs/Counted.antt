@@ -88,7 +88,7 @@ fit_from count p units (e ∷ es) s s' h = (
 pub histories_fit : EventsCount → (p : Listing) (units : ℕ) (history : List Event) (s : State) → Replays p units history s → AllFit 0 history
 histories_fit count p units history s h = fit_from count p units history (opening p) s h
 
--- how many instructions the units at so many positions execute, the first at position k
+-- how many instructions the units at this many positions execute, the first at position k
 
 abbrev totals : (k n : ℕ) → List Event → ℕ
 totals k zero es = 0

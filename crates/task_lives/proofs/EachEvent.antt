@@ -17,7 +17,7 @@ use Rattle.task_lives.proofs.Kept.{kept_front, kept_behind, kept_execs, kept_lif
 from_view : (old f new : FollowingView) (es : List Event) → f ≡ old → Follows f es new → Follows old es new
 from_view old f new es is h = subst (λ (g : FollowingView). Follows g es new) is h
 
--- Exec, so many times
+-- Exec, this many times
 
 pub executed : (old f : FollowingView) (j count : ℕ) (queue : List AtWork) → f ≡ old → queue ≡ more_executed 0 j count f.queue
     → Follows old (replicate count (Exec j)) (record f { queue = queue; events = f.events + count })

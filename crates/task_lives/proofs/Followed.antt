@@ -18,7 +18,7 @@ use Rattle.task_lives.specs.Following.{FollowingView, AreBehind, completed, carr
 use Rattle.task_lives.proofs.Carrying.{carried_past, carried_retire, carried_cut, carried_push, carried_execs}
 use Rattle.task_lives.proofs.InOrder.{length-more_executed}
 
--- no event, and events one behind the other
+-- no event, and events one after the other
 
 pub follows_none : (f : FollowingView) → Follows f [] f
 follows_none f = record {
@@ -167,7 +167,7 @@ follows_assign f task ending w index is before =
       active = long;
     }
 
--- Exec, so many times
+-- Exec, this many times
 
 lives_past_execs : (u r a n j : ℕ) (count : ℕ) (es : List Event) → lives_from u r a n (replicate count (Exec j) ++ es) ≡ lives_from u r a (n + count) es
 lives_past_execs u r a n j zero es = ap (λ (m : ℕ). lives_from u r a m es) (let same : n ≡ n + 0 = omega arith in same)

@@ -44,7 +44,7 @@ in_order_front n ev zero ws h = tt
 in_order_front n ev (suc k) [] h = tt
 in_order_front n ev (suc k) (w ∷ ws) h = (h.0, h.1, behind_front w.index k ws h.2, in_order_front n ev k ws h.3)
 
--- one more behind the tail, with the next life
+-- one more after the tail, with the next life
 
 behind_push : (index : ℕ) (ws : List AtWork) (w : AtWork) → index < w.index → AreBehind index ws → AreBehind index (ws ++ w ∷ [])
 behind_push index [] w last h = (last, tt)
@@ -91,7 +91,7 @@ with_other : (j k count : ℕ) (w : AtWork) → j ≢ k → w ≡ with_more (con
 with_other j k count w apart =
     with_none w ∙ ap (λ (b : Bool). with_more (cond b count 0) w) (sym (ne_eqb j k apart))
 
--- there is none at a position before the first, or behind the tail
+-- there is none at a position before the first, or after the tail
 none_before : (k j count : ℕ) (ws : List AtWork) → j < k → ws ≡ more_executed k j count ws
 none_before k j count [] before = refl
 none_before k j count (w ∷ ws) before =

@@ -1,4 +1,4 @@
--- Events that are equal, and runs of them, followed one behind the other.
+-- Events that are equal, and runs of them, followed one after the other.
 use Rattle.std.proofs.Common.{◌≡◌, ℕ, zero, suc, ◌+◌, ◌<◌, ◌≤◌, List, [], ◌∷◌, ◌++◌, length, get_or, take, drop, sym, ap, ◌∙◌, subst, arith, append_assoc, append-nil, length-append}
 use Rattle.std.specs.Prelude.{flat_map, replicate}
 use Rattle.std.specs.List.{fold}
@@ -63,7 +63,7 @@ run_fits runs i run within is fit =
     let front = (fit_parts 0 (events_of (take i runs) ++ each run) (events_of (drop (i + 1) runs)) split).0 in
     (fit_parts 0 (events_of (take i runs)) (each run) front).1
 
--- after so many runs
+-- after this many runs
 pub record IsFollowedTo (units : ℕ) (events : List Event) (f : FollowingView) : Type 0 where
   pub lives : (es : List Event) → all_lives f es ≡ lives_of units (events ++ es)
   pub counted : f.events ≡ length events

@@ -50,7 +50,7 @@ squashed_of_diamond = refl
 pub count_of_diamond : instructions is_retired (lives_of 3 diamond) ≡ 3
 count_of_diamond = refl
 
--- a Drop takes the unit at its position too, a Squash only those behind it
+-- a Drop takes the unit at its position too, a Squash only those after it
 abbrev dropped : List Event
 dropped = Assign 0 ∷ Assign 0 ∷ Assign 1 ∷ Drop 1 ∷ Assign 0 ∷ []
 

@@ -21,7 +21,7 @@ abbrev pub AreBehind : (index : ℕ) → List AtWork → Type 0
 AreBehind index [] = Unit {0}
 AreBehind index (w ∷ ws) = (index < w.index) × AreBehind index ws
 
--- each has one of the given number of lives, before those of the tasks behind it, and executed at most as many
+-- each has one of the given number of lives, before those of the tasks after it, and executed at most as many
 -- instructions as there were events
 abbrev pub AreInOrder : (lives events : ℕ) → List AtWork → Type 0
 AreInOrder lives events [] = Unit {0}

@@ -53,7 +53,7 @@ course k (e ∷ es) =
     (record { events = 1; executed = 0; ending = ending_by e })
 
 -- the life that an Assign begins: it is event number `first`, before which `retired` tasks have retired; the
--- task's unit comes behind the `active` units at work, in the queue and round the ring
+-- task's unit comes after the `active` units at work, in the queue and round the ring
 abbrev pub life_of : (units retired active first task : ℕ) → Course → Life
 life_of units retired active first task c = record {
   task = task;

@@ -260,7 +260,7 @@ fn with(at_work: AtWork, count: u32) -> AtWork
     AtWork { life, ..at_work }
 }
 
-/// Counts instructions of the task at a position; behind the tail there is none.
+/// Counts instructions of the task at a position; after the tail there is none.
 fn add_executed(queue: &mut Vec<AtWork>, position: usize, count: u32)
     requires { HaveRoom count queue.old.items }
     ensures { queue.new.items ≡ more_executed 0 position count queue.old.items }

@@ -6,7 +6,7 @@ ghost use Rattle.task_lives.specs.Laws.{HistoriesFit, LivesAddUp};
 use machine_model::laws::events_count;
 
 /// In every list of events that a machine allows, each Exec and each Squash is at the position of a unit at
-/// work, and each Drop at one of these or right behind them: what `lives_of_runs` requires.
+/// work, and each Drop at one of these or right after them: what `lives_of_runs` requires.
 pub fn histories_fit()
     ensures { HistoriesFit }
 {

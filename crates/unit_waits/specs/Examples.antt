@@ -96,7 +96,7 @@ passed_on = record {
   start = 0;
 }
 
--- so it waits for the register, to pass it on; and the unit behind it waits for what it then passes on
+-- so it waits for the register, to pass it on; and the unit after it waits for what it then passes on
 pub has_to_pass : reason_after passed_on 3 1 (Assign 0 ∷ Assign 1 ∷ Assign 2 ∷ Exec 1 ∷ []) ≡ Some (HasToPass 8 (owed 0 0))
 unfolding address index_of region effective least
 has_to_pass = refl

@@ -1,4 +1,4 @@
--- What keeps a unit behind the head from continuing: the first refusal of its next instruction, or, where it has
+-- What keeps a unit after the head from continuing: the first refusal of its next instruction, or, where it has
 -- stopped, what it still has to send.
 use Rattle.std.specs.Prelude.{ℕ, zero, suc, Bool, true, false, if◌then◌else◌, List, length, slice_get, is_some, is_none, Option, Some, None}
 use Rattle.task_descriptor.specs.Listing.{Listing}

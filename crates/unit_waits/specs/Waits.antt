@@ -18,7 +18,7 @@ ends_step active e = nat_eq (position_of active e) 0
 abbrev pub acts : (active k : ℕ) → List Event → Bool
 acts active k events = list_any (λ e. nat_eq (position_of active e) k) events
 
--- The waits in a step of this number: of each unit behind the head that does none of its events, by the state
+-- The waits in a step of this number: of each unit after the head that does none of its events, by the state
 -- with which the step begins
 
 abbrev pub waiting : Listing → (units step : ℕ) → State → (k : ℕ) → Active → Waiting

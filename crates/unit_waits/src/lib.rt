@@ -1,4 +1,4 @@
-//! Why units wait: in each step of a run, which units at work behind the head do nothing, and what holds them back;
+//! Why units wait: in each step of a run, which units at work after the head do nothing, and what holds them back;
 //! and a waveform of the run, as a Value Change Dump (IEEE 1364).
 #![tactic(auto)]
 

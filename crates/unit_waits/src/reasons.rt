@@ -1,4 +1,4 @@
-//! What holds back a unit behind the head.
+//! What holds back a unit after the head.
 
 ghost use Rattle.std.specs.Prelude.{◌≡◌, ◌<◌, Some, slice_get, is_none, is_some};
 ghost use Rattle.machine_model.specs.Machine.{creates, pass, task_at};
@@ -161,7 +161,7 @@ fn reason_by(
     }
 }
 
-/// What holds back the unit at a position behind the head: the first refusal of its next instruction, or, where it
+/// What holds back the unit at a position after the head: the first refusal of its next instruction, or, where it
 /// has stopped, what it still has to send.
 pub fn reason(
     accepted: &Accepted,

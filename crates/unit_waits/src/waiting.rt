@@ -29,7 +29,7 @@ pub enum Reason {
     CouldGoOn,
 }
 
-/// A unit at work behind the head that does nothing in a step.
+/// A unit at work after the head that does nothing in a step.
 #[derive(Clone, Copy, Debug, PartialEq, Eq)]
 pub struct Waiting {
     /// The number of the step, from 1.

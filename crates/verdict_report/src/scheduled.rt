@@ -101,7 +101,7 @@ fn run_with<'a, R: Threads + Wait + Sync>(
     }
 }
 
-// The threads of a run by so many workers: where there are more of them than units, one for each unit.
+// The threads of a run by this many workers: where there are more of them than units, one for each unit.
 fn threads_of(workers: Workers, units: Units) -> Workers
     ensures threads { result ≡ min workers units }
     ensures within { result ≤ units }

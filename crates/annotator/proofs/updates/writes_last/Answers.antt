@@ -1,4 +1,4 @@
--- Each destination is left when those written behind are taken off.
+-- Each destination is left when those written after are taken off.
 use Rattle.std.proofs.Common.{sym, ◌∙◌}
 use Rattle.annotator.proofs.MarkLemmas.{last_exact, some_written, none_written}
 use Rattle.annotator.proofs.updates.writes_last.Goals as goal

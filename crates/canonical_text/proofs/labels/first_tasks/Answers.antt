@@ -1,4 +1,4 @@
--- At first the table has no task; each task is put before those behind it; at the end none is left.
+-- At first the table has no task; each task is put before those after it; at the end none is left.
 use Rattle.std.specs.Prelude.{◌≡◌, ℕ, suc, ◌+◌, ◌-◌, ◌<◌, ◌≤◌, length, slice_get, slice_index, slice_set}
 use Rattle.std.proofs.Common.{refl, sym, ap, ◌∙◌, arith}
 use Rattle.std.proofs.lemmas.List.{length-set}

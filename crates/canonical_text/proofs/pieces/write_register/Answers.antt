@@ -1,4 +1,4 @@
--- Behind the `$` stands one digit, or two.
+-- After the `$` stands one digit, or two.
 use Rattle.std.proofs.Common.{arith}
 use Rattle.std.proofs.lemmas.Result.{on_ok_weaker}
 use Rattle.canonical_text.proofs.Digits.{one_written, two_written}

@@ -1,4 +1,4 @@
--- One part of the text behind another, the first behind nothing.
+-- One part of the text after another, the first after nothing.
 use Rattle.std.proofs.Common.{◌∙◌, ◌++◌, List, ℕ, ap, codes}
 use Rattle.std.specs.Global.{Vec}
 use Rattle.canonical_text.specs.CanonicalText.{canonical_text, section}

@@ -1,4 +1,4 @@
--- The tokens behind the labels are those of the rest, which becomes shorter.
+-- The tokens after the labels are those of the rest, which becomes shorter.
 use Rattle.std.proofs.Common.{◌≡◌, length}
 use Rattle.annotated_asm.specs.Items.{after_labels}
 use Rattle.canonical_text.proofs.reading.after_labels.Given as goal

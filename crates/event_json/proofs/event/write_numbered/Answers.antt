@@ -1,4 +1,4 @@
--- The number, the step and the event, one behind the other.
+-- The number, the step and the event, one after the other.
 use Rattle.std.proofs.Common.{[], ◌∷◌, ◌++◌}
 use Rattle.std.specs.Prelude.{codes}
 use Rattle.event_json.specs.EventJson.{event_fields, step_fields}

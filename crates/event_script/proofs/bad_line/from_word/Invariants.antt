@@ -1,4 +1,4 @@
--- As many words are left behind as were counted.
+-- As many words are left as were counted.
 use Rattle.std.proofs.Common.{◌≡◌, ◌≤◌, length}
 use Rattle.event_script.specs.EventScript.{from_word}
 use Rattle.event_script.proofs.bad_line.from_word.Given as goal

@@ -1,4 +1,4 @@
--- The three kinds of places, one behind the other.
+-- The three kinds of places, one after the other.
 use Rattle.std.proofs.Common.{List, length, subst}
 use Rattle.finding_paths.specs.declared.mark.CostlyMark.{CostlyMark}
 use Rattle.finding_paths.specs.Candidates.{up_to, of_task, of_instruction, of_place}

@@ -1,4 +1,4 @@
--- The last digit stands behind those of the tens.
+-- The last digit stands after those of the tens.
 use Rattle.std.proofs.Common.{◌∙◌, ap, arith, refl}
 use Rattle.mask_certificate.proofs.WriteLemmas.{decimal_more, decimal_one}
 use Rattle.mask_certificate.proofs.writing.+push_decimal.Goals as goal

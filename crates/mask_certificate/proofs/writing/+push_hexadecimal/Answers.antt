@@ -1,4 +1,4 @@
--- The last digit stands behind those of the front.
+-- The last digit stands after those of the front.
 use Rattle.std.proofs.Common.{◌∙◌}
 use Rattle.mask_certificate.proofs.WriteLemmas.{hexadecimal_more}
 use Rattle.mask_certificate.proofs.writing.+push_hexadecimal.Goals as goal

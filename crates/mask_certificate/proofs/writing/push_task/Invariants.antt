@@ -1,4 +1,4 @@
--- The entries written so far stand behind the `task` line.
+-- The entries written so far stand after the `task` line.
 use Rattle.std.proofs.Common.{◌≡◌, ◌++◌, take}
 use Rattle.mask_certificate.specs.declared.fault.MaskSpelling.TheVariants.{Wide}
 use Rattle.mask_certificate.specs.CertificateText.{task_text}

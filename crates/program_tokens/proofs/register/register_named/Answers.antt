@@ -1,4 +1,4 @@
--- `zero` is the first of the names, and those behind it stand in the table.
+-- `zero` is the first of the names, and those after it stand in the table.
 use Rattle.std.proofs.Common.{◌∙◌, Some, None, sym, ap}
 use Rattle.std.specs.Str.{bytes_eq}
 use Rattle.program_tokens.proofs.Positions.{named_zero, named_later}

@@ -7,7 +7,7 @@ use Rattle.task_descriptor.specs.Listing.{input}
 use Rattle.report_texts.proofs.PlainRuns.{counted-zero, report_after, run_report-after}
 use Rattle.report_texts.proofs.sequential.run.Goals as goal
 
--- what a call ensures of its answer holds of that answer behind `map_err`
+-- what a call ensures of its answer holds of that answer after `map_err`
 behind_map_err : {A E B : Type 0} (P : A → Type 0) (r : Result A E) (m : Result A B) (Q : E → B → Type 0) (a : A) → MatchResult r (λ x. m ≡ Ok x) (λ e. IsErrAnd m (Q e)) → m ≡ Ok a → IfOk r P → P a
 behind_map_err P (Ok x) m Q a cases was holds =
     let same : x ≡ a = cc in

@@ -1,4 +1,4 @@
--- The last run is as it was or longer, and another run is put behind it.
+-- The last run is as it was or longer, and another run is put after it.
 use Rattle.std.proofs.Common.{◌≡◌, ◌+◌, ◌-◌, ◌<◌, List, ◌++◌, replicate, refl, sym, ap, ◌∙◌, subst, arith, set, Vec, Global}
 use Rattle.std.specs.Vec.{vec_len, vec_capacity}
 use Rattle.std.proofs.lemmas.List.{set-get_or}

@@ -1,4 +1,4 @@
--- Each run fits behind those before it, and has room.
+-- Each run fits after those before it, and has room.
 use Rattle.std.proofs.Common.{ℕ, List, length, replicate, sym, ap, ◌∙◌, subst, arith}
 use Rattle.machine_model.specs.Runs.{events_of}
 use Rattle.task_lives.specs.declared.following.AtWork.{AtWork}

@@ -1,4 +1,4 @@
--- One part of the text behind another, the first behind nothing.
+-- One part of the text after another, the first after nothing.
 use Rattle.std.proofs.Common.{ℕ, ap, ◌∙◌, length}
 use Rattle.std.specs.Global.{Vec}
 use Rattle.task_lives.proofs.Rows.{long_enough, summary_written}

@@ -1,4 +1,4 @@
--- One number behind the other.
+-- One number after the other.
 use Rattle.std.proofs.Common.{◌≡◌, ℕ, List, OnOk, subst}
 use Rattle.std.specs.String.{string_bytes}
 use Rattle.task_lives.proofs.Rows.{row_written}

@@ -1,4 +1,4 @@
--- There are no more waits than units behind the head.
+-- There are no more waits than units after the head.
 use Rattle.std.proofs.Common.{◌≡◌, ◌≤◌, length, drop, ap, arith}
 use Rattle.std.proofs.lemmas.List.{length-drop}
 use Rattle.sequencer.specs.Machines.{state}

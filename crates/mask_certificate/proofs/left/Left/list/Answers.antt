@@ -1,4 +1,4 @@
--- The lines of the part come first, and those of the parts behind it follow.
+-- The lines of the part come first, and those of the parts after it follow.
 use Rattle.std.proofs.Common.{◌≡◌, ℕ, ◌<◌, false, eqb, List, [], ◌∷◌, ◌++◌, length, drop, sym, ◌∙◌, ap, arith}
 use Rattle.std.specs.Vec.Iter.{into_iter_items}
 use Rattle.mask_certificate.specs.CertificateReading.{lines_in, entries_in}

@@ -1,4 +1,4 @@
--- The head hands over what it holds before it goes, and the units behind it are as they were.
+-- The head hands over what it holds before it goes, and the units after it are as they were.
 use Rattle.std.proofs.Common.{◌≡◌, ℕ, List, ◌++◌, None, drop, refl, ap, ◌∙◌, unwrap_or}
 use Rattle.std.specs.Prelude.{slice_index, slice_set, if◌then◌else◌, OnErr, Result, Ok, Err}
 use Rattle.mips_instructions.specs.Words.{has}

@@ -1,4 +1,4 @@
--- The processor took the event, and the history has it behind the others.
+-- The processor took the event, and the history has it after the others.
 use Rattle.std.proofs.Common.{sym, subst}
 use Rattle.machine_model.specs.declared.event.Event.TheVariants.{Exec}
 use Rattle.processor_steps.specs.Processors.{ArePlaced}

@@ -1,4 +1,4 @@
--- The burst is fresh, so its unit takes it over, and the events behind the history are those of its steps.
+-- The burst is fresh, so its unit takes it over, and the events after the history are those of its steps.
 use Rattle.std.proofs.Common.{◌≡◌, ℕ, ◌<◌, length, ◌++◌, sym, ap, ◌∙◌, subst, arith}
 use Rattle.std.specs.Prelude.{replicate}
 use Rattle.machine_model.specs.declared.event.Event.TheVariants.{Exec}

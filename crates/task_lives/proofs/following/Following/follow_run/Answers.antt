@@ -1,4 +1,4 @@
--- Equal events, one behind the other: each fits, and has room.
+-- Equal events, one after the other: each fits, and has room.
 use Rattle.std.proofs.Common.{◌≡◌, ℕ, length, replicate, sym, subst, arith}
 use Rattle.std.proofs.lemmas.List.{length-replicate}
 use Rattle.task_lives.specs.Lives.{Fits}

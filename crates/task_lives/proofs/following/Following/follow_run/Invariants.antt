@@ -1,4 +1,4 @@
--- The event was followed so many times.
+-- The event was followed this many times.
 use Rattle.std.proofs.Common.{replicate}
 use Rattle.task_lives.specs.Following.{Follows}
 use Rattle.task_lives.proofs.following.Following.follow_run.Given as goal

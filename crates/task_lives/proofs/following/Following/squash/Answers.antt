@@ -1,4 +1,4 @@
--- The tasks behind the position go.
+-- The tasks after the position go.
 use Rattle.std.proofs.Common.{◌+◌}
 use Rattle.task_lives.specs.declared.life.Ending.TheVariants.{Squashed}
 use Rattle.task_lives.specs.Following.{FollowingView}
