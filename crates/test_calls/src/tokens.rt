@@ -62,8 +62,9 @@ fn a_branch_with_marks(rt: HostRuntime) {
         forward: true,
         stop: Stop::Always,
     };
-    match statement_of(rt.alloc(), Section::Text, &tokens) {
-        Ok(Statement::Code(instruction, found)) => {
+    let statement = statement_of(rt.alloc(), Section::Text, &tokens).ok();
+    match statement.expect(&rt, "a statement") {
+        Statement::Code(instruction, found) => {
             assert!(rt; instruction == branch);
             assert!(rt; found == marks);
         }

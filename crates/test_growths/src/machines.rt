@@ -152,16 +152,16 @@ fn write_value(notes: &mut Notes, machine: &Machine<'_>, position: u32, number: 
 fn applies(given: &Given<'_>, accepted: &Accepted, machine: &mut Machine<'_>) -> Option<()> {
     let events = read_script(given.alloc(), &given.script, accepted.program()).ok()?;
     for event in &events {
-        applies_event(given, machine, *event)?;
+        applies_event(given, machine, event)?;
     }
     shows_machine(given, machine)
 }
 
-fn applies_event(given: &Given<'_>, machine: &mut Machine<'_>, event: Event) -> Option<()> {
+fn applies_event(given: &Given<'_>, machine: &mut Machine<'_>, event: &Event) -> Option<()> {
     let before = machine_notes(given, machine);
     for _ in 0..TRIES {
         given.begins();
-        let answer = machine.apply(event);
+        let answer = machine.apply(*event);
         given.ends();
         let Err(Refused::OutOfMemory) = answer else {
             return Some(());
@@ -174,7 +174,7 @@ fn applies_event(given: &Given<'_>, machine: &mut Machine<'_>, event: Event) -> 
 }
 
 // A line of its own, which names the event.
-fn notes_refused(given: &Given<'_>, event: Event) -> Option<()> {
+fn notes_refused(given: &Given<'_>, event: &Event) -> Option<()> {
     let mut notes = Notes::new(given.alloc());
     writeln!(notes, "note {event:?} refused");
     given.says(notes.as_bytes()?);
