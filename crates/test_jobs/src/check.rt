@@ -187,10 +187,5 @@ fn checks_programs(rt: HostRuntime) {
 fn expect_changed(rt: &impl Bench, alloc: Global, old: &str, new: &str, expected: &str) {
     let certificate = COUNT_CERTIFICATE.replacen(alloc, old, new, 1).ok();
     let certificate = certificate.expect(rt, "room for a certificate");
-    let row = AnswerRow {
-        certificate: certificate.as_str(),
-        expected,
-        ..REFUSED
-    };
-    row.runs(rt, alloc);
+    REFUSED.runs_on(rt, alloc, certificate.as_str(), expected);
 }
