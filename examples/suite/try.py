@@ -73,7 +73,7 @@ class Suite:
                 machine = Machine(program, units, bug)
                 lines = list(log(machine, seed=units))
                 events = sum(not line.startswith("step") for line in lines)
-                said = f"as expected: {events} events; the run {machine.end or 'goes on'}"
+                said = f"as expected: {events} event{'s' * (events != 1)}; the run {machine.end or 'goes on'}"
                 yield f"{name}, units {units}", self.by_replay(name, units, "\n".join(lines)), said
 
     def run(self):

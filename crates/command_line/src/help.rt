@@ -330,7 +330,7 @@ program as it stands) or marks (your own text with the proposed marks)
 
 /// `--output`.
 pub const OUTPUT: &str =
-    "Writes the result to FILE, whole or not at all; a text that is refused leaves FILE as it is";
+    "Writes the result to FILE, whole or not at all; without a result FILE stays as it is";
 
 /// `--in-place`.
 pub const IN_PLACE: &str =
@@ -430,7 +430,7 @@ pub const DEMONSTRATE_USAGE: &str = "multiscalar demonstrate [OPTIONS] <PROGRAM>
 pub const DEMONSTRATE_LONG: &str =
     "Looks for a run that shows what a wrong annotation does: one in which a task reads a stale register. It
 takes the program as it is annotated and needs no certificate. It tries machines of 2 units, of 3, and so on
-up to --units, in runs of up to --steps events.
+up to --units, and at last one of a single unit, in runs of up to --steps events.
 
 Where it finds such a run, it writes its events, one on a line, and then what is wrong: the task and the line
 that read the register, the word that was read, and the word that the sequential program reads there. The

@@ -350,7 +350,7 @@ fn most_units<'a>(alloc: Global) -> Arg<'a>
     ensures rule { rule_of result ≡ most_units_rule }
     ensures local { result.global ≡ false }
 {
-    let text = "How many units the machine of the last run has, 1 to 16";
+    let text = "The most units of a machine, 1 to 16";
     number(alloc, "units", text, MOST_UNITS, "16")
 }
 

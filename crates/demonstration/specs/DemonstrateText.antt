@@ -1,6 +1,6 @@
 -- What `demonstrate` may write of a program text: a run that shows what a wrong annotation does, in words or as a
 -- picture; that there is none, since the annotations are sound; or that none was found.
-use Rattle.std.specs.Prelude.{◌≡◌, ◌⊎◌, ℕ, nat_eq, if◌then◌else◌, List, [], ◌∷◌, ◌++◌, flat_map, Result, Ok, Err, codes}
+use Rattle.std.specs.Prelude.{◌≡◌, ◌⊎◌, ℕ, List, [], ◌∷◌, ◌++◌, flat_map, Result, Ok, Err, codes}
 use Rattle.std.specs.Fmt.{decimal}
 use Rattle.task_descriptor.specs.Listing.{Listing}
 use Rattle.annotated_asm.specs.declared.fault.AsmFault.{AsmFault}
@@ -13,6 +13,7 @@ use Rattle.event_trace.specs.Entries.{places_of}
 use Rattle.jobs.specs.declared.job.DemonstrateEmit.{DemonstrateEmit}
 use Rattle.jobs.specs.declared.job.DemonstrateEmit.TheVariants.{Events, Picture}
 use Rattle.run_picture.specs.Picture.{picture_text}
+use Rattle.run_picture.specs.WordsText.{plural}
 use Rattle.report_texts.specs.OutputTexts.{Report, program_refused}
 use Rattle.demonstration.specs.Shown.{IsShown}
 use Rattle.demonstration.specs.declared.judge.Evidence.{Evidence}
@@ -28,8 +29,8 @@ nothing_to_show = record { bytes = codes "the annotations are right: no run show
 -- none of the runs that were tried shows anything
 unfoldable pub nothing_found_text : (units steps : ℕ) → List ℕ
 nothing_found_text units steps =
-    codes "no run found on up to " ++ (decimal units ++ (codes " units, of up to " ++ (decimal steps
-    ++ (codes " events; explain says which annotations are wrong" ++ 10 ∷ []))))
+    codes "no run found on up to " ++ (decimal units ++ (codes " unit" ++ (plural units ++ (codes ", of up to " ++ (decimal steps
+    ++ (codes " event" ++ (plural steps ++ (codes "; explain says which annotations are wrong" ++ 10 ∷ []))))))))
 
 -- none of the runs that were tried shows anything: the report names the checker's first finding
 pub record FindsNothing (units steps : ℕ) (p : Listing) (places : List Position) (report : Report) : Type 0 where
@@ -38,10 +39,6 @@ pub record FindsNothing (units steps : ℕ) (p : Listing) (places : List Positio
   pub shown : AreShown p 1 first more
   pub bytes : report.bytes ≡ nothing_found_text units steps ++ flat_map (finding_text p places) first
   pub status : report.status ≡ 3
-
--- what follows a word for a number of things
-abbrev pub plural : ℕ → List ℕ
-plural n = if nat_eq n 1 then [] else codes "s"
 
 -- how many units the machine has
 abbrev pub units_text : (units : ℕ) → List ℕ

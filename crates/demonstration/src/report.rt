@@ -6,7 +6,7 @@ ghost use Rattle.task_graph.specs.Soundness.{Sound};
 ghost use Rattle.event_script.specs.ScriptText.{line_text, script_text};
 ghost use Rattle.event_trace.specs.Entries.{places_of};
 ghost use Rattle.demonstration.specs.Found.{IsDemonstration};
-ghost use Rattle.demonstration.specs.DemonstrateText.{IsDemonstrateReport, FindsNothing, IsDemonstrated, TellsOfRun, nothing_found_text, nothing_to_show as nothing_to_show_report, plural as plural_of, run_text as run_text_of, shown_text, units_text};
+ghost use Rattle.demonstration.specs.DemonstrateText.{IsDemonstrateReport, FindsNothing, IsDemonstrated, TellsOfRun, nothing_found_text, nothing_to_show as nothing_to_show_report, run_text as run_text_of, shown_text, units_text};
 ghost use Rattle.demonstration.specs.FindingText.{finding_text};
 
 use crate::first_finding::{first_finding, write_findings};
@@ -26,6 +26,7 @@ use limits::ranges::{Budget, Units};
 use machine_model::event::Event;
 use mips_plain::outcome::OutOfMemory;
 use report_texts::report::{JobReport, refused_program};
+use run_picture::words_text::plural;
 use std::alloc::{AllocError, Global};
 use task_descriptor::program::Program;
 
@@ -126,9 +127,11 @@ fn told_nothing(
 fn write_nothing_found(text: &mut String, units: u32, steps: u32) -> Result<(), AllocError>
     ensures { OnOk result (string_bytes text.new ≡ string_bytes text.old ++ nothing_found_text units steps) }
 {
+    let unit_s = plural(units as usize);
+    let event_s = plural(steps as usize);
     writeln!(
         text,
-        "no run found on up to {units} units, of up to {steps} events; explain says which annotations are wrong"
+        "no run found on up to {units} unit{unit_s}, of up to {steps} event{event_s}; explain says which annotations are wrong"
     )
 }
 
@@ -186,15 +189,8 @@ fn shown(
 fn write_units(text: &mut String, units: u32) -> Result<(), AllocError>
     ensures { OnOk result (string_bytes text.new ≡ string_bytes text.old ++ units_text units) }
 {
-    let s = plural(units);
+    let s = plural(units as usize);
     write!(text, "on {units} unit{s}:")
-}
-
-/// What follows a word for a number of things.
-fn plural(count: u32) -> &'static str
-    ensures { result.now ≡ plural_of count }
-{
-    if count == 1 { "" } else { "s" }
 }
 
 /// Adds each event, on a line of its own.

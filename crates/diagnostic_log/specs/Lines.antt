@@ -1,4 +1,4 @@
--- Diagnostics as lines of JSON (docs/FORMATS.md has the keys): an object for each. Its keys are always
+-- Diagnostics as lines of JSON (docs/LOGS.md has the keys): an object for each. Its keys are always
 -- there; what is absent is null. Columns and widths are in bytes, as in the text form.
 use Rattle.std.specs.Prelude.{ℕ, List, [], ◌∷◌, ◌++◌, flat_map, Option, Some, None, codes}
 use Rattle.std.specs.Fmt.{decimal}

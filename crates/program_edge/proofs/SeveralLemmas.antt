@@ -1,9 +1,8 @@
 -- One program more: its part stands after the others, and the tally counts it.
-use Rattle.std.proofs.Common.{◌≡◌, ◌∙◌, ◌+◌, ◌<◌, ◌≤◌, ap, subst, sym, refl, inl, inr, ℕ, Bool, true, false, List, [], ◌∷◌, ◌++◌, length, get_or, take, drop, map, suc, zero-add, append-nil, take-append-drop, add-zero, add-one, arith, Option, None, Some, Result, Ok, Err}
+use Rattle.std.proofs.Common.{◌≡◌, ◌∙◌, ◌+◌, ◌<◌, ◌≤◌, ap, subst, sym, refl, inl, inr, ℕ, Bool, true, List, [], ◌∷◌, ◌++◌, length, get_or, take, drop, map, suc, zero-add, append-nil, take-append-drop, add-zero, add-one, arith, Option, None, Some, Result, Ok, Err}
 use Rattle.std.proofs.KnownBytes.{Appends-nil, Appends-trans}
 use Rattle.std.proofs.Math.Seq.{drop-cons}
-use Rattle.std.proofs.lemmas.List.{flat_map_more, map-append, nil_from_length, take_all, take_more}
-use Rattle.std.proofs.lemmas.Bool.{eqb-true}
+use Rattle.std.proofs.lemmas.List.{flat_map_more, map-append, take_all, take_more}
 use Rattle.std.proofs.lemmas.List.Sums.{sum_by-append}
 use Rattle.std.specs.Io.KnownBytes.{Appends, Keeps}
 use Rattle.std.specs.Prelude.{flat_map, if◌then◌else◌}
@@ -25,7 +24,7 @@ use Rattle.verdict_report.specs.declared.fault.ServeFault.{ServeFault}
 use Rattle.verdict_report.specs.declared.fault.ServeFault.TheVariants as serve
 use Rattle.program_edge.specs.declared.fault.Fault.TheVariants.{Serve}
 use Rattle.program_edge.specs.Telling.{IsTold}
-use Rattle.program_edge.specs.Several.{ArePartsOf, EndsAt, Ends, IsEach, IsOutOfMemory, IsPartOf, Part, Sums, errors_of, outputs_of, tally_of_parts}
+use Rattle.program_edge.specs.Several.{ArePartsOf, EndsAt, IsEach, IsOutOfMemory, IsPartOf, Part, Sums, errors_of, outputs_of, tally_of_parts}
 use Rattle.program_edge.specs.Streams.{IsCut, IsWritten, World}
 use Rattle.program_edge.specs.Summaries.{all_of, counted, is_right, is_unjudged, is_wrong, summary_line, tally_of, worst_status}
 

@@ -1,6 +1,5 @@
 -- Whether the lines for a person have colours, where that is left to what the program finds.
-use Rattle.std.specs.Prelude.{◌≡◌, ◌==◌, Bool, true, false, is_some, List, [], length, Option, Result, Ok, Err}
-use Rattle.std.specs.Result.{result_map_both}
+use Rattle.std.specs.Prelude.{◌==◌, Bool, true, false, is_some, length, Result, Ok, Err}
 use Rattle.std.specs.String.{string_bytes}
 use Rattle.std.specs.declared.alloc.Global.{Global}
 use Rattle.std.specs.declared.string.String.{String}

@@ -20,6 +20,7 @@ use Rattle.event_trace.specs.Entries.{count_behind, places_of, state_behind}
 use Rattle.event_trace.specs.Ring.{ring_in}
 use Rattle.event_trace.specs.Trace.{entry_text}
 use Rattle.event_trace.specs.TraceText.{address_text, ending_text, register_text}
+use Rattle.run_picture.specs.WordsText.{plural}
 use Rattle.report_texts.specs.JudgedTexts.{judged}
 use Rattle.report_texts.specs.OutputTexts.{Report}
 use Rattle.event_trace.specs.declared.change.Change.{Change}
@@ -150,7 +151,7 @@ count_after p units n s other = n
 -- the report at the end of a script, where each line is as the machine does it
 abbrev pub as_expected : (n : ℕ) → State → Report
 as_expected n s = record {
-  bytes = codes "as expected: " ++ (decimal n ++ (codes " events; " ++ (ending_text s.outcome ++ 10 ∷ [])));
+  bytes = codes "as expected: " ++ (decimal n ++ (codes " event" ++ (plural n ++ (codes "; " ++ (ending_text s.outcome ++ 10 ∷ [])))));
   status = 0;
 }
 

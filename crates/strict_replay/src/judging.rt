@@ -23,6 +23,7 @@ use event_trace::walk::Walk;
 use machine_model::event::{Event, Refused};
 use mark_checker::accept::Accepted;
 use report_texts::report::JobReport;
+use run_picture::words_text::plural;
 use sequencer::machine::Machine;
 use std::alloc::{AllocError, Global};
 use task_descriptor::program::Program;
@@ -212,7 +213,8 @@ fn as_expected_of(alloc: Global, machine: &Machine<'_>) -> Result<JobReport, All
 {
     let count = machine.length();
     let mut text = String::new(alloc);
-    write!(text, "as expected: {count} events; ")?;
+    let s = plural(count);
+    write!(text, "as expected: {count} event{s}; ")?;
     write_ending(&mut text, machine.outcome())?;
     writeln!(text, "")?;
     Ok(JobReport::new(text.into_bytes(), 0))

@@ -5,3 +5,4 @@ pub mod Rounds
 pub mod Sharing
 pub mod Turning
 pub mod Going
+pub mod Late

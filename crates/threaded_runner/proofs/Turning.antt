@@ -1,6 +1,6 @@
 -- What the turn of the head's unit says: it waits only where all units do, and where the head may execute an
 -- instruction it executes.
-use Rattle.std.proofs.Common.{◌≡◌, ℕ, zero, ◌+◌, ◌-◌, ◌%◌, ◌<◌, ◌≤◌, ◌⊎◌, List, [], ◌∷◌, length, Bool, true, false, Option, Some, None, inl, inr, refl, sym, ap, ◌∙◌, subst, arith, true≢false}
+use Rattle.std.proofs.Common.{◌≡◌, ℕ, ◌+◌, ◌-◌, ◌%◌, ◌<◌, ◌⊎◌, List, [], ◌∷◌, length, Bool, true, false, Option, Some, None, inl, inr, refl, sym, ap, ◌∙◌, subst, arith, true≢false}
 use Rattle.std.proofs.lemmas.Bool.{lt-ltb, ltb-true}
 use Rattle.std.proofs.Math.Nat.{mod-lt}
 use Rattle.std.specs.Prelude.{◌&&◌, nat_lt, if◌then◌else◌, slice_get}
@@ -19,7 +19,7 @@ use Rattle.sequencer.specs.Machines.{MachineView, state, units_of}
 use Rattle.sequencer.specs.Rings.{unit_for}
 use Rattle.unit_turns.specs.Turns.{turn_of, turn_of_head, turn_at_position, fits_burst, position_of_unit}
 use Rattle.unit_turns.specs.declared.turn.Turn.{Turn}
-use Rattle.unit_turns.specs.declared.turn.Turn.TheVariants.{Apply, Burst, Wait}
+use Rattle.unit_turns.specs.declared.turn.Turn.TheVariants.{Wait}
 use Rattle.threaded_runner.specs.Holds.{IsNamed}
 use Rattle.threaded_runner.proofs.Rounds.{itself}
 

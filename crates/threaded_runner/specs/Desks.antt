@@ -1,9 +1,10 @@
 -- What the lock holds, as contracts see it; the predictor is left out.
-use Rattle.std.specs.Prelude.{◌≡◌, ℕ, ◌<◌, ◌≤◌, ◌⊎◌, List, Bool, true, false, length, replicate, slice_index, slice_set}
+use Rattle.std.specs.Prelude.{◌≡◌, ℕ, ◌<◌, ◌≤◌, ◌⊎◌, List, Bool, true, false, length, replicate}
 use Rattle.machine_model.specs.declared.event.Standing.TheVariants as standing
 use Rattle.mark_checker.specs.Places.{Checked}
 use Rattle.sequencer.specs.Machines.{MachineView, state, units_of}
 use Rattle.threaded_runner.specs.Counts.{IsCounted}
+use Rattle.threaded_runner.specs.Reports.{AreLate}
 
 -- the machine, the number of events of each worker, whether the run must stop for want of memory, and which of
 -- 16 workers wait
@@ -18,11 +19,13 @@ pub record IsDesk (d : DeskView) : Type 0 where
   pub some_worker : 0 < length d.counts
   pub counted : IsCounted (units_of d.machine) d.machine.history d.counts
 
--- the machine is that of a run over this program and certificate, with the given numbers of units and workers
-pub record IsOfRun (checked : Checked) (unit_count worker_count : ℕ) (d : DeskView) : Type 0 where
+-- the machine is that of a run over this program and certificate, with the given numbers of units and workers and this
+-- budget
+pub record IsOfRun (checked : Checked) (unit_count worker_count budget : ℕ) (d : DeskView) : Type 0 where
   pub accepted : d.machine.accepted ≡ checked
   pub units : units_of d.machine ≡ unit_count
   pub workers : length d.counts ≡ worker_count
+  pub late : AreLate budget d.machine.history
 
 -- no worker continues: the note is set, the run has ended, or the history has reached the budget
 abbrev pub IsDone : (budget : ℕ) → DeskView → Type 0

@@ -1,6 +1,6 @@
 -- What a worker does is what `turn` names: each event of a hold of the lock is one that the turn of one of
 -- its units names, in the machine in which it is applied.
-use Rattle.std.specs.Prelude.{◌≡◌, ℕ, ◌<◌, ◌≤◌, ◌⊎◌, List, [], ◌∷◌, zero, suc, length, true, Some, Err}
+use Rattle.std.specs.Prelude.{◌≡◌, ℕ, ◌≤◌, ◌⊎◌, List, [], ◌∷◌, zero, suc, length, true, Some, Err}
 use Rattle.machine_model.specs.declared.event.Event.{Event}
 use Rattle.machine_model.specs.declared.event.Event.TheVariants.{Exec, Drop}
 use Rattle.machine_model.specs.declared.event.Refused.{Refused}

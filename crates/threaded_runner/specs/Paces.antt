@@ -1,5 +1,5 @@
 -- How a worker continues with one of its units: by longer and longer bursts, or by single instructions.
-use Rattle.std.specs.Prelude.{◌≡◌, ℕ, ◌*◌, ◌-◌, max, List, Bool, true, false, ◌&&◌, not, min, nat_eq, nat_lt, nat_le, if◌then◌else◌, length, slice_get, unwrap_or, Option, Some, None, Result, Ok, Err}
+use Rattle.std.specs.Prelude.{ℕ, ◌*◌, ◌-◌, max, List, Bool, false, ◌&&◌, not, min, nat_eq, nat_le, if◌then◌else◌, length, slice_get, unwrap_or, Option, Some, None, Result, Ok, Err}
 use Rattle.machine_model.specs.declared.event.Event.TheVariants.{Exec}
 use Rattle.machine_model.specs.declared.event.Refused.{Refused}
 use Rattle.sequencer.specs.Machines.{MachineView, state}

@@ -35,7 +35,7 @@ impl<'a, P: Predict, J: Naming> Model for Desk<'a, P, J> {
     ghost view = { λ d. record { machine = d.machine; counts = d.counts.items; is_stopped = d.is_stopped; asleep = d.asleep } };
 
     ghost invariant = { λ d. IsDesk (record { machine = d.machine; counts = d.counts.items; is_stopped = d.is_stopped; asleep = d.asleep })
-        × IsOfRun J.accepted J.units J.workers (record { machine = d.machine; counts = d.counts.items; is_stopped = d.is_stopped; asleep = d.asleep }) };
+        × IsOfRun J.accepted J.units J.workers J.budget (record { machine = d.machine; counts = d.counts.items; is_stopped = d.is_stopped; asleep = d.asleep }) };
 }
 
 impl<'a, P: Predict, J: Naming> Desk<'a, P, J> {
@@ -45,7 +45,7 @@ impl<'a, P: Predict, J: Naming> Desk<'a, P, J> {
     ghost use Rattle.sequencer.specs.Choices.{choice_of};
     ghost use Rattle.sequencer.specs.Bursts.{IsFresh, IsRefusedBurst, Takes};
     ghost use Rattle.machine_model.specs.Answer.{most_events};
-    ghost use Rattle.threaded_runner.specs.Reports.{IsThreadsReportOf};
+    ghost use Rattle.threaded_runner.specs.Reports.{IsThreadsReportOf, is_late};
     ghost use Rattle.threaded_runner.specs.Desks.{IsDone, SameNotes, nobody, stopped};
     ghost use Rattle.threaded_runner.specs.Holds.{IsStoppedAt, RunsHead};
     ghost use Rattle.threaded_runner.specs.Shares.{AllWait, IsShareOf};
@@ -106,14 +106,16 @@ impl<'a, P: Predict, J: Naming> Desk<'a, P, J> {
         self.is_stopped = true;
     }
 
-    /// Applies an event of a unit, and counts it for the worker of that unit.
+    /// Applies an event of a unit, and counts it for the worker of that unit. Once the budget is spent this is an
+    /// instruction or a Drop.
     ///
     /// # Errors
     ///
     /// Why the machine refuses the event; nothing is changed then.
     #[inline]
     pub(crate) fn apply(&mut self, unit: u32, event: Event) -> Result<(), Refused>
-        requires { unit_for self.old.machine event ≡ unit }
+        requires belongs { unit_for self.old.machine event ≡ unit }
+        requires room { is_late event ≡ false → length self.old.machine.history < J.budget }
         ensures answer { IsAnswered self.old.machine event result }
         ensures ok { OnOk result (Applies self.old.machine event self.new.machine) }
         ensures err { OnErr result (self.new ≡ self.old) }
@@ -151,7 +153,8 @@ impl<'a, P: Predict, J: Naming> Desk<'a, P, J> {
     /// Asks the predictor which target comes next, and applies that target's Assign, which is the unit's. Such an
     /// event takes no memory and is not refused.
     pub(crate) fn choose(&mut self, unit: u32)
-        requires { MayChoose self.old.machine unit }
+        requires may { MayChoose self.old.machine unit }
+        requires room { length self.old.machine.history < J.budget }
         ensures chosen { (answer : ℕ) × (e : Event) × (choice_of self.old.machine.accepted.program (state self.old.machine) answer ≡ Some e) × Applies self.old.machine e self.new.machine }
         ensures kept { SameRing self.old.machine self.new.machine }
         ensures notes { SameNotes self.old self.new }
@@ -163,7 +166,8 @@ impl<'a, P: Predict, J: Naming> Desk<'a, P, J> {
 
     /// Applies the Assign that an answer chooses, which is the unit's.
     fn assign(&mut self, unit: u32, answer: u32)
-        requires { MayChoose self.old.machine unit }
+        requires may { MayChoose self.old.machine unit }
+        requires room { length self.old.machine.history < J.budget }
         ensures chosen { (e : Event) × (choice_of self.old.machine.accepted.program (state self.old.machine) answer ≡ Some e) × Applies self.old.machine e self.new.machine }
         ensures kept { SameRing self.old.machine self.new.machine }
         ensures notes { SameNotes self.old self.new }
@@ -205,6 +209,7 @@ impl<'a, P: Predict, J: Naming> Desk<'a, P, J> {
     /// Applies the head event, and counts it for the worker of its unit; answers whether there was
     /// one and it was not refused.
     fn apply_head_event(&mut self) -> bool
+        requires { length self.old.machine.history < J.budget }
         ensures grows { IsTrue result → (length self.new.machine.history ≡ length self.old.machine.history + 1) × (length self.new.machine.history ≤ most_events) }
         ensures workers { length self.new.counts ≡ length self.old.counts }
     {
@@ -222,6 +227,7 @@ impl<'a, P: Predict, J: Naming> Desk<'a, P, J> {
 
     /// Applies head events until no worker would continue; where one is refused the note is set.
     fn finish(&mut self, budget: u32)
+        requires { budget ≡ J.budget }
         ensures done { IsDone budget self.new }
         ensures workers { length self.new.counts ≡ length self.old.counts }
     {
@@ -240,6 +246,7 @@ impl<'a, P: Predict, J: Naming> Desk<'a, P, J> {
     ///
     /// `AllocError` where the note is set.
     pub(crate) fn report(mut self, budget: u32) -> Result<Report<'a>, AllocError>
+        requires { budget ≡ J.budget }
         ensures { IfOk result (IsThreadsReportOf J.accepted J.units J.workers budget) }
     {
         self.finish(budget);

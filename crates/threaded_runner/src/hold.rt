@@ -143,6 +143,7 @@ impl<J: Naming> Worker<J> {
         requires first { IsFirst desk.old.machine self.old.share unit }
         requires turn { Turn.Apply event ≡ turn_of desk.old.machine unit }
         requires own { IsOwn desk.old.machine unit event }
+        requires room { length desk.old.machine.history < self.old.budget }
         ensures turn { IsTurnTaken self.old desk.old self.new desk.new result }
         ensures stays { IsSameWorker self.old self.new }
     {
@@ -159,11 +160,14 @@ impl<J: Naming> Worker<J> {
         requires served { IsServed self.old.share unit }
         requires turn { Turn.Apply event ≡ turn_of desk.old.machine unit }
         requires own { IsOwn desk.old.machine unit event }
+        requires room { length desk.old.machine.history < self.old.budget }
         ensures turn { TakesTurns self.old.share 1 desk.old desk.new }
         ensures did { DoesEvent self.old unit event desk.old self.new desk.new ⊎ GivesUp self.old unit desk.old self.new desk.new ⊎ StopsRun self.old unit desk.old self.new desk.new }
         ensures few { length desk.new.machine.history ≤ length desk.old.machine.history + 1 }
         ensures stays { IsSameWorker self.old self.new }
     {
+        // Reading the budget gives what is known of it.
+        let _ = self.budget();
         let begins = assigns(&event);
         match desk.apply(unit, event) {
             Ok(()) => self.after_event(unit, begins),
@@ -185,12 +189,15 @@ impl<J: Naming> Worker<J> {
         requires first { IsFirst desk.old.machine self.old.share unit }
         requires turn { Turn.Choose ≡ turn_of desk.old.machine unit }
         requires own { MayChoose desk.old.machine unit }
+        requires room { length desk.old.machine.history < self.old.budget }
         ensures turn { IsTurnTaken self.old desk.old self.new desk.new result }
         ensures stays { IsSameWorker self.old self.new }
     {
         if self.is_held(desk.machine(), unit) {
             return Some(self.wait());
         }
+        // Reading the budget gives what is known of it.
+        let _ = self.budget();
         desk.choose(unit);
         self.begin(unit);
         None
@@ -373,8 +380,7 @@ impl<J: Naming> Worker<J> {
         }
     }
 
-    /// Applies the event that the turn of the head's unit names; answers whether it names one and the run
-    /// continues.
+    /// Applies the event that the turn of the head's unit names; answers whether the run went on and it names one.
     fn apply_at_head<P: Predict>(&mut self, desk: &mut Desk<'_, P, J>) -> bool
         requires { self.old.share.workers ≡ 1 }
         ensures turns { TakesTurns self.old.share 0 desk.old desk.new }
@@ -383,12 +389,15 @@ impl<J: Naming> Worker<J> {
     {
         // Reading the share gives what is known of it.
         let _ = self.share();
+        if desk.is_done(self.budget) {
+            return false;
+        }
         let machine = desk.machine();
         let head = machine.head_unit();
         match turn_at_head(machine, head) {
             Turn::Apply(event) => {
                 self.apply_event(desk, head, event);
-                !desk.is_done(self.budget)
+                true
             }
             _ => false,
         }

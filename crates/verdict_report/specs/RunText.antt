@@ -27,6 +27,7 @@ use Rattle.event_json.specs.declared.source.EventSource.TheVariants as source
 use Rattle.event_json.specs.Json.{json_text}
 use Rattle.event_json.specs.declared.last_line.LastLine.{LastLine}
 use Rattle.event_json.specs.declared.last_line.LastLine.TheVariants as last_line
+use Rattle.threaded_runner.specs.Reports.{AreLate}
 use Rattle.threaded_runner.specs.declared.report.How.{How}
 use Rattle.threaded_runner.specs.declared.report.How.TheVariants.{Ended, OutOfBudget}
 use Rattle.unit_turns.specs.Steps.{beginning, after_steps, Takes}
@@ -71,9 +72,9 @@ pub record IsInSteps (p : Listing) (units budget : ℕ) (predict : Prediction) (
   pub takes : Takes p units budget (beginning p (predictor_of predict)) count
   pub events : run.history ≡ (after_steps p units budget count (beginning p (predictor_of predict))).events
 
--- the run is one of the schedule
+-- the run is one of the schedule; by threads only late events come once the budget is spent
 abbrev pub IsScheduled : Schedule → Listing → (units budget : ℕ) → Prediction → Run → Type 0
-IsScheduled Threads p units budget predict run = run.steps ≡ None
+IsScheduled Threads p units budget predict run = (run.steps ≡ None) × AreLate budget run.history
 IsScheduled Steps p units budget predict run = IsInSteps p units budget predict run
 
 -- the output words, and how the run ended

@@ -1,6 +1,7 @@
 //! A run of an accepted program, by threads or in steps.
 ghost use Rattle.std.specs.Prelude.{◌≡◌, ◌≢◌, ◌≤◌, Err, IfOk, None, length, min};
 ghost use Rattle.sequencer.specs.Machines.{units_of};
+ghost use Rattle.threaded_runner.specs.Reports.{AreLate};
 ghost use Rattle.verdict_report.specs.RunText.{IsRunOf, IsScheduled, predictor_of};
 ghost use Rattle.verdict_report.specs.Runs.{run_of, run_by_threads as run_by_threads_of, ended_as};
 
@@ -54,7 +55,7 @@ fn run_by_threads<'a, R: Threads + Wait + Sync>(
 ) -> Result<Ran<'a>, ServeFault>
     ensures over { IfOk result (λ ran. (ran.machine.accepted ≡ accepted.now) × (units_of ran.machine ≤ 16) × (units_of ran.machine ≡ extent.units)) }
     ensures run { IfOk result (λ ran. IsRunOf accepted.now.program extent.units extent.budget (run_of ran)) }
-    ensures threads { IfOk result (λ ran. ran.steps ≡ None) }
+    ensures threads { IfOk result (λ ran. (ran.steps ≡ None) × AreLate extent.budget (run_of ran).history) }
     ensures fault { result ≢ Err ServeFault.Write }
     ensures own { result ≢ Err ServeFault.Foreign }
 {
@@ -82,6 +83,7 @@ fn run_with<'a, R: Threads + Wait + Sync>(
     ensures over { IfOk result (λ report. (report.machine.accepted ≡ accepted.now) × (units_of report.machine ≤ 16) × (units_of report.machine ≡ extent.units)) }
     ensures run { IfOk result (λ report. IsRunOf accepted.now.program extent.units extent.budget (run_by_threads_of report)) }
     ensures threads { IfOk result (λ report. length report.counts.items ≡ min extent.workers extent.units) }
+    ensures late { IfOk result (λ report. AreLate extent.budget report.machine.history) }
     ensures fault { result ≢ Err ServeFault.Write }
     ensures own { result ≢ Err ServeFault.Foreign }
 {

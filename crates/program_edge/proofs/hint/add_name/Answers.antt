@@ -1,5 +1,5 @@
 -- One text after the other.
-use Rattle.std.proofs.Common.{◌≡◌, ◌∙◌, ap, append_assoc, codes, [], ◌++◌, ℕ, List}
+use Rattle.std.proofs.Common.{◌∙◌, ap, append_assoc, codes, ◌++◌, ℕ, List}
 use Rattle.std.proofs.lemmas.Result.{on_ok_weaker}
 use Rattle.program_edge.proofs.hint.add_name.Goals as goal
 

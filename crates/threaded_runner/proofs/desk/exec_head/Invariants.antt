@@ -1,4 +1,4 @@
-use Rattle.std.specs.Prelude.{◌≡◌, ◌≤◌, ◌++◌, replicate}
+use Rattle.std.specs.Prelude.{◌≡◌, ◌++◌, replicate}
 use Rattle.machine_model.specs.declared.event.Event.TheVariants.{Exec}
 use Rattle.sequencer.specs.Machines.{SameRing}
 use Rattle.threaded_runner.specs.Holds.{RunsHead}

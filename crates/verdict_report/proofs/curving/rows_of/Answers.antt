@@ -1,6 +1,6 @@
 -- One row more is that of the run on one unit more, with the predictor as it was at first; then one line more is
 -- written. Where memory runs out, what was written so far is a beginning of all.
-use Rattle.std.proofs.Common.{arith, refl, sym, subst, ◌+◌, ◌≤◌, List, ℕ}
+use Rattle.std.proofs.Common.{arith, refl, sym, subst, ◌+◌, List, ℕ}
 use Rattle.unit_turns.specs.declared.predictor.Predictor.{Predictor}
 use Rattle.speed_curve.specs.declared.row.Row.{Row}
 use Rattle.speed_curve.specs.Curve.{AreRows, IsRowOf}

@@ -1,5 +1,4 @@
 -- The rows so far are those of the runs so far, each with its line.
-use Rattle.std.proofs.Common.{◌≤◌}
 use Rattle.speed_curve.specs.Curve.{AreRows}
 use Rattle.verdict_report.specs.CurveProgress.{IsSaidIf, run_lines}
 use Rattle.verdict_report.specs.RunText.{predictor_of}

@@ -1,4 +1,4 @@
-use Rattle.std.proofs.Common.{◌≡◌, ℕ, ◌+◌, ◌%◌, List, length, Option, sym, ap, ◌∙◌, subst, arith}
+use Rattle.std.proofs.Common.{◌≡◌, ℕ, ◌+◌, ◌%◌, length, Option, sym, ap, ◌∙◌, subst, arith}
 use Rattle.std.proofs.lemmas.List.{length-replicate}
 use Rattle.std.specs.Prelude.{replicate, slice_index, slice_set, unwrap_or, vec_len}
 use Rattle.std.specs.Option.{option_map}
@@ -9,6 +9,7 @@ use Rattle.sequencer.specs.Machines.{MachineView, state}
 use Rattle.sequencer.specs.Bursts.{Takes}
 use Rattle.threaded_runner.specs.Desks.{DeskView}
 use Rattle.sequencer.specs.Rings.{unit_for}
+use Rattle.threaded_runner.proofs.Late.{execs_late}
 use Rattle.threaded_runner.proofs.Locked.{execs_own, more, as_many}
 use Rattle.threaded_runner.proofs.desk.Desk.check_in.Goals as goal
 
@@ -36,6 +37,7 @@ invariant_of-self-2 g c =
         accepted = c.in_ok-events.ensures.kept.accepted ∙ c.self.invariant.1.accepted;
         units = c.in_ok-events.ensures.kept.units ∙ c.self.invariant.1.units;
         workers = as_many i.counts.items c.add.new.counts.items worker (slice_index i.counts.items worker + b.steps) counted ∙ c.self.invariant.1.workers;
+        late = execs_late g.J.Naming.budget m.history c.take_own_burst.new.self.history k b.steps taken.1.history c.self.invariant.1.late;
       },
     )
 

@@ -1,7 +1,8 @@
-use Rattle.std.proofs.Common.{◌≡◌, ◌+◌, ◌%◌, length, sym, ◌∙◌, vec_len}
+use Rattle.std.proofs.Common.{◌+◌, ◌%◌, length, sym, ◌∙◌, vec_len}
 use Rattle.std.proofs.lemmas.List.{length-replicate}
 use Rattle.std.specs.Prelude.{replicate, slice_index}
 use Rattle.machine_model.specs.declared.event.Event.TheVariants.{Exec}
+use Rattle.threaded_runner.proofs.Late.{execs_late}
 use Rattle.threaded_runner.proofs.Locked.{execs_own, more, as_many}
 use Rattle.threaded_runner.proofs.desk.Desk.run_head.Goals as goal
 
@@ -18,5 +19,6 @@ invariant_of-self g c =
         accepted = c.exec_head-steps.ensures.kept.accepted ∙ c.self.invariant.1.accepted;
         units = c.exec_head-steps.ensures.kept.units ∙ c.self.invariant.1.units;
         workers = as_many i.counts.items c.add.new.counts.items (unit % vec_len i.counts) (slice_index i.counts.items (unit % vec_len i.counts) + steps) c.add.ensures ∙ c.self.invariant.1.workers;
+        late = execs_late g.J.Naming.budget m.history c.exec_head-steps.new.machine.history 0 steps c.exec_head-steps.ensures.history c.self.invariant.1.late;
       },
     )

@@ -1,7 +1,6 @@
-use Rattle.std.proofs.Common.{◌≡◌, ℕ, ◌<◌, sym, ap, ◌∙◌, subst, arith}
-use Rattle.sequencer.specs.Machines.{MachineView, units_of}
+use Rattle.std.proofs.Common.{◌≡◌, ℕ, ◌<◌, sym, ◌∙◌, subst, arith}
+use Rattle.sequencer.specs.Machines.{units_of}
 use Rattle.unit_turns.specs.Turns.{turn_of}
-use Rattle.unit_turns.specs.declared.turn.Turn.{Turn}
 use Rattle.unit_turns.specs.declared.turn.Turn.TheVariants.{Apply, Wait}
 use Rattle.threaded_runner.specs.declared.share.Share.{Share}
 use Rattle.threaded_runner.specs.Shares.{IsShareOf, IsServed}

@@ -1,4 +1,4 @@
-use Rattle.std.proofs.Common.{◌≡◌, ℕ, true, inl, sym, ◌∙◌, subst, true≢false}
+use Rattle.std.proofs.Common.{◌≡◌, true, inl, sym, ◌∙◌, subst, true≢false}
 use Rattle.threaded_runner.specs.declared.share.Share.{Share}
 use Rattle.threaded_runner.specs.Holds.{TakesTurns}
 use Rattle.threaded_runner.proofs.Going.{more_turns}

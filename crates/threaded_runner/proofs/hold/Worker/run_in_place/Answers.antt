@@ -1,4 +1,4 @@
-use Rattle.std.proofs.Common.{◌≡◌, ℕ, sym, ◌∙◌, subst, arith}
+use Rattle.std.proofs.Common.{◌≡◌, sym, ◌∙◌, subst, arith}
 use Rattle.threaded_runner.specs.declared.share.Share.{Share}
 use Rattle.threaded_runner.specs.Desks.{DeskView}
 use Rattle.threaded_runner.specs.Holds.{TakesTurns}

@@ -1,6 +1,5 @@
 use Rattle.std.proofs.Common.{ℕ, sym, ap, ◌∙◌, subst}
-use Rattle.unit_turns.specs.Turns.{IsTurn, turn_of}
-use Rattle.unit_turns.specs.declared.turn.Turn.{Turn}
+use Rattle.unit_turns.specs.Turns.{turn_of}
 use Rattle.threaded_runner.specs.Shares.{IsFirst}
 use Rattle.threaded_runner.proofs.Sharing.{head_first}
 use Rattle.threaded_runner.proofs.share.Share.head_turn.Goals as goal
