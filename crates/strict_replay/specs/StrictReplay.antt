@@ -63,6 +63,7 @@ same_standing standing other = false
 -- whether a change is what was expected
 abbrev pub shows : Expectation → Change → Bool
 shows (Register r word) (change.Wrote register w) = nat_eq register r && nat_eq w word
+shows (Register r word) (change.Took register w) = nat_eq register r && nat_eq w word
 shows (Register r word) (change.AtUnit position task c) = brings r word c
 shows (Sends r word) (change.Sent register w) = nat_eq register r && nat_eq w word
 shows (Sends r word) (change.AtUnit position task c) = drains r word c

@@ -54,6 +54,10 @@ fn shows_register(register: Reg, word: u32, change: Change) -> bool
             register: other,
             word: there,
         } => other == register && there == word,
+        Change::Took {
+            register: other,
+            word: there,
+        } => other == register && there == word,
         Change::AtUnit { change, .. } => brings(register, word, change),
         _ => false,
     }
