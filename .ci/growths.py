@@ -1,12 +1,18 @@
 #!/usr/bin/env python3
 """Refuses each growth of memory of the worked examples in turn, over the programs that `rt ci` built.
 
-    growths.py [--minutes M] [--program BUILT] [--calls BUILT]
+    growths.py [--minutes M] [--program BUILT] [--calls BUILT] [--measure]
 
 It runs the program `multiscalar` on each worked example whose growths are refused (fuzz/refused_growths.py), and the
 program of crates/test_growths, which makes one public call and makes it again after a refusal (fuzz/refused_calls.py). A
 library that is loaded before the C library refuses one growth of each run. A table tells what was answered; a
 difference, a call that was not tried, a tool that is missing, or too little time ends the script with status 1.
+
+It measures, too, the greatest single growth that each call and each subcommand asks for with ample memory, on the worked
+examples and on a program of many tasks, and compares it with what it may need (BOUNDS): so much whatever it is given, and
+so many bytes for each byte of the texts that it is given and of what it answers. No contract tells a call that asks for
+far more than it needs: where it is refused, it says truly that memory was refused. More than the bound ends the script with
+status 1. `--measure` prints all growths, and refuses none.
 
 Needs python3, cc and Linux.
 """
@@ -27,6 +33,12 @@ import refused_calls
 import refused_growths
 
 BUILT = "crates/{0}/out/{0}"
+
+# What one growth of a call may ask for: bytes whatever it is given, and bytes for each byte that it is given and that it
+# answers; the reason. A list doubles its room when it is full, so it may ask for twice what it holds in the end.
+Bound = collections.namedtuple("Bound", "fixed given answered why")
+BOUNDS = {
+}
 
 
 def calls_of_program():
@@ -62,11 +74,50 @@ def tried(program, calls, seconds):
         return [it.get() for it in [*of_programs, *of_calls]]
 
 
+def measured_of_program(program, part, of):
+    """Of each measured run in this part its subcommand, its words, its greatest growth, and the bytes given and answered."""
+    return [(words[0], " ".join(os.path.basename(it) for it in words), ended.greatest, given, len(ended.out) + len(ended.told), ended.status)
+            for words, ended, given in refused_growths.greatest(program, part, of)]
+
+
+def measured_of_call(calls, call):
+    """The same of each measured case of a call."""
+    return [(call, f"{case.name}, {case.workers} workers", ran.greatest, given, answered, 0 if ran.growths else 2)
+            for case, ran, given, answered in refused_calls.greatest(calls, call)]
+
+
+def measured(program, calls):
+    """What `measured_of_program` and `measured_of_call` say of all runs."""
+    cores = len(os.sched_getaffinity(0))
+    with multiprocessing.Pool(cores) as pool:
+        runs = [pool.apply_async(measured_of_program, (program, part, cores)) for part in range(1, cores + 1)]
+        runs += [pool.apply_async(measured_of_call, (calls, call)) for call in calls_of_program()]
+        return [row for it in runs for row in it.get()]
+
+
+def beyond(rows, tells_all):
+    """What is wrong with these growths: those that are beyond their bound, and calls that have none."""
+    wrong = []
+    for name, what, asked, given, answered, status in rows:
+        bound = BOUNDS.get(name)
+        most = bound.fixed + bound.given * given + bound.answered * answered if bound else 0
+        if tells_all:
+            print(f"growths: {name}: {what}: {asked} bytes of {most}; given {given}, answered {answered}, status {status}")
+        if not asked or status is None or status not in (0, 1, 3):
+            wrong.append(f"{name}: {what}: no growth was measured, status {status}")
+        elif not bound:
+            wrong.append(f"{name}: it has no bound")
+        elif asked > most:
+            wrong.append(f"{name}: {what}: one growth asks for {asked:,} bytes, and {most:,} are needed at most: {bound.why}")
+    return wrong
+
+
 def main():
     parser = argparse.ArgumentParser(description=__doc__.splitlines()[0])
     parser.add_argument("--minutes", default=5, type=float, help="fail where this does not suffice")
     parser.add_argument("--program", default=TOP / BUILT.format("multiscalar"), type=pathlib.Path)
     parser.add_argument("--calls", default=TOP / BUILT.format("test_growths"), type=pathlib.Path)
+    parser.add_argument("--measure", action="store_true", help="print the greatest growth of each run, and refuse none")
     args = parser.parse_args()
     missing = [str(it) for it in (args.program, args.calls) if not it.is_file()] + ([] if shutil.which("cc") else ["cc"])
     if missing:
@@ -77,11 +128,14 @@ def main():
         copies = [shutil.copy(it, name) for it in (args.program, args.calls)]
         for copy in copies:
             os.chmod(copy, 0o755)
-        rows = tried(*copies, 60 * args.minutes)
-    wrong = [difference for row in rows for difference in row[3]]
+        found = measured(*copies)
+        rows = [] if args.measure else tried(*copies, 60 * args.minutes)
+    far = beyond(found, args.measure)
+    wrong = [difference for row in rows for difference in row[3]] + far
     for name in dict.fromkeys(row[0] for row in rows):
         answers = sum((collections.Counter(row[2]) for row in rows if row[0] == name), collections.Counter())
         print(f"growths: {name}:", ", ".join(f"{count} {answer}" for answer, count in answers.most_common()))
+    print(f"growths: {len(found)} greatest growths, {len(far)} beyond need")
     for difference in wrong:
         print("growths: wrong:", difference)
     print(f"growths: {'FAILED' if wrong else 'ok'}: {sum(row[1] for row in rows)} runs, {len(wrong)} wrong, in {time.monotonic() - begin:.0f} seconds")

@@ -41,7 +41,7 @@ enum { GROW, OPEN, READ, WRITE, TELL, PREAD, SIZE, KINDS };
 struct fault { int kind; unsigned long from, to, one_in, seed; char how; long value; };
 static struct fault faults[8];
 static int count, ready;
-static unsigned long calls[KINDS], for_writing;
+static unsigned long calls[KINDS], for_writing, greatest;
 static unsigned char opened[1024], read_of[1 << 16];
 static struct { long offset, got; } preads[1 << 13];
 
@@ -150,23 +150,30 @@ static size_t room(int kind, unsigned long call, size_t n) {
     const struct fault *f = fault_at(kind, call, 1);
     return f && (size_t)f->value < n ? (size_t)f->value : n;
 }
-static int refused(void) { long result; int was = errno, is = fails(GROW, number(GROW), &result); if (!is) errno = was; return is; }
+static int refused(size_t n) {
+    unsigned long before = __atomic_load_n(&greatest, __ATOMIC_SEQ_CST);
+    while (ready && before < n && !__atomic_compare_exchange_n(&greatest, &before, n, 0, __ATOMIC_SEQ_CST, __ATOMIC_SEQ_CST)) { }
+    long result;
+    int was = errno, is = fails(GROW, number(GROW), &result);
+    if (!is) errno = was;
+    return is;
+}
 static void *next(const char *name) { return dlsym(RTLD_NEXT, name); }
 void *malloc(size_t n) {
     static void *(*real)(size_t); if (!real) real = next("malloc");
-    return refused() ? NULL : real(n);
+    return refused(n) ? NULL : real(n);
 }
 void *realloc(void *p, size_t n) {
     static void *(*real)(void *, size_t); if (!real) real = next("realloc");
-    return refused() ? NULL : real(p, n);
+    return refused(n) ? NULL : real(p, n);
 }
 void *aligned_alloc(size_t a, size_t n) {
     static void *(*real)(size_t, size_t); if (!real) real = next("aligned_alloc");
-    return refused() ? NULL : real(a, n);
+    return refused(n) ? NULL : real(a, n);
 }
 int posix_memalign(void **p, size_t a, size_t n) {
     static int (*real)(void **, size_t, size_t); if (!real) real = next("posix_memalign");
-    return refused() ? ENOMEM : real(p, a, n);
+    return refused(n) ? ENOMEM : real(p, a, n);
 }
 int open(const char *path, int flags, ...) {
     va_list more; va_start(more, flags); int mode = va_arg(more, int); va_end(more);
@@ -210,7 +217,7 @@ int statx(int fd, const char *restrict path, int flags, unsigned mask, struct st
 static void finish(void) {
     const char *path = getenv("COUNTS");
     if (!path) return;
-    static char text[4 * sizeof read_of + 40 * (sizeof preads / sizeof *preads)];
+    static char text[4 * sizeof read_of + 40 * (sizeof preads / sizeof *preads) + 40];
     int size = 0;
     for (int kind = 0; kind < KINDS; kind++) size += snprintf(text + size, sizeof text - size, "%lu ", calls[kind]);
     size += snprintf(text + size, sizeof text - size, "%lu\n", for_writing);
@@ -219,6 +226,7 @@ static void finish(void) {
     text[size++] = '\n';
     for (unsigned long i = 1; i <= calls[PREAD] && i < sizeof preads / sizeof *preads; i++)
         size += snprintf(text + size, sizeof text - size, "%ld,%ld ", preads[i].offset, preads[i].got);
+    size += snprintf(text + size, sizeof text - size, "\n%lu", greatest);
     long file = syscall(SYS_openat, AT_FDCWD, path, O_WRONLY | O_CREAT | O_TRUNC, 0666);
     if (syscall(SYS_write, file, text, size) < 0) { }
 }
@@ -231,8 +239,8 @@ void _exit(int status) {
 
 # How a run ended. `counts` has the number of calls of each kind and, last, of opens for writing, `read_of` the
 # number of the file, from 1, that each read was of (0 is standard input), and `preads` where each positioned read began and what it
-# answered; they are None where the process ended by a signal.
-Ended = collections.namedtuple("Ended", "status out told counts read_of preads", defaults=[None])
+# answered, and `greatest` the bytes of the greatest growth that was asked for; they are None where the process ended by a signal.
+Ended = collections.namedtuple("Ended", "status out told counts read_of preads greatest", defaults=[None, None])
 
 
 def fault(kind, first, last, how, value=0, one_in=0, seed=0):
@@ -342,9 +350,9 @@ class Bench:
     def counted(self):
         if not self.counts.exists():
             return None, None, None
-        first, second, third = (self.counts.read_text() + "\n\n").split("\n")[:3]
+        first, second, third, fourth = (self.counts.read_text() + "\n\n").split("\n")[:4]
         preads = [tuple(map(int, it.split(","))) for it in third.split()]
-        return [int(n) for n in first.split()], [int(n) for n in second.split()], preads
+        return [int(n) for n in first.split()], [int(n) for n in second.split()], preads, int(fourth)
 
     def plain(self, words, **more):
         """A run without the library."""

@@ -48,14 +48,16 @@ SOURCE = r"""
 #include <string.h>
 #include <sys/syscall.h>
 #include <unistd.h>
-static unsigned long growths, refusals, from, to;
+static unsigned long growths, refusals, greatest, from, to;
 static int counts_now;
 __attribute__((constructor)) static void start(void) {
     from = getenv("FROM") ? strtoul(getenv("FROM"), NULL, 10) : 0;
     to = getenv("TO") ? strtoul(getenv("TO"), NULL, 10) : 0;
 }
-static int refused(void) {
+static int refused(size_t n) {
     if (!__atomic_load_n(&counts_now, __ATOMIC_SEQ_CST)) return 0;
+    unsigned long before = __atomic_load_n(&greatest, __ATOMIC_SEQ_CST);
+    while (before < n && !__atomic_compare_exchange_n(&greatest, &before, n, 0, __ATOMIC_SEQ_CST, __ATOMIC_SEQ_CST)) { }
     unsigned long growth = __atomic_add_fetch(&growths, 1, __ATOMIC_SEQ_CST);
     if (growth < from || growth > to) return 0;
     __atomic_add_fetch(&refusals, 1, __ATOMIC_SEQ_CST);
@@ -65,19 +67,19 @@ static int refused(void) {
 static void *next(const char *name) { return dlsym(RTLD_NEXT, name); }
 void *malloc(size_t n) {
     static void *(*real)(size_t); if (!real) real = next("malloc");
-    return refused() ? NULL : real(n);
+    return refused(n) ? NULL : real(n);
 }
 void *realloc(void *p, size_t n) {
     static void *(*real)(void *, size_t); if (!real) real = next("realloc");
-    return refused() ? NULL : real(p, n);
+    return refused(n) ? NULL : real(p, n);
 }
 void *aligned_alloc(size_t a, size_t n) {
     static void *(*real)(size_t, size_t); if (!real) real = next("aligned_alloc");
-    return refused() ? NULL : real(a, n);
+    return refused(n) ? NULL : real(a, n);
 }
 int posix_memalign(void **p, size_t a, size_t n) {
     static int (*real)(void **, size_t, size_t); if (!real) real = next("posix_memalign");
-    return refused() ? ENOMEM : real(p, a, n);
+    return refused(n) ? ENOMEM : real(p, a, n);
 }
 ssize_t write(int fd, const void *p, size_t n) {
     if (fd == 1 && n == 6 && !memcmp(p, "begin\n", 6)) __atomic_store_n(&counts_now, 1, __ATOMIC_SEQ_CST);
@@ -87,7 +89,7 @@ ssize_t write(int fd, const void *p, size_t n) {
 // The program ends so: no destructor runs.
 void _exit(int status) {
     char text[99];
-    int size = snprintf(text, sizeof text, "%lu %lu", growths, refusals);
+    int size = snprintf(text, sizeof text, "%lu %lu %lu", growths, refusals, greatest);
     long file = syscall(SYS_openat, AT_FDCWD, getenv("COUNTS"), O_WRONLY | O_CREAT | O_TRUNC, 0666);
     if (syscall(SYS_write, file, text, size) < 0) { }
     for (;;) syscall(SYS_exit_group, status);
@@ -112,6 +114,12 @@ B: out $8
 out $10
 halt
 """
+# Many short tasks, one after another: a growth by a product of two of their numbers is far beyond need.
+MANY_TASKS, IN_EACH = 250, 12
+MANY = "".join([".start T0\n", *(f".task T{at} create=$8 targets=T{at + 1}\n" for at in range(MANY_TASKS)),
+                f".task T{MANY_TASKS} create=- targets=-\n",
+                *("".join([f"T{at}:\n", "addiu $8,$8,1\n" * (IN_EACH - 1), "addiu $8,$8,1 !f!s\n"]) for at in range(MANY_TASKS)),
+                f"T{MANY_TASKS}: out $8\nhalt\n"])
 # Calls on a program alone, on its certificate too, and those that make threads.
 ON_PROGRAM = ["Memory::new", "Program::plain", "Plain::new", "Plain::step", "Plain::run", "assemble", "print",
               "print_and_assemble", "members", "propose", "certify", "is_sound", "source_map", "shown_findings", "mark_errors", "with_marks_of", "costly_marks", "mark_warnings",
@@ -124,7 +132,8 @@ ON_ACCEPTED = ["Unit::exec", "Unit::exec_ahead", "Unit::take", "Machine::new", "
 REFUSED = {"refused: unchanged", "refused: changed", "another fault"}
 
 Case = collections.namedtuple("Case", "call name program certificate script units workers words")
-Ran = collections.namedtuple("Ran", "status faults notes answer growths refusals")
+# `greatest` has the bytes of the greatest growth that the call asked for.
+Ran = collections.namedtuple("Ran", "status faults notes answer growths refusals greatest")
 
 
 def replaced(text, old, new):
@@ -254,6 +263,25 @@ def worked_cases(folder):
     yield from of_example(folder / "long tasks", ["Unit::take", "Burst::run", "apply_burst"])
 
 
+def measured_cases(folder):
+    """The worked cases, and each of their calls on a program of many tasks."""
+    every = list(worked_cases(folder))
+    yield from every
+    for call in dict.fromkeys(case.call for case in every):
+        yield from of_example(folder / "many tasks", [call], workers=3 if call in IN_THREADS else 1)
+
+
+def greatest(program, only=""):
+    """Of each measured case its greatest growth in bytes, with ample memory, and the bytes that it is given and that it answers."""
+    with tempfile.TemporaryDirectory(prefix="multiscalar-calls-") as name:
+        bench = Bench(program, pathlib.Path(name))
+        for case in measured_cases(bench.folder):
+            if only in ("", case.call):
+                ran = bench.run(case, 0, 0)
+                given = sum(path.stat().st_size for path in {case.program, case.certificate, case.script})
+                yield case, ran, given, len(ran.answer)
+
+
 class Bench:
     """The program with the library before it."""
 
@@ -263,11 +291,12 @@ class Bench:
         source = folder / "refuse.c"
         source.write_text(SOURCE)
         subprocess.run(["cc", "-O1", "-shared", "-fPIC", "-o", self.library, source, "-ldl"], check=True)
-        long = folder / "long tasks"
-        long.mkdir()
-        (long / "program.s").write_text(LONG)
-        answer = self.run(Case("certify", "", long / "program.s", long / "program.s", long / "program.s", 1, 1, ()), 0, 0).answer
-        (long / "certificate.cert2").write_bytes(answer)
+        for name, text in (("long tasks", LONG), ("many tasks", MANY)):
+            made = folder / name
+            made.mkdir()
+            (made / "program.s").write_text(text)
+            answer = self.run(Case("certify", "", made / "program.s", made / "program.s", made / "program.s", 1, 1, ()), 0, 0).answer
+            (made / "certificate.cert2").write_bytes(answer)
 
     def run(self, case, first, last):
         """A run of the case with the growths from the first to the last refused."""
@@ -277,12 +306,12 @@ class Bench:
         try:
             done = ending.run([str(word) for word in words], stdin=subprocess.DEVNULL, capture_output=True, env=environment)
         except subprocess.TimeoutExpired:
-            return Ran("did not end", [], [], b"", 0, 0)
+            return Ran("did not end", [], [], b"", 0, 0, 0)
         before, _, answer = done.stdout.partition(b"answer\n")
         lines = before.decode(errors="replace").splitlines()
-        growths, refusals = map(int, self.counts.read_text().split()) if self.counts.exists() else (0, 0)
+        growths, refusals, greatest = map(int, self.counts.read_text().split()) if self.counts.exists() else (0, 0, 0)
         return Ran(done.returncode, [line for line in lines if line in REFUSED], [line for line in lines if line.startswith("note")],
-                   answer, growths, refusals)
+                   answer, growths, refusals, greatest)
 
 
 class Row:

@@ -42,6 +42,7 @@ import time
 import xml.etree.ElementTree as tree
 
 import faults
+import refused_calls
 from faults import EVERY, GROW, TOP, Row, fault
 from model import traced
 
@@ -102,6 +103,12 @@ task B
 """
 
 
+# The runs on a program of many tasks whose greatest growth is measured as well: S is a script of its run.
+MEASURED = ["seq P", "print P", "explain P", "annotate P", *(f"annotate P --emit {emit}" for emit in ("cert", "keep", "marks")),
+            "check P C", "check P C --workers 4", "check P --least", "run P C --units 4", "run P C --units 4 --schedule steps",
+            *(f"replay P C S --units 1 --emit {emit}" for emit in ("report", "summary", "svg", "trace", "json")), "curve P C --units 2"]
+
+
 def worked_cases(folder):
     """The words of each run of the worked examples, what it prints, and its status. Texts are written into the folder."""
     for name, text in (("bare.s", BARE), ("count.s", COUNT)):
@@ -115,6 +122,26 @@ def worked_cases(folder):
     yield ["annotate", bare], FORWARDED, 0
     yield ["annotate", "--emit", "cert", bare], CERTIFICATE, 0
     yield ["annotate", "--emit", "keep", str(folder / "count.s")], CERTIFICATE, 0
+
+
+def measured_words(bench):
+    """The words of each run whose greatest growth is measured: the worked examples, and each subcommand on a program of many tasks."""
+    folder = bench.folder
+    yield from (words for words, _, _ in worked_cases(folder))
+    many, certificate, script = (folder / name for name in ("many.s", "many.cert2", "many.events"))
+    many.write_text(refused_calls.MANY)
+    texts = {"P": str(many), "C": str(certificate), "S": str(script)}
+    certificate.write_bytes(bench.plain(["annotate", "--emit", "keep", str(many)]).out)
+    script.write_bytes(bench.plain(["run", str(many), str(certificate), "--units", "1", "--emit", "script"]).out)
+    for line in MEASURED:
+        yield [texts.get(word, word) for word in line.split()]
+
+
+def greatest(program, part=1, of=1):
+    """Of each measured run that falls into this part the words, how it ended, and the bytes that it is given."""
+    with faults.Bench(program) as bench:
+        for words in itertools.islice(measured_words(bench), part - 1, None, of):
+            yield words, bench.run(words), sum(os.path.getsize(word) for word in words if "/" in word)
 
 
 def example_cases():
