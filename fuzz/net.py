@@ -1,0 +1,237 @@
+#!/usr/bin/env python3
+"""Tells where the program answers other bytes than it did when net.txt was recorded.
+
+    net.py PROGRAM                  runs all command lines of net_lines.py, and compares with net.txt
+    net.py --compare OLD NEW        runs them with two programs, and prints how each answer differs
+    net.py --record PROGRAM         writes net.txt anew
+
+That nothing changed is all that it says: net.txt holds what the program answered, right or not. For each command line it has
+the status and the first half of the SHA-256 of standard output and of standard error (`-` where nothing was written); of the
+texts that the command lines name it has one sum. Where a change of the bytes is meant, look at each with --compare (OLD is the
+program of before), and record anew. A change of an example or a generator changes the texts: then record the program of before,
+and see that only those lines of net.txt change that name such a text.
+
+`--only WORDS` runs only the command lines that hold these words; `--keep FOLDER` writes the texts there, so that a command line can be
+given by hand in the folder that stands before its colon. Needs Linux and python3.
+"""
+import argparse
+import collections
+import difflib
+import hashlib
+import multiprocessing
+import os
+import pathlib
+import pty
+import shutil
+import subprocess
+import sys
+import tempfile
+import threading
+import time
+import tty
+
+import net_lines
+
+TABLE = pathlib.Path(__file__).resolve().parent / "net.txt"
+# The seconds after which a command line is given up.
+PATIENCE = 100
+MOST_TOLD = 30
+Answer = collections.namedtuple("Answer", "status out err")
+
+
+# ---------------------------------------------------------------- one command line
+def read_all(end, into):
+    """Adds what a terminal gets until its other end is closed."""
+    try:
+        while part := os.read(end, 65536):
+            into.append(part)
+    except OSError:
+        pass
+
+
+def on_terminal(program, line, folder, settings):
+    """The answer where one stream, or each of the two, is a terminal of its own."""
+    ends, streams, parts, readers = [], {}, {"stdout": [], "stderr": []}, []
+    for name in parts:
+        if line.terminal in (name, "both"):
+            ours, its = pty.openpty()
+            tty.setraw(its)  # so that a line feed stays one byte
+            ends.append((ours, its))
+            streams[name] = its
+            readers.append(threading.Thread(target=read_all, args=(ours, parts[name])))
+        else:
+            streams[name] = subprocess.PIPE
+    process = subprocess.Popen([program, *line.words], cwd=folder, env=settings, stdin=subprocess.DEVNULL, **streams)
+    for _, its in ends:
+        os.close(its)
+    for reader in readers:
+        reader.start()
+    written = dict(zip(parts, process.communicate(timeout=PATIENCE)))
+    for reader in readers:
+        reader.join()
+    for ours, _ in ends:
+        os.close(ours)
+    return Answer(process.returncode, *(b"".join(parts[name]) or written[name] or b"" for name in parts))
+
+
+def answered(program, line, folder):
+    """What a program answers to a command line; after standard output stands the file that was written."""
+    settings = {} if line.no_color is None else {"NO_COLOR": line.no_color}
+    if line.terminal:
+        return on_terminal(program, line, folder, settings)
+    with open(os.path.join(folder, line.stdin) if line.stdin else os.devnull, "rb") as given:
+        ran = subprocess.run([program, *line.words], cwd=folder, env=settings, stdin=given, capture_output=True, timeout=PATIENCE)
+    out = ran.stdout
+    if line.writes:
+        file = pathlib.Path(folder, line.writes)
+        out += b"\n== the file ==\n" + (file.read_bytes() if file.exists() else b"there is none")
+    return Answer(ran.returncode, out, ran.stderr)
+
+
+def answer(program, line, root):
+    """What a program answers; a command that writes does so in a copy of its folder."""
+    folder = os.path.join(root, line.folder)
+    try:
+        if not line.writes:
+            return answered(program, line, folder)
+        with tempfile.TemporaryDirectory() as room:
+            copy = shutil.copytree(folder, os.path.join(room, "copy"))
+            return answered(program, line, copy)
+    except subprocess.TimeoutExpired:
+        return Answer("no end", b"", b"")
+
+
+# ---------------------------------------------------------------- all of them, in as many processes as there are cores
+def digest(written):
+    return hashlib.sha256(written).hexdigest()[:16] if written else "-"
+
+
+def row_of(job):
+    program, line, root = job
+    got = answer(program, line, root)
+    return f"{got.status}\t{digest(got.out)}\t{digest(got.err)}"
+
+
+def differences_of(job):
+    """How the answers of two programs differ, in lines; nothing where they do not."""
+    (old, new), line, root = job
+    before, after = answer(old, line, root), answer(new, line, root)
+    shown = [] if before.status == after.status else [f"status {before.status}, now {after.status}"]
+    for name, one, two in (("standard output", before.out, after.out), ("standard error", before.err, after.err)):
+        if one != two:
+            texts = (it.decode("utf-8", "backslashreplace").splitlines() for it in (one, two))
+            shown += difflib.unified_diff(*texts, f"{name} of before", f"{name} now", n=1, lineterm="")
+            shown += [] if one.splitlines() != two.splitlines() else ["    (the ends of the lines differ)"]
+    return shown
+
+
+def spread(texts, root):
+    for (folder, name), text in texts.items():
+        path = pathlib.Path(root, folder, name)
+        path.parent.mkdir(parents=True, exist_ok=True)
+        path.write_bytes(text)
+
+
+def over_all(work, program, net, lines):
+    """What `work` says of each command line, by its key."""
+    cores = len(os.sched_getaffinity(0))
+    with tempfile.TemporaryDirectory(prefix="multiscalar-net-") as root:
+        spread(net.texts, root)
+        jobs = [(program, line, root) for line in lines.values()]
+        with multiprocessing.get_context("fork").Pool(cores) as pool:
+            return dict(zip(lines, pool.map(work, jobs, chunksize=8)))
+
+
+# ---------------------------------------------------------------- the table
+def sum_of(texts):
+    whole = hashlib.sha256()
+    for (folder, name), text in sorted(texts.items()):
+        whole.update(f"{folder}/{name} {len(text)}\n".encode() + text)
+    return whole.hexdigest()[:16]
+
+
+def table_of(net, rows):
+    return {"all texts": f"\t{sum_of(net.texts)}\t-"} | rows
+
+
+def read_table():
+    pairs = (line.split("\t", 1) for line in TABLE.read_text().splitlines())
+    return dict(pairs)
+
+
+def told(before, now):
+    """How a table differs from the recorded one, in lines."""
+    for key in sorted(before.keys() | now.keys()):
+        if before.get(key) == now.get(key):
+            continue
+        if key not in now or key not in before:
+            yield f"{key}: {'is no command line any more' if key in before else 'is not recorded'}"
+            continue
+        pairs = zip(("status", "standard output", "standard error"), before[key].split("\t"), now[key].split("\t"))
+        yield f"{key}: {', '.join(name for name, one, two in pairs if one != two)}"
+
+
+def looked_over(program, net, lines):
+    """Compares with the recorded table."""
+    begin = time.monotonic()
+    now, before = over_all(row_of, program, net, lines), read_table()
+    if len(lines) < len(net.lines):
+        before = {key: row for key, row in before.items() if key in lines}
+    else:
+        now = table_of(net, now)
+    found = list(told(before, now))
+    for it in found[:MOST_TOLD]:
+        print("net: changed:", it)
+    if len(found) > MOST_TOLD:
+        print(f"net: and {len(found) - MOST_TOLD} more")
+    if any(it.startswith("all texts:") for it in found):
+        print("net: the texts are not those that were recorded: an example or a generator of fuzz/ has changed")
+    if found:
+        print("net: fuzz/net.py --compare OLD NEW shows each difference between two programs; --record PROGRAM records anew")
+    print(f"net: {'FAILED' if found else 'ok'}: {len(lines)} command lines, {len(found)} changed, in {time.monotonic() - begin:.0f} seconds")
+    return 1 if found else 0
+
+
+def compared(old, new, net, lines):
+    """Prints how two programs differ."""
+    found = {key: shown for key, shown in over_all(differences_of, (old, new), net, lines).items() if shown}
+    for key, shown in sorted(found.items()):
+        print(key, *(f"    {it}" for it in shown), sep="\n")
+    print(f"{len(lines)} command lines, {len(found)} answers differ")
+    return 1 if found else 0
+
+
+def recorded(program, net):
+    rows = table_of(net, over_all(row_of, program, net, net.lines))
+    TABLE.write_text("".join(f"{key}\t{row}\n" for key, row in sorted(rows.items())))
+    print(f"recorded {len(net.lines)} command lines")
+    return 0
+
+
+def main():
+    options = argparse.ArgumentParser(description=__doc__, formatter_class=argparse.RawDescriptionHelpFormatter)
+    options.add_argument("program", metavar="PROGRAM", nargs="?")
+    options.add_argument("--compare", metavar=("OLD", "NEW"), nargs=2)
+    options.add_argument("--record", metavar="PROGRAM")
+    options.add_argument("--only", metavar="WORDS", default="")
+    options.add_argument("--keep", metavar="FOLDER")
+    given = options.parse_args()
+    net = net_lines.whole()
+    lines = {key: line for key, line in net.lines.items() if given.only in key}
+    programs = [os.path.abspath(it) for it in given.compare or [given.record or given.program] if it]
+    for it in programs:
+        if not os.access(it, os.X_OK):
+            options.error(f"there is no program {it}")
+    if given.keep:
+        spread(net.texts, given.keep)
+    if given.compare:
+        return compared(*programs, net, lines)
+    if given.record:
+        return recorded(*programs, net)
+    if given.program:
+        return looked_over(*programs, net, lines)
+    return 0 if given.keep else options.error("give PROGRAM, --compare, --record or --keep")
+
+
+if __name__ == "__main__":
+    sys.exit(main())
