@@ -107,7 +107,7 @@ def digest(written):
 
 
 def row_of(job):
-    program, line, root = job
+    (program,), line, root = job
     got = answer(program, line, root)
     return f"{got.status}\t{digest(got.out)}\t{digest(got.err)}"
 
@@ -132,12 +132,20 @@ def spread(texts, root):
         path.write_bytes(text)
 
 
-def over_all(work, program, net, lines):
-    """What `work` says of each command line, by its key."""
+def copied(program, root, number):
+    """A copy of a program, which is there for as long as it is needed, and may be executed."""
+    copy = shutil.copy(program, os.path.join(root, f"program{number}"))
+    os.chmod(copy, 0o755)
+    return copy
+
+
+def over_all(work, programs, net, lines):
+    """What `work` says of each command line and the programs, by its key."""
     cores = len(os.sched_getaffinity(0))
     with tempfile.TemporaryDirectory(prefix="multiscalar-net-") as root:
         spread(net.texts, root)
-        jobs = [(program, line, root) for line in lines.values()]
+        copies = [copied(it, root, number) for number, it in enumerate(programs)]
+        jobs = [(copies, line, root) for line in lines.values()]
         with multiprocessing.get_context("fork").Pool(cores) as pool:
             return dict(zip(lines, pool.map(work, jobs, chunksize=8)))
 
@@ -174,7 +182,7 @@ def told(before, now):
 def looked_over(program, net, lines):
     """Compares with the recorded table."""
     begin = time.monotonic()
-    now, before = over_all(row_of, program, net, lines), read_table()
+    now, before = over_all(row_of, [program], net, lines), read_table()
     if len(lines) < len(net.lines):
         before = {key: row for key, row in before.items() if key in lines}
     else:
@@ -194,7 +202,7 @@ def looked_over(program, net, lines):
 
 def compared(old, new, net, lines):
     """Prints how two programs differ."""
-    found = {key: shown for key, shown in over_all(differences_of, (old, new), net, lines).items() if shown}
+    found = {key: shown for key, shown in over_all(differences_of, [old, new], net, lines).items() if shown}
     for key, shown in sorted(found.items()):
         print(key, *(f"    {it}" for it in shown), sep="\n")
     print(f"{len(lines)} command lines, {len(found)} answers differ")
@@ -202,7 +210,7 @@ def compared(old, new, net, lines):
 
 
 def recorded(program, net):
-    rows = table_of(net, over_all(row_of, program, net, net.lines))
+    rows = table_of(net, over_all(row_of, [program], net, net.lines))
     TABLE.write_text("".join(f"{key}\t{row}\n" for key, row in sorted(rows.items())))
     print(f"recorded {len(net.lines)} command lines")
     return 0
@@ -220,7 +228,7 @@ def main():
     lines = {key: line for key, line in net.lines.items() if given.only in key}
     programs = [os.path.abspath(it) for it in given.compare or [given.record or given.program] if it]
     for it in programs:
-        if not os.access(it, os.X_OK):
+        if not os.path.isfile(it):
             options.error(f"there is no program {it}")
     if given.keep:
         spread(net.texts, given.keep)

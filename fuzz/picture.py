@@ -2,12 +2,13 @@
 """Compares the pictures of runs with the lives of their scripts.
 
     picture.py --svg FILE --script FILE [--units N] [--count event|step]
-    picture.py --program PROGRAM [FOLDER ..]
+    picture.py --program PROGRAM [--seconds S] [--seed N] [FOLDER ..]
 
 The first form reads a picture and the event script that it shows. The second
 runs the built `multiscalar`: for each example that has a certificate it records
 runs on 1, 2, 4 and 16 units, and draws the replay of each; runs in steps are drawn by
-events and by steps. From the script alone, by a model of its own, this computes the
+events and by steps. With --seconds it cuts their runs short, goes on with random programs
+(accepted.py), and ends when the time is up. From the script alone, by a model of its own, this computes the
 lives of the tasks, the instructions, the registers passed on and the squashes, by their
 events or steps. The picture must be well-formed XML with no script and no reference
 outside, and must have exactly these: for each life one bar with its task, unit, events
@@ -19,11 +20,13 @@ differs is told, and the script ends with status 1. It is no part of the tests.
 """
 import argparse
 import collections
+import itertools
 import pathlib
 import re
 import subprocess
 import sys
 import tempfile
+import time
 import xml.etree.ElementTree as tree
 
 TOP = pathlib.Path(__file__).resolve().parent.parent
@@ -249,15 +252,32 @@ def accepts(program, folder):
     return subprocess.run([program, "check", *texts], capture_output=True).returncode == 0
 
 
-def pictures_of(program, folder):
-    """Pictures of runs of an example, with their scripts, numbers of units, and what they count."""
-    texts = [folder / "program.s", folder / "certificate.cert2"]
+def random_folders(program, seed):
+    """Folders with a random program whose marks are right, and its certificate; each is gone when the next one is asked for."""
+    import accepted
+    import model
+
+    accepted.R.seed(seed)
+    for number in itertools.count():
+        with tempfile.TemporaryDirectory() as name:
+            folder = pathlib.Path(name) / f"random-{seed}-{number}"
+            folder.mkdir()
+            (folder / "program.s").write_text(model.print_program(accepted.accepted()[0]))
+            certificate = run(program, "annotate", "--emit", "keep", folder / "program.s")
+            (folder / "certificate.cert2").write_bytes(certificate)
+            yield folder
+
+
+def pictures_of(program, folder, budget=()):
+    """Pictures of runs of an example, with their scripts, numbers of units, and what they count; the budget is an option."""
+    files = [folder / "program.s", folder / "certificate.cert2"]
+    texts = [*budget, *files]
     for units in (1, 2, 4, 16):
         script = run(program, "run", "--emit", "script", "--units", units, *texts)
         with tempfile.NamedTemporaryFile() as file:
             file.write(script)
             file.flush()
-            picture = run(program, "replay", "--emit", "svg", "--units", units, *texts, file.name)
+            picture = run(program, "replay", "--emit", "svg", "--units", units, *files, file.name)
             yield units, script.decode(), picture, "event"
         # a run in steps is the same each time
         steps = ["run", "--schedule", "steps", "--units", units, *texts, "--emit"]
@@ -266,9 +286,23 @@ def pictures_of(program, folder):
         yield units, script, run(program, *steps, "svg"), "step"
 
 
+def cases_of(program, folders, seconds, seed):
+    """The pictures of the examples; where seconds are given also of random programs, until they are up."""
+    end = time.time() + seconds if seconds else None
+    whole = ("--budget", 3000) if seconds else ()
+    more = ((folder, ("--budget", 600)) for folder in random_folders(program, seed)) if seconds else ()
+    for folder, budget in itertools.chain(((folder, whole) for folder in folders), more):
+        for case in pictures_of(program, folder, budget):
+            yield folder.name, *case
+            if end and time.time() > end:
+                return
+
+
 def main():
     options = argparse.ArgumentParser(description=__doc__, formatter_class=argparse.RawDescriptionHelpFormatter)
     options.add_argument("--program", type=lambda path: str(pathlib.Path(path).resolve()))
+    options.add_argument("--seconds", type=float, help="goes on with random programs")
+    options.add_argument("--seed", type=int, default=int(time.time()))
     options.add_argument("--svg", type=pathlib.Path)
     options.add_argument("--script", type=pathlib.Path)
     options.add_argument("--units", type=int, default=4)
@@ -280,7 +314,7 @@ def main():
     elif given.program:
         folders = given.folders or sorted(
             path.parent for path in TOP.glob("examples/*/certificate.cert2") if accepts(given.program, path.parent))
-        cases = ((folder.name, *case) for folder in folders for case in pictures_of(given.program, folder))
+        cases = cases_of(given.program, folders, given.seconds, given.seed)
     else:
         options.error("give --svg and --script, or --program")
     seen, failed = 0, 0

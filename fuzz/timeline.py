@@ -1,22 +1,27 @@
 #!/usr/bin/env python3
 """Compares the timelines of runs with the lives of their scripts.
 
-    timeline.py PROGRAM [FOLDER ..]
+    timeline.py PROGRAM [--seconds S] [--seed N] [FOLDER ..]
 
 PROGRAM is the built `multiscalar`. For each example whose program `check --least` accepts it makes runs on 1, 2, 4
 and 16 units: in steps, by `run --emit perfetto`, and by threads, whose script it records and replays by
-`replay --emit perfetto`. From the script alone, by the model of picture.py, it computes the lives of the tasks, the
+`replay --emit perfetto`. With --seconds it cuts these runs short, goes on with random programs (accepted.py), and ends when
+the time is up. From the script alone, by the model of picture.py, it computes the lives of the tasks, the
 registers passed on and the squashes; and the time of each event, which is its number, or for a run in steps that of
 its step. The timeline must be JSON with exactly these: a lane for each unit; for each life one slice with its unit,
 task, time, instructions and ending; for each register passed on one arrow, which begins and ends inside a slice of
 its unit; and for each squash one instant. Slices of one lane may not overlap. The lives must be as many as the
 summary says. What differs is told, and the script ends with status 1. It is no part of the tests.
 """
+import argparse
 import collections
+import itertools
 import json
 import pathlib
+import subprocess
 import sys
 import tempfile
+import time
 
 import picture
 
@@ -81,38 +86,56 @@ def faults_of(text, script, units, by_steps):
             yield f"arrow {it['id']} is at no slice of unit {it['tid']}"
 
 
-def timelines_of(program, text):
-    """Timelines of runs of a program, with their scripts, summaries, numbers of units and whether they are in steps."""
+def timelines_of(program, text, budget=()):
+    """Timelines of runs of a program, with their scripts, summaries, numbers of units and whether they are in steps; the budget is an option."""
     for units in (1, 2, 4, 16):
-        words = ["--least", "--units", units, text, "--emit"]
-        steps = ["run", "--schedule", "steps", *words]
+        words = ["--least", "--units", units, text]
+        steps = ["run", "--schedule", "steps", *budget, *words, "--emit"]
         yield units, True, *(picture.run(program, *steps, form).decode() for form in ("script", "summary", "perfetto"))
-        script = picture.run(program, "run", *words, "script")
+        script = picture.run(program, "run", *budget, *words, "--emit", "script")
         with tempfile.NamedTemporaryFile() as file:
             file.write(script)
             file.flush()
-            replay = ["replay", "--least", "--units", units, text, file.name, "--emit"]
+            replay = ["replay", *words, file.name, "--emit"]
             yield units, False, script.decode(), *(picture.run(program, *replay, form).decode() for form in ("summary", "perfetto"))
 
 
-def main(program, *folders):
-    program = str(pathlib.Path(program).resolve())
-    seen, failed = 0, 0
-    for folder in map(pathlib.Path, folders or sorted(path.parent for path in TOP.glob("examples/*/program.s"))):
+def cases_of(program, folders, seconds, seed):
+    """The timelines of the examples; where seconds are given also of random programs, until they are up."""
+    end = time.time() + seconds if seconds else None
+    whole = ("--budget", 3000) if seconds else ()
+    more = ((folder, ("--budget", 600)) for folder in picture.random_folders(program, seed)) if seconds else ()
+    for folder, budget in itertools.chain(((folder, whole) for folder in folders), more):
         text = folder / "program.s"
-        if picture.subprocess.run([program, "check", "--least", text], capture_output=True).returncode:
+        if subprocess.run([program, "check", "--least", text], capture_output=True).returncode:
             continue
-        for seen, (units, by_steps, script, summary, timeline) in enumerate(timelines_of(program, text), seen + 1):
-            faults = list(faults_of(timeline, script, units, by_steps))
-            assigned = next(int(line.split()[0]) for line in summary.splitlines() if line.endswith("(all)"))
-            if timeline.count('"ph":"X"') != assigned:
-                faults.append(f"not {assigned} slices, as the summary has lives")
-            failed += len(faults)
-            for fault in faults:
-                print(f"{folder.name} on {units} units, {'in steps' if by_steps else 'by threads'}: {fault}")
+        for case in timelines_of(program, text, budget):
+            yield folder.name, *case
+            if end and time.time() > end:
+                return
+
+
+def main():
+    options = argparse.ArgumentParser(description=__doc__, formatter_class=argparse.RawDescriptionHelpFormatter)
+    options.add_argument("program", metavar="PROGRAM", type=lambda path: str(pathlib.Path(path).resolve()))
+    options.add_argument("folders", metavar="FOLDER", type=pathlib.Path, nargs="*")
+    options.add_argument("--seconds", type=float, help="goes on with random programs")
+    options.add_argument("--seed", type=int, default=int(time.time()))
+    given = options.parse_args()
+    folders = given.folders or sorted(path.parent for path in TOP.glob("examples/*/program.s"))
+    seen, failed = 0, 0
+    for name, units, by_steps, script, summary, timeline in cases_of(given.program, folders, given.seconds, given.seed):
+        seen += 1
+        faults = list(faults_of(timeline, script, units, by_steps))
+        assigned = next(int(line.split()[0]) for line in summary.splitlines() if line.endswith("(all)"))
+        if timeline.count('"ph":"X"') != assigned:
+            faults.append(f"not {assigned} slices, as the summary has lives")
+        failed += len(faults)
+        for fault in faults:
+            print(f"{name} on {units} units, {'in steps' if by_steps else 'by threads'}: {fault}")
     print(f"{seen} timelines, {failed} faults")
     sys.exit(1 if failed else 0)
 
 
 if __name__ == "__main__":
-    main(*sys.argv[1:])
+    main()
