@@ -25,10 +25,11 @@ import time
 
 TOP = pathlib.Path(__file__).resolve().parent.parent
 BUILT = TOP / "crates" / "multiscalar" / "out" / "multiscalar"
-# Each script, with its words before the program.
+# Each script, with what its last line counts: the texts that it compared.
 SCRIPTS = {
-    "explain.py": [], "sarif.py": [], "costly_marks.py": [], "marks.py": [], "demonstrate.py": [], "curve_picture.py": [],
-    "waveform.py": [], "picture.py": ["--program"], "timeline.py": [],
+    "explain.py": "programs|refused texts", "sarif.py": "programs|refused texts", "costly_marks.py": "programs",
+    "marks.py": "programs|refused texts", "demonstrate.py": "right|wrong", "curve_picture.py": "pictures", "waveform.py": "dumps",
+    "picture.py": "pictures", "timeline.py": "timelines",
 }
 # The seconds that a script has for its last text.
 PATIENCE = 120
@@ -37,7 +38,8 @@ Ended = collections.namedtuple("Ended", "script status said")
 
 def start(script, program, seed, seconds, folder):
     """Starts a script; what it says goes to a file."""
-    words = [sys.executable, TOP / "fuzz" / script, *SCRIPTS[script], program, "--seed", str(seed), "--seconds", str(seconds)]
+    named = ["--program", program] if script == "picture.py" else [program]
+    words = [sys.executable, TOP / "fuzz" / script, *named, "--seed", str(seed), "--seconds", str(seconds)]
     # The order of a set of names depends on this, and so may what is drawn. What the scripts keep goes with the folder.
     settings = {**os.environ, "PYTHONHASHSEED": "0", "PYTHONDONTWRITEBYTECODE": "1", "TMPDIR": str(folder)}
     with open(folder / f"{script}.said", "wb") as said:
@@ -69,10 +71,10 @@ def tried(scripts, program, seed, seconds, folder):
             stop(process)
 
 
-def is_well(ended):
-    """Whether a script saw no difference, and compared something: the first number of its last line counts its texts."""
-    first = re.match(r"(\d+) ", ended.said[-1])
-    return ended.status == 0 and first is not None and int(first[1]) > 0
+def compared(ended):
+    """How many texts a script compared; 0 where it saw a difference or did not end."""
+    counts = re.findall(rf"(\d+) (?:{SCRIPTS[ended.script]})\b", ended.said[-1]) if ended.status == 0 else []
+    return sum(map(int, counts))
 
 
 def main():
@@ -85,18 +87,21 @@ def main():
     if not args.program.is_file():
         print("model: FAILED: missing:", args.program)
         return 1
-    begin, wrong = time.monotonic(), 0
+    begin, scripts, wrong, texts = time.monotonic(), args.only or list(SCRIPTS), 0, 0
     print(f"model: seed {args.seed}", flush=True)
     with tempfile.TemporaryDirectory(prefix="multiscalar-model-", ignore_cleanup_errors=True) as name:
         copy = shutil.copy(args.program, name)
         os.chmod(copy, 0o755)
-        for it in tried(args.only or SCRIPTS, copy, args.seed, args.seconds, pathlib.Path(name)):
-            wrong += not is_well(it)
-            if not is_well(it):
-                print(f"model: wrong: {it.script}:", "did not end" if it.status is None else f"status {it.status}", *it.said, sep="\n    ")
+        for it in tried(scripts, copy, args.seed, args.seconds, pathlib.Path(name)):
+            count = compared(it)
+            texts += count
+            if count:
+                print(f"model: {it.script}: {count} texts", flush=True)
             else:
-                print(f"model: {it.script.removesuffix('.py')}: {it.said[-1].removesuffix(f' seed {args.seed}')}", flush=True)
-    print(f"model: {'FAILED' if wrong else 'ok'}: seed {args.seed}, {wrong} of {len(args.only or SCRIPTS)} scripts wrong, in {time.monotonic() - begin:.0f} seconds")
+                wrong += 1
+                how = "did not end" if it.status is None else f"status {it.status}, nothing compared, or a difference"
+                print(f"model: wrong: {it.script}: {how}", *it.said, sep="\n    ", flush=True)
+    print(f"model: {'FAILED' if wrong else 'ok'}: {texts} texts, seed {args.seed}, {wrong} scripts wrong, in {time.monotonic() - begin:.0f} seconds")
     return 1 if wrong else 0
 
 

@@ -6,7 +6,7 @@
     net.py --record PROGRAM         writes net.txt anew
 
 That nothing changed is all that it says: net.txt holds what the program answered, right or not. For each command line it has
-the status and the first half of the SHA-256 of standard output and of standard error (`-` where nothing was written); of the
+the status and the first 16 digits of the SHA-256 of standard output and of standard error (`-` where nothing was written); of the
 texts that the command lines name it has one sum. Where a change of the bytes is meant, look at each with --compare (OLD is the
 program of before), and record anew. A change of an example or a generator changes the texts: then record the program of before,
 and see that only those lines of net.txt change that name such a text.
@@ -66,7 +66,10 @@ def on_terminal(program, line, folder, settings):
         os.close(its)
     for reader in readers:
         reader.start()
-    written = dict(zip(parts, process.communicate(timeout=PATIENCE)))
+    try:
+        written = dict(zip(parts, process.communicate(timeout=PATIENCE)))
+    finally:
+        process.kill()
     for reader in readers:
         reader.join()
     for ours, _ in ends:
@@ -134,9 +137,11 @@ def spread(texts, root):
 
 def copied(program, root, number):
     """A copy of a program, which is there for as long as it is needed, and may be executed."""
-    copy = shutil.copy(program, os.path.join(root, f"program{number}"))
-    os.chmod(copy, 0o755)
-    return copy
+    copy = pathlib.Path(root, f"program-{number}", "multiscalar")
+    copy.parent.mkdir()
+    shutil.copy(program, copy)
+    copy.chmod(0o755)
+    return str(copy)
 
 
 def over_all(work, programs, net, lines):
@@ -152,52 +157,47 @@ def over_all(work, programs, net, lines):
 
 # ---------------------------------------------------------------- the table
 def sum_of(texts):
+    """One sum of all texts."""
     whole = hashlib.sha256()
     for (folder, name), text in sorted(texts.items()):
         whole.update(f"{folder}/{name} {len(text)}\n".encode() + text)
     return whole.hexdigest()[:16]
 
 
-def table_of(net, rows):
-    return {"all texts": f"\t{sum_of(net.texts)}\t-"} | rows
-
-
 def read_table():
-    pairs = (line.split("\t", 1) for line in TABLE.read_text().splitlines())
-    return dict(pairs)
+    """The sum of the recorded texts, and the recorded rows by their keys."""
+    first, *lines = TABLE.read_text().splitlines()
+    return first.split("\t")[1], dict(line.split("\t", 1) for line in lines)
 
 
 def told(before, now):
-    """How a table differs from the recorded one, in lines."""
+    """How rows differ from recorded ones, in lines."""
     for key in sorted(before.keys() | now.keys()):
-        if before.get(key) == now.get(key):
-            continue
         if key not in now or key not in before:
             yield f"{key}: {'is no command line any more' if key in before else 'is not recorded'}"
-            continue
-        pairs = zip(("status", "standard output", "standard error"), before[key].split("\t"), now[key].split("\t"))
-        yield f"{key}: {', '.join(name for name, one, two in pairs if one != two)}"
+        elif before[key] != now[key]:
+            pairs = zip(("status", "standard output", "standard error"), before[key].split("\t"), now[key].split("\t"))
+            yield f"{key}: {', '.join(name for name, one, two in pairs if one != two)}"
 
 
 def looked_over(program, net, lines):
-    """Compares with the recorded table."""
+    """Compares with the recorded table. A recorded command line that is in the net but not asked for is passed over."""
     begin = time.monotonic()
-    now, before = over_all(row_of, [program], net, lines), read_table()
-    if len(lines) < len(net.lines):
-        before = {key: row for key, row in before.items() if key in lines}
-    else:
-        now = table_of(net, now)
-    found = list(told(before, now))
+    texts, before = read_table()
+    now = over_all(row_of, [program], net, lines)
+    found = list(told({key: row for key, row in before.items() if key in lines or key not in net.lines}, now))
     for it in found[:MOST_TOLD]:
         print("net: changed:", it)
     if len(found) > MOST_TOLD:
         print(f"net: and {len(found) - MOST_TOLD} more")
-    if any(it.startswith("all texts:") for it in found):
+    has_texts = texts == sum_of(net.texts)
+    if not has_texts:
         print("net: the texts are not those that were recorded: an example or a generator of fuzz/ has changed")
-    if found:
-        print("net: fuzz/net.py --compare OLD NEW shows each difference between two programs; --record PROGRAM records anew")
-    print(f"net: {'FAILED' if found else 'ok'}: {len(lines)} command lines, {len(found)} changed, in {time.monotonic() - begin:.0f} seconds")
-    return 1 if found else 0
+    if found or not has_texts:
+        print("net: fuzz/net.py --compare OLD NEW shows how the answers of two programs differ; --record PROGRAM records anew")
+    failed = "ok" if has_texts and not found else "FAILED"
+    print(f"net: {failed}: {len(lines)} command lines, {len(found)} changed, in {time.monotonic() - begin:.0f} seconds")
+    return 0 if failed == "ok" else 1
 
 
 def compared(old, new, net, lines):
@@ -210,10 +210,21 @@ def compared(old, new, net, lines):
 
 
 def recorded(program, net):
-    rows = table_of(net, over_all(row_of, [program], net, net.lines))
-    TABLE.write_text("".join(f"{key}\t{row}\n" for key, row in sorted(rows.items())))
-    print(f"recorded {len(net.lines)} command lines")
+    rows = over_all(row_of, [program], net, net.lines)
+    lines = [f"all texts\t{sum_of(net.texts)}", *(f"{key}\t{row}" for key, row in sorted(rows.items()))]
+    TABLE.write_text("".join(f"{it}\n" for it in lines))
+    print(f"recorded {len(rows)} command lines")
     return 0
+
+
+def has_terminals():
+    """Whether this system gives terminals to a program."""
+    try:
+        for end in pty.openpty():
+            os.close(end)
+    except OSError:
+        return False
+    return True
 
 
 def main():
@@ -226,6 +237,9 @@ def main():
     given = options.parse_args()
     net = net_lines.whole()
     lines = {key: line for key, line in net.lines.items() if given.only in key}
+    if not has_terminals():
+        lines = {key: line for key, line in lines.items() if not line.terminal}
+        print("net: this system has no terminal for a program: command lines on terminals are not run")
     programs = [os.path.abspath(it) for it in given.compare or [given.record or given.program] if it]
     for it in programs:
         if not os.path.isfile(it):
