@@ -11,23 +11,44 @@ it takes and what it refuses.
 """
 
 import argparse
+import contextlib
+import errno
+import os
+import signal
+import stat
 import subprocess
 import sys
 from pathlib import Path
 
 from choice import Choice, Settings, best_of, chosen
 from compiling import CompilerFailed, Compiling, program_of
+from names import fault_of, shown, shown_lines
 from refusal import Refused
 from tasks import POLICIES
 from releases import MODES
 from tool import Tool, ToolFailed
+from whole_file import NotPut, bits_for, put
+
+
+class OutputFailed(Exception):
+    """Standard output takes no more; the text says why."""
+
+
+class Parser(argparse.ArgumentParser):
+    """Words that are wrong are shown, and help that nobody reads is no crash."""
+
+    def error(self, message: str) -> None:
+        super().error(shown(message))
+
+    def print_help(self, file: object = None) -> None:
+        write_out(self.format_help())
 
 
 def arguments() -> argparse.Namespace:
-    parser = argparse.ArgumentParser(description=__doc__, formatter_class=argparse.RawDescriptionHelpFormatter)
+    parser = Parser(prog="c2ms.py", description=__doc__, formatter_class=argparse.RawDescriptionHelpFormatter)
     add = parser.add_argument
     add("files", nargs="+", help="C (.c), assembler text with preprocessor (.S) or without (.s)")
-    add("-o", dest="output", metavar="TEXT", help="where the program text goes; without -o and --run to standard output")
+    add("-o", dest="output", metavar="TEXT", help="where the program text goes, whole or not at all; without -o and --run, or as -, to standard output")
     add("-O", dest="level", choices=["0", "1", "2", "s"], default="1", help="GCC's optimization (1)")
     add("-I", dest="folders", metavar="FOLDER", action="append", default=[], help="where headers are")
     add("-D", dest="macros", metavar="NAME[=VALUE]", action="append", default=[], help="defines a macro")
@@ -48,26 +69,61 @@ def arguments() -> argparse.Namespace:
 
 
 def say(text: str) -> None:
-    print(f"c2ms: {text}", file=sys.stderr, flush=True)
+    with contextlib.suppress(OSError):
+        print(f"c2ms: {shown_lines(text)}", file=sys.stderr, flush=True)
+
+
+def write_out(text: str) -> None:
+    """Writes to standard output, and fails here rather than when Python ends."""
+    try:
+        if sys.stdout is None:
+            raise OSError(errno.EBADF, "it is closed")
+        sys.stdout.write(text)
+        sys.stdout.flush()
+    except OSError as error:
+        if sys.stdout is not None:
+            os.dup2(os.open(os.devnull, os.O_WRONLY), sys.stdout.fileno())
+        raise OutputFailed(f"standard output: {error.strerror}") from None
+
+
+def keep_numbers_of_streams() -> None:
+    """So that no file that is opened gets the number of a stream that the caller closed."""
+    while (number := os.open(os.devnull, os.O_RDWR)) < 3:
+        pass
+    os.close(number)
+    if sys.stderr is None:
+        sys.stderr = open(os.devnull, "w", encoding="utf-8")
 
 
 def settings_of(words: argparse.Namespace) -> Settings:
     return Settings(words.tasks, words.leaves, words.release, words.units, words.plain)
 
 
+def look_for(files: list[str]) -> None:
+    """A file that cannot be read raises OSError, before anything is compiled."""
+    for file in files:
+        if stat.S_ISDIR(os.stat(file).st_mode):
+            raise IsADirectoryError(errno.EISDIR, os.strerror(errno.EISDIR), file)
+        if not os.access(file, os.R_OK):
+            raise PermissionError(errno.EACCES, os.strerror(errno.EACCES), file)
+
+
 def put_out(words: argparse.Namespace, choice: Choice) -> None:
-    if words.output:
-        Path(words.output).write_text(choice.text)
-    elif not words.run:
-        sys.stdout.write(choice.text)
+    if words.output not in (None, "-"):
+        put(words.output, choice.text.encode("utf-8", "surrogateescape"))
+    elif words.output or not words.run:
+        write_out(choice.text)
 
 
 def translate(words: argparse.Namespace) -> int:
+    look_for(words.files)
+    if words.output not in (None, "-"):
+        bits_for(words.output)
     tool = Tool(words.multiscalar)
     compiling = Compiling(words.gcc, words.level, words.folders, words.macros, words.flags)
     program = program_of(words.files, compiling, words.stack)
-    head = [f"Made by c2ms.py from {' '.join(Path(it).name for it in words.files)}, {compiling.version()} -O{words.level}."]
-    choices = chosen(program, settings_of(words), tool, head)
+    names = " ".join(shown(Path(it).name) for it in words.files)
+    choices = chosen(program, settings_of(words), tool, [f"Made by c2ms.py from {names}, {compiling.version()} -O{words.level}."])
     best = best_of(choices)
     put_out(words, best)
     if not words.quiet:
@@ -79,12 +135,18 @@ def translate(words: argparse.Namespace) -> int:
 
 def run(words: argparse.Namespace, tool: Tool, choice: Choice) -> int:
     done = tool.on(choice.text, "run", "--least", "--units", str(words.units))
-    sys.stdout.write(done.stdout)
+    write_out(done.stdout)
     sys.stderr.write(done.stderr)
     return done.returncode
 
 
-def main() -> int:
+def reasons_of(refused: Refused, files: list[str]) -> str:
+    """Why a program is refused. What stands at no line of a file is said of all files."""
+    said = ((str(place) or ", ".join(map(shown, files)), why) for place, why in refused.reasons)
+    return "".join(f"{shown(place)}: refused: {shown(why)}\n" for place, why in said)
+
+
+def answer() -> int:
     words = arguments()
     if not 1 <= words.units <= 16:
         say("--units takes 1 to 16")
@@ -92,14 +154,26 @@ def main() -> int:
     try:
         return translate(words)
     except Refused as refused:
-        print(refused, file=sys.stderr)
+        sys.stderr.write(reasons_of(refused, words.files))
         return 1
     except CompilerFailed as failed:
-        sys.stderr.write(str(failed))
+        sys.stderr.write(shown_lines(str(failed)))
         return 1
-    except (OSError, ToolFailed, subprocess.SubprocessError) as error:
-        say(str(error))
-        return 2
+
+
+def main() -> int:
+    keep_numbers_of_streams()
+    for it in (signal.SIGTERM, signal.SIGHUP):
+        signal.signal(it, lambda number, _: sys.exit(128 + number))
+    try:
+        return answer()
+    except OSError as error:
+        say(fault_of(error))
+    except (OutputFailed, NotPut, ToolFailed, subprocess.SubprocessError) as failed:
+        say(str(failed))
+    except KeyboardInterrupt:
+        return 130
+    return 2
 
 
 if __name__ == "__main__":

@@ -10,8 +10,10 @@ from pathlib import Path
 
 from flow import without_unreached
 from linking import MOST_INSTRUCTIONS, Program, lay_out, link, refuse_missing
+from names import shown, shown_lines
 from reader import Unit, read_unit
 from refusal import Place, refuse
+from tool import ToolFailed
 
 HERE = Path(__file__).resolve().parent
 RUN_TIME = HERE / "runtime"
@@ -43,11 +45,11 @@ class Compiling:
         try:
             done = subprocess.run([self.gcc, *words], capture_output=True, text=True, errors="surrogateescape", check=False)
         except OSError as error:
-            raise CompilerFailed(f"c2ms: {self.gcc}: {error.strerror}; on Debian: apt-get install gcc-mipsel-linux-gnu\n") from None
+            raise ToolFailed(f"{shown(self.gcc)}: {error.strerror}; on Debian: apt-get install gcc-mipsel-linux-gnu") from None
         if done.returncode:
             raise CompilerFailed(done.stderr)
         if self.shows_warnings:
-            sys.stderr.write(done.stderr)
+            sys.stderr.write(shown_lines(done.stderr))
         return done.stdout
 
     def preprocessor_words(self) -> list[str]:
@@ -58,8 +60,13 @@ class Compiling:
         if file.endswith(".s"):
             return Path(file).read_text(errors="surrogateescape")
         if file.endswith(".S"):
-            return self.call(["-E", "-x", "assembler-with-cpp", *self.preprocessor_words(), file])
-        return self.call([*FLAGS, f"-O{self.level}", *(f"-f{it}" for it in self.flags), *self.preprocessor_words(), "-o", "-", file])
+            return self.call(["-E", "-x", "assembler-with-cpp", *self.preprocessor_words(), as_word(file)])
+        return self.call([*FLAGS, f"-O{self.level}", *(f"-f{it}" for it in self.flags), *self.preprocessor_words(), "-o", "-", as_word(file)])
+
+
+def as_word(file: str) -> str:
+    """A file's name that GCC takes for no option and for no file of options."""
+    return f"./{file}" if file.startswith(("-", "@")) else file
 
 
 @functools.cache

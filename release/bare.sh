@@ -7,6 +7,7 @@
 #
 # It needs root, debootstrap, and a mirror of Debian's packages.
 set -eu
+unset CDPATH
 from=$(readlink -f "$1")
 top=$(cd "$(dirname "${BASH_SOURCE[0]}")/.." && pwd)
 work=$(mktemp -d)

@@ -4,6 +4,7 @@
 #
 #     release/build.sh [FOLDER]        FOLDER: where they are written, release/out if it is left out
 set -eu
+unset CDPATH
 export LC_ALL=C TZ=UTC
 umask 022
 

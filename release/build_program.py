@@ -2,12 +2,20 @@
 """Proves and builds the program, or another crate, with the crates below it, and tries no edits.
 
     release/build_program.py [LOG [CRATE]]     the log of rt, and the crate: multiscalar, if none is named
+    release/build_program.py --unless-built    the program, if it is not built from the sources as they are
 
 It runs `rt ci` in a copy of these crates alone. So what it proves is kept on this machine, and `rt ci` at the top does
 not prove it again, nor this script what that proved. It says each crate as it is done, and how long the rest may take.
+
+One call builds a crate at a time; others wait for it. Beside what was built, out/built has the checksum of the copy that
+was built: it is built from the sources as they are exactly if that is their checksum. If nothing changed after the
+file's time, which lies before that of the copy, the launcher need not compute it.
 """
 
+import contextlib
 import ctypes
+import fcntl
+import hashlib
 import os
 import shutil
 import signal
@@ -17,7 +25,7 @@ import tempfile
 import time
 from pathlib import Path
 
-from progress import Progress, follow, say, say_why
+from progress import Progress, fault_of, follow, say, say_why, shown
 
 TOP = Path(__file__).resolve().parent.parent
 
@@ -50,6 +58,63 @@ def copy_sources(crates, copy):
         shutil.copytree(TOP / "crates" / it, copy / "crates" / it, symlinks=True, ignore=leave_out)
 
 
+def checksum(crates, top):
+    """Of all that is read to build the program: these crates' code, definitions and proofs, with their names."""
+    parts = (top / "crates" / name / part for name in sorted(crates) for part in ("src", "specs", "proofs"))
+    files = (it for part in parts for it in sorted(part.rglob("*")) if it.suffix in (".rt", ".antt") and it.is_file())
+    whole = hashlib.sha256("".join(f"{crates[it]}\n" for it in sorted(crates)).encode())
+    for it in [top / "HANDLES", *files]:
+        whole.update(f"\0{it.relative_to(top)}\0".encode("utf-8", "surrogateescape") + hashlib.sha256(it.read_bytes()).digest())
+    return whole.hexdigest()
+
+
+def note(name, what, text, time_of_copy):
+    """Writes a file beside what was built, with a time before that of the copy, by more than a clock of files may be off."""
+    file = TOP / "crates" / name / "out" / what
+    new = file.with_name(f"{what}.{os.getpid()}.new")
+    file.parent.mkdir(exist_ok=True)
+    new.write_text(text)
+    os.utime(new, (time_of_copy - 2, time_of_copy - 2))
+    os.replace(new, file)
+
+
+def noted(name, what):
+    try:
+        return (TOP / "crates" / name / "out" / what).read_text()
+    except OSError:
+        return ""
+
+
+def is_built(name):
+    """Whether the program is built from the sources as they are; then the launcher is told so."""
+    now, program = time.time(), TOP / "crates" / name / "out" / name
+    kept = noted(name, "built")
+    if not kept or not os.access(program, os.X_OK) or not program.is_file() or kept != checksum(needed(name), TOP):
+        return False
+    note(name, "built", kept, now)
+    return True
+
+
+@contextlib.contextmanager
+def alone(name):
+    """Waits until no other call builds the crate, and says so; the value is whether it had to. The lock is on a folder that
+    no `rt` locks or moves, and ends with this process."""
+    held = os.open(TOP / "crates" / name / "src", os.O_RDONLY)
+    waited = False
+    try:
+        try:
+            fcntl.flock(held, fcntl.LOCK_EX | fcntl.LOCK_NB)
+        except BlockingIOError:
+            waited = True
+            say(f"another call is building {name}; waiting for it")
+            fcntl.flock(held, fcntl.LOCK_EX)
+        except OSError:
+            pass  # some file systems have no locks
+        yield waited
+    finally:
+        os.close(held)
+
+
 def remove(folder):
     """Removes a folder in which a process that is being killed may write for a moment yet."""
     for _ in range(50):
@@ -80,32 +145,86 @@ def call(words, copy, log, crates):
 
 
 def hand_over(name, copy):
-    """Puts what was built under the sources themselves: a program or a static library."""
+    """Puts what was built under the sources themselves, and returns its path: a program or a static library."""
     built, out = copy / "crates" / name / "out", TOP / "crates" / name / "out"
-    for it in (name, f"lib{name}.a"):
-        if (built / it).is_file():
-            out.mkdir(exist_ok=True)
-            shutil.copy(built / it, out / f"{it}.new")
-            os.replace(out / f"{it}.new", out / it)
+    out.mkdir(exist_ok=True)
+    (out / "built").unlink(missing_ok=True)
+    made = next((it for it in (name, f"lib{name}.a") if (built / it).is_file()), None)
+    if made is None:
+        return None
+    new = out / f"{made}.{os.getpid()}.new"
+    try:
+        shutil.copy(built / made, new)
+        os.replace(new, out / made)
+    finally:
+        new.unlink(missing_ok=True)
+    return out / made
+
+
+def built_from(crates, name, copy, log):
+    """Proves and builds the crate in the copy, and returns whether all went well."""
+    say(f"proving {len(crates)} crates; the first time takes 40 to 90 minutes on four cores, one to three hours on two.")
+    is_well = call(["rt", "ci"], copy, log, crates)
+    if is_well and "staticlib" in crates[name].partition(":")[0].split():
+        say(f"building lib{name}.a, for which {name} is proved once more")
+        is_well = call([sys.executable, TOP / "release" / "build_static.py", name], copy, log, {})
+    return is_well
 
 
 def run(log, name):
-    crates, copy = needed(name), Path(tempfile.mkdtemp(prefix="multiscalar-build-")).resolve()
+    crates, copy, now = needed(name), Path(tempfile.mkdtemp(prefix="multiscalar-build-")).resolve(), time.time()
     try:
         copy_sources(crates, copy)
-        say(f"proving {len(crates)} crates; the first time takes 40 to 90 minutes on four cores, one to three hours on two.")
-        is_well = call(["rt", "ci"], copy, log, crates)
-        if is_well and "staticlib" in crates[name].partition(":")[0].split():
-            say(f"building lib{name}.a, for which {name} is proved once more")
-            is_well = call([sys.executable, TOP / "release" / "build_static.py", name], copy, log, {})
-        if is_well:
-            hand_over(name, copy)
-        return 0 if is_well else 1
+        which = checksum(crates, copy)
+        made = hand_over(name, copy) if built_from(crates, name, copy, log) else None
+        if not made:
+            note(name, "failed", which, time.time())
+            return 1
+        note(name, "built", which, now)
+        say(f"built: {shown(made)}")
+        if which != checksum(needed(name), TOP):
+            say("its sources changed meanwhile: this was built from those before, and the next call builds it again")
+        return 0
+    except OSError as fault:
+        say(f"the build failed: {fault_of(fault)}")
+        return 1
     except KeyboardInterrupt:
         say("stopped; the crates that were proved are kept")
         return 130
     finally:
         remove(copy)
+
+
+def has_just_failed(name, since):
+    """Whether the build that was waited for failed, with the sources as they are."""
+    try:
+        # Its time lies two seconds back.
+        is_new = (TOP / "crates" / name / "out" / "failed").stat().st_mtime + 2 >= since
+    except OSError:
+        return False
+    return is_new and noted(name, "failed") == checksum(needed(name), TOP)
+
+
+def run_unless_built(name):
+    """Builds the program for the launcher, if no other call has done so; what rt said is kept where the build fails."""
+    began = time.time()
+    with alone(name) as waited:
+        if is_built(name):
+            if waited:
+                say("that call has built it")
+            return 0
+        if waited and has_just_failed(name, began):
+            say("that build failed, as it says; it is not tried again with the same sources")
+            return 1
+        say("not built yet, or its sources have changed. To see an answer in two minutes, with nothing proved: multiscalar --unproved ..")
+        log = tempfile.NamedTemporaryFile("w", encoding="utf-8", errors="surrogateescape", prefix="multiscalar-", suffix=".log", delete=False)
+        with log:
+            status = run(log, name)
+    if status == 1 and os.path.getsize(log.name):
+        say(f"the build failed. Its log: {shown(log.name)}")
+    else:
+        os.unlink(log.name)
+    return status
 
 
 def main(log="/dev/null", name="multiscalar"):
@@ -115,8 +234,16 @@ def main(log="/dev/null", name="multiscalar"):
     for it in (signal.SIGTERM, signal.SIGHUP):
         if signal.getsignal(it) == signal.SIG_DFL:
             signal.signal(it, signal.default_int_handler)
-    with open(log, "w", encoding="utf-8") as it:
-        return run(it, name)
+    try:
+        if log == "--unless-built":
+            return run_unless_built(name)
+        with open(log, "w", encoding="utf-8", errors="surrogateescape") as it, alone(name):
+            return run(it, name)
+    except OSError as fault:
+        say(fault_of(fault))
+        return 2
+    except KeyboardInterrupt:
+        return 130
 
 
 if __name__ == "__main__":

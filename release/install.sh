@@ -1,10 +1,11 @@
 #!/bin/sh
 # Installs multiscalar below a folder: sh install.sh PREFIX (as /usr/local, or $HOME/.local)
 set -eu
+unset CDPATH
 [ $# -eq 1 ] || { echo "usage: sh install.sh PREFIX" >&2; exit 2; }
-from=$(cd "$(dirname "$0")" && pwd)
-mkdir -p "$1"
-to=$(cd "$1" && pwd)
+from=$(cd -- "$(dirname -- "$0")" && pwd)
+mkdir -p -- "$1"
+to=$(cd -- "$1" && pwd)
 
 place() { # FOLDER FILE..
     folder=$to/$1

@@ -4,12 +4,16 @@ import os
 import re
 import sys
 import time
+from pathlib import Path
+
+sys.path.append(str(Path(__file__).resolve().parent.parent / "compiler"))
+from names import fault_of, shown, shown_lines
 
 STATE = re.compile(r"rt: (\w+)(: its tests are)? (proved$|NOT PROVED|is kept: )")
 
 
 def say(text):
-    print(f"multiscalar: {text}", file=sys.stderr, flush=True)
+    print(f"multiscalar: {shown_lines(text)}", file=sys.stderr, flush=True)
 
 
 def minutes(seconds):

@@ -22,6 +22,7 @@
 # and Debian's packages chromium, chromium-driver, firefox-esr, lintian, python3-venv, python3-setuptools, python3-wheel and, as
 # root, debootstrap.
 set -u
+unset CDPATH
 top=$(cd "$(dirname "$(readlink -f "${BASH_SOURCE[0]}")")/.." && pwd)
 cd "$top"
 out=$top/release/out/try

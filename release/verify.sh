@@ -1,6 +1,6 @@
 #!/usr/bin/env bash
 # Proves and builds a release anew, and compares: the commit that its manifest names, the toolchain that it
-# names, and every byte.
+# names, and every byte of the tarball and of the Debian package that lies beside it.
 #
 #     release/verify.sh TARBALL [COMMAND]
 #
@@ -8,6 +8,7 @@
 # It needs rt on PATH and this repository with that commit. The first time it takes as long as the proofs do:
 # half an hour to an hour on four cores.
 set -eu
+unset CDPATH
 tarball=$(readlink -f "$1")
 prove=${2:-rt ci}
 top=$(cd "$(dirname "${BASH_SOURCE[0]}")/.." && pwd)
@@ -32,5 +33,12 @@ if [ -f "$(dirname "$manifest")/multiscalar.html" ]; then web/build.sh > /dev/nu
 # `rt ci` proves the core of the library, but does not build it.
 [ -f crates/multiscalar_c/out/libmultiscalar_c.a ] || python3 release/build_program.py /dev/null multiscalar_c
 release/build.sh "$work/again" > /dev/null
-cmp "$tarball" "$work/again/$(basename "$tarball")" || fail "the release differs from what $commit gives"
-echo "the release is what $commit gives, byte for byte"
+differs() { fail "the $1 differs from what $commit gives"; }
+cmp "$tarball" "$work/again/$(basename "$tarball")" || differs tarball
+package=$(basename "$work"/again/*.deb)
+if [ -e "$(dirname "$tarball")/$package" ]; then
+    cmp "$(dirname "$tarball")/$package" "$work/again/$package" || differs package
+    echo "the tarball and the package are what $commit gives, byte for byte"
+else
+    echo "the tarball is what $commit gives, byte for byte; $package does not lie beside it, and was not compared"
+fi
