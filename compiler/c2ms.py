@@ -164,7 +164,8 @@ def answer() -> int:
 def main() -> int:
     keep_numbers_of_streams()
     for it in (signal.SIGTERM, signal.SIGHUP):
-        signal.signal(it, lambda number, _: sys.exit(128 + number))
+        if signal.getsignal(it) == signal.SIG_DFL:
+            signal.signal(it, lambda number, _: sys.exit(128 + number))
     try:
         return answer()
     except OSError as error:

@@ -1,0 +1,549 @@
+#!/usr/bin/env python3
+"""Tries the launcher, the scripts of release/ and compiler/c2ms.py, in seconds and without the toolchain.
+
+    .ci/launcher.py [--times] [NAME..]      all trials, or those whose names hold one of these words
+
+In the places of `rt`, GCC and the program stand scripts that are made here. Each trial has a folder of its own.
+"""
+
+import concurrent.futures
+import contextlib
+import os
+import pathlib
+import re
+import resource
+import shutil
+import stat
+import subprocess
+import sys
+import tempfile
+import time
+
+TOP = pathlib.Path(__file__).resolve().parent.parent
+sys.path.append(str(TOP / "compiler"))
+sys.dont_write_bytecode = True
+import names
+import whole_file
+
+RT = r"""#!/bin/bash
+echo "$1" >> "$FAKE/calls"
+case $1 in
+version) echo "kit" ;;
+ci)
+    echo "rt: low proved"
+    made=crates/multiscalar/out/multiscalar
+    text=$(cat crates/multiscalar/src/main.rt)
+    sleep "$(cat "$FAKE/sleep" 2>/dev/null || echo 0)"
+    if [ -e "$FAKE/fails" ]; then echo "rt: multiscalar NOT PROVED"; exit 1; fi
+    mkdir -p crates/multiscalar/out
+    printf '#!/bin/bash\n[ "$1" = --version ] && echo "multiscalar 0.1.0 (proved with a kit)" || echo "%s"\n' "$text" > $made
+    chmod +x $made
+    echo "rt: multiscalar proved"
+    ;;
+try)
+    shift 2
+    case $1 in --version | -V) echo "multiscalar 0.1.0 (proved with a kit)" ;; *) printf '<%s>\n' "$@" ;; esac
+    echo "multiscalar: a word of the program" >&2
+    echo "run=ended status=1 proved=no" >&2
+    exit 1
+    ;;
+esac
+"""
+GCC = "#!/bin/bash\n[ \"$1\" = --version ] && { echo 'gcc (kit) 12.2.0'; exit; }\nprintf '%s: wrong\\n' \"${@: -1}\" >&2\nexit 1\n"
+PROGRAM = "#!/bin/bash\ncase $1 in annotate | print) cat \"${@: -1}\" ;; run) echo 5 ;; esac\n"
+ASSEMBLY = "\t.text\n\t.globl main\nmain:\n\tli $2,5\n\tjr $31\n"
+# What a name may hold, and how it is shown. The last ones are as they are.
+NAMES = {
+    b"a\x1b[31m": "a\\x1b[31m", b"a\rb": "a\\x0db", b"a\nb": "a\\x0ab", b"a\tb": "a\\x09b", b"a\x7f": "a\\x7f", b"\xc2\x9b\xc3\xa9": "\\xc2\\x9b\\xc3\\xa9",
+    b"\xe2\x80\xaeb": "\\xe2\\x80\\xaeb", b"\xe2\x81\xa6b": "\\xe2\\x81\\xa6b", b"\xff\xc3\xa9": "\\xff\\xc3\\xa9", b"a b": "a b", "é 日".encode(): "é 日",
+}
+# Those that are tried by whole calls.
+CALLED = [it for it in NAMES if it[:1] not in b"\xc2\xe2" and it not in (b"a\rb", b"a\tb", b"a\x7f")]
+PLAIN = ["--plain", "--tasks", "calls", "--leaves", "own", "--release", "none", "--quiet"]
+
+
+def expect(holds, *said):
+    if not holds:
+        raise AssertionError(" ".join(str(it) for it in said))
+
+
+def make(file, text, bits=0o755):
+    file.parent.mkdir(parents=True, exist_ok=True)
+    file.write_text(text)
+    file.chmod(bits)
+
+
+def copied(folder, *paths):
+    for it in paths:
+        (folder / it).parent.mkdir(parents=True, exist_ok=True)
+        shutil.copy(TOP / it, folder / it)
+
+
+class Place:
+    """A folder with the launcher, a few sources, and an `rt` that notes its calls."""
+
+    def __init__(self, folder, name="sources"):
+        self.folder, self.top, self.bin = folder, folder / name, folder / "bin"
+        copied(self.top, "multiscalar", "release/build_program.py", "release/progress.py", "compiler/names.py")
+        make(self.top / "crates.txt", "low:\nmultiscalar: low\nother: low\n", 0o644)
+        make(self.top / "HANDLES", "Handles allowed: none.\n", 0o644)
+        for it in ("low/src/lib.rt", "multiscalar/src/main.rt", "multiscalar/specs/Lib.antt", "other/src/lib.rt"):
+            make(self.top / "crates" / it, "first\n", 0o644)
+        make(self.bin / "rt", RT)
+        # Sources that are older than any build.
+        for it in [*self.top.rglob("*"), self.top]:
+            os.utime(it, (1e9, 1e9))
+        self.main, self.out = self.top / "crates/multiscalar/src/main.rt", self.top / "crates/multiscalar/out"
+
+    def settings(self, **more):
+        return {**os.environ, "FAKE": str(self.folder), "PATH": f"{self.bin}:{os.environ['PATH']}", **more}
+
+    def begin(self, *words, **how):
+        how = {"cwd": self.folder, "env": self.settings(), "stdin": subprocess.DEVNULL, "stdout": subprocess.PIPE, "stderr": subprocess.PIPE, **how}
+        return subprocess.Popen([self.top / "multiscalar", *words], **how)
+
+    def call(self, *words, **how):
+        return ended(self.begin(*words, **how))
+
+    def builds(self):
+        with contextlib.suppress(OSError):
+            return (self.folder / "calls").read_text().split().count("ci")
+        return 0
+
+
+def ended(started):
+    """The status and what was written to standard output and standard error; nothing where that went elsewhere."""
+    out, said = ((it or b"").decode("utf-8", "surrogateescape") for it in started.communicate(timeout=25))
+    return started.returncode, out, said
+
+
+# Trials: 1. nothing is proved
+
+
+def try_version(folder):
+    place = Place(folder)
+    for word in ("--version", "-V"):
+        status, out, said = place.call("--unproved", word)
+        expect(out == "multiscalar 0.1.0 (nothing is proved: compiled by --unproved)\n", out)
+        expect(status == 1 and "nothing is proved in this run" in said and "multiscalar: a word of the program\n" in said and "run=" not in said, status, said)
+    expect(place.call("--version")[:2] == (0, "multiscalar 0.1.0 (proved with a kit)\n"))
+
+
+# 2. words
+
+
+def try_words(folder):
+    place = Place(folder)
+    inside = folder / "in side"
+    inside.mkdir()
+    for it in ("4", "run", "explain", "check", "last", "0,1", "json", "a.s", "b", "--least", "help", "-", "-x", "a b", "l\n"):
+        (inside / it).touch()
+    here = f"{inside}/"
+    for words, wanted in {
+        ("run", "--least", "--units", "4", "--predict", "last", "a.s"): ["run", "--least", "--units", "4", "--predict", "last", f"{here}a.s"],
+        ("check", "check", "run", "--workers", "4"): ["check", f"{here}check", f"{here}run", "--workers", "4"],
+        ("explain", "--format=json", "--certificate=b", "--script", "4", "no"): ["explain", "--format=json", f"--certificate={here}b", "--script", f"{here}4", f"{here}no"],
+        ("explain", "--certificate", "b", "-", "/a.s"): ["explain", "--certificate", f"{here}b", "-", "/a.s"],
+        ("seq", "-onew", "-o", "4", "--output=run", "--output", "b", "-o=b", "--", "-x"):
+            ["seq", f"-o{here}new", "-o", f"{here}4", f"--output={here}run", "--output", f"{here}b", f"-o={here}b", "--", f"{here}-x"],
+        ("run", "--predict=0,1", "--predict", "0,1", "--emit", "json", "a b"): ["run", "--predict=0,1", "--predict", "0,1", "--emit", "json", f"{here}a b"],
+        ("seq", "--budget", "4", "l\n", ""): ["seq", "--budget", "4", f"{here}l\n", ""],
+        ("help", "run"): ["help", "run"],
+        ("--help",): ["--help"],
+    }.items():
+        _, out, _ = place.call("--unproved", *words, cwd=inside)
+        expect(out == "".join(f"<{it}>\n" for it in wanted), words, out)
+
+
+def try_words_of_help(_):
+    """The options that the launcher knows are those of the help."""
+    rows = (TOP / "crates/test_program/data/rows/help").read_text()
+    found = set(re.findall(r"^>   (?:(-\w), |    )(--[a-z-]+) <(\w+)>", rows, re.M))
+    files = {it for letter, long, what in found for it in (letter, long) if it and what == "FILE"}
+    other = {it for letter, long, what in found for it in (letter, long) if it and what != "FILE"}
+    launcher = (TOP / "multiscalar").read_text()
+    listed = {it: set(re.search(rf"^{it}\(\) {{ case \$1 in (.*?)\) ;;", launcher, re.M)[1].split(" | ")) for it in ("takes_file", "takes_word")}
+    expect(listed["takes_file"] == files and listed["takes_word"] == other, listed, files, other)
+
+
+# 3. builds
+
+
+def try_three_at_once(folder):
+    place = Place(folder)
+    (folder / "sleep").write_text("1")
+    answers = [ended(it) for it in [place.begin("seq") for _ in range(3)]]
+    expect(place.builds() == 1, place.builds(), "builds", answers)
+    expect(all(it[:2] == (0, "first\n") for it in answers), answers)
+    said = [it[2] for it in answers]
+    expect(sum("built: " in it for it in said) == 1, said)
+    expect(sum("another call is building multiscalar; waiting for it" in it and "that call has built it" in it for it in said) == 2, said)
+
+
+def try_three_that_fail(folder):
+    place = Place(folder)
+    (folder / "sleep").write_text("1")
+    (folder / "fails").touch()
+    answers = [ended(it) for it in [place.begin("seq") for _ in range(3)]]
+    expect(place.builds() == 1 and all(it[:2] == (2, "") for it in answers), place.builds(), answers)
+    expect(all("built: " not in it[2] for it in answers) and sum("multiscalar is not proved" in it[2] for it in answers) == 1, answers)
+    log = next(it for it in (re.search(r"Its log: (.*)\n", it[2]) for it in answers) if it)
+    expect("NOT PROVED" in pathlib.Path(log[1]).read_text(), log)
+    os.unlink(log[1])
+    (folder / "fails").unlink()
+    expect(place.call("seq")[:2] == (0, "first\n"))
+
+
+def try_no_place_for_the_program(folder):
+    place = Place(folder)
+    (place.out / "multiscalar").mkdir(parents=True)
+    status, out, said = place.call("seq")
+    expect((status, out) == (2, "") and "built: " not in said and "failed" in said, status, said)
+    expect(not list(place.out.glob("*.new")), list(place.out.iterdir()))
+
+
+def edit_while_it_is_built(folder, edit):
+    place = Place(folder)
+    (folder / "sleep").write_text("1")
+    started = place.begin("seq")
+    while not place.builds():
+        time.sleep(0.02)
+    time.sleep(0.2)
+    edit(place.main)
+    status, out, said = ended(started)
+    expect((status, out) == (0, "first\n") and "its sources changed meanwhile" in said, status, out, said)
+    (folder / "sleep").unlink()
+    expect(place.call("seq")[:2] == (0, "second\n") and place.builds() == 2, place.builds())
+    expect(place.call("seq")[:2] == (0, "second\n") and place.builds() == 2, place.builds())
+
+
+def try_edit_while_it_is_built(folder):
+    edit_while_it_is_built(folder, lambda file: file.write_text("second\n"))
+
+
+def try_edit_with_an_old_time(folder):
+    """A file that is moved to the place of another keeps its time."""
+    def move(file):
+        make(folder / "other", "second\n", 0o644)
+        os.utime(folder / "other", (1e9, 1e9))
+        os.replace(folder / "other", file)
+
+    edit_while_it_is_built(folder, move)
+
+
+def try_what_is_fresh(folder):
+    place = Place(folder)
+    expect(place.call("seq")[:2] == (0, "first\n"))
+    os.utime(place.main)
+    expect(place.call("seq") == (0, "first\n", "") and place.builds() == 1, "touched", place.builds())
+    (place.top / "crates/other/src/lib.rt").write_text("second\n")
+    expect(place.call("seq") == (0, "first\n", "") and place.builds() == 1, "another crate", place.builds())
+    (place.top / "crates/multiscalar/specs/Lib.antt").unlink()
+    expect(place.call("seq")[0] == 0 and place.builds() == 2, "removed", place.builds())
+    # Without rt and with changed sources what was built runs, and that is said.
+    (place.bin / "rt").unlink()
+    place.main.write_text("second\n")
+    status, out, said = place.call("seq", env=place.settings(PATH=f"{place.bin}:{without(folder, 'rt')}"))
+    expect((status, out) == (0, "first\n") and "running what was built before" in said, status, out, said)
+
+
+# 4. what is missing
+
+
+def without(folder, *missing):
+    """A folder with the commands that the launcher calls, but for some."""
+    tools = folder / f"tools-{'-'.join(missing)}"
+    tools.mkdir(exist_ok=True)
+    for it in ("bash", "cat", "chmod", "dirname", "env", "find", "grep", "mkdir", "mktemp", "mv", "python3", "readlink", "rm", "rt", "sed", "sleep", "touch"):
+        found = sys.executable if it == "python3" else shutil.which(it)
+        if it not in missing and found and it != "rt":
+            (tools / it).unlink(missing_ok=True)
+            (tools / it).symlink_to(found)
+    return tools
+
+
+def try_without_python(folder):
+    place = Place(folder)
+    tools = without(folder, "python3")
+    for words in (["seq"], ["--unproved", "seq"]):
+        status, out, said = place.call(*words, env=place.settings(PATH=f"{place.bin}:{tools}"))
+        expect((status, out) == (2, "") and "missing: python3" in said and "log" not in said, status, said)
+    make(tools / "python3", "#!/bin/bash\nexit 1\n")
+    status, _, said = place.call("seq", env=place.settings(PATH=f"{place.bin}:{tools}"))
+    expect(status == 2 and "missing: python3" in said and place.builds() == 0, status, said)
+    status, _, said = place.call("seq", env=place.settings(PATH=str(without(folder, "rt"))))
+    expect(status == 2 and "missing: rt" in said, status, said)
+
+
+def try_without_a_log(folder):
+    """A build that says nothing has no log."""
+    place = Place(folder)
+    make(place.bin / "rt", "#!/bin/bash\nexit 1\n")
+    status, _, said = place.call("seq", env=place.settings(TMPDIR=str(folder)))
+    expect(status == 2 and "the build failed" in said and "Its log" not in said and not list(folder.glob("multiscalar-*")), status, said)
+
+
+def try_install(folder):
+    release = folder / "release"
+    copied(release, "release/install.sh")
+    shutil.move(release / "release/install.sh", release / "install.sh")
+    for it in ("multiscalar man/multiscalar.1 completions/multiscalar.bash completions/_multiscalar completions/multiscalar.fish include/multiscalar.h "
+               "lib/libmultiscalar.a lib/libmultiscalar.so.0 lib/multiscalar.pc syntax/a compiler/a python/a README.md CHANGELOG.md LICENSE-APACHE "
+               "LICENSE-MIT MANIFEST docs/a examples/a").split():
+        make(release / it, it)
+    (folder / "elsewhere/release").mkdir(parents=True)
+    (folder / "elsewhere/to").mkdir()
+    for shell in ("sh", "bash"):
+        done = subprocess.run([shell, "release/install.sh", "to"], cwd=folder, env={**os.environ, "CDPATH": f"{folder}/elsewhere:{folder}"}, capture_output=True, text=True)
+        expect(done.returncode == 0 and (folder / "to/bin/multiscalar").is_file() and not done.stderr, shell, done)
+        expect(done.stdout.count("\n") == 1 and not list((folder / "elsewhere/to").iterdir()), shell, done.stdout)
+        shutil.rmtree(folder / "to")
+
+
+def try_verify(folder):
+    """The tarball, and the package that lies beside it."""
+    sources, release = folder / "sources", folder / "release"
+    copied(sources, "release/verify.sh")
+    make(sources / "release/build.sh", "mkdir -p \"$1\" && cp ../../release.tar.gz \"$1/m.tar.gz\" && echo package > \"$1/m.deb\"\n".replace("../..", str(folder)))
+    make(sources / "crates/multiscalar_c/out/libmultiscalar_c.a", "")
+    git = ["git", "-c", "user.name=a", "-c", "user.email=a@localhost", "-c", "commit.gpgsign=false", "-C", sources]
+    for words in (["init", "-q"], ["add", "-f", "."], ["commit", "-qm", "a"]):
+        subprocess.run([*git, *words], check=True, capture_output=True)
+    commit = subprocess.run([*git, "rev-parse", "HEAD"], check=True, capture_output=True, text=True).stdout.strip()
+    make(folder / "m/MANIFEST", f"commit {commit}\nproved and built with kit\n")
+    subprocess.run(["tar", "-czf", "release.tar.gz", "m"], cwd=folder, check=True)
+    release.mkdir()
+    shutil.copy(folder / "release.tar.gz", release / "m.tar.gz")
+    place = Place(folder, "unused")
+
+    def verify():
+        words = ["bash", sources / "release/verify.sh", release / "m.tar.gz", "true"]
+        return subprocess.run(words, env=place.settings(CDPATH=str(folder)), capture_output=True, text=True, cwd=sources)
+
+    done = verify()
+    expect(done.returncode == 0 and "was not compared" in done.stdout, done)
+    (release / "m.deb").write_text("package\n")
+    done = verify()
+    expect(done.returncode == 0 and "the tarball and the package are what" in done.stdout, done)
+    (release / "m.deb").write_text("another\n")
+    done = verify()
+    expect(done.returncode == 1 and "the package differs" in done.stderr, done)
+    (release / "m.tar.gz").write_bytes((release / "m.tar.gz").read_bytes() + b"\0")
+    (release / "m.deb").write_text("package\n")
+    expect(verify().returncode == 1, "a tarball that differs")
+
+
+# c2ms.py
+
+
+class Compiler:
+    def __init__(self, folder):
+        self.folder = folder
+        make(folder / "gcc", GCC)
+        make(folder / "program", PROGRAM)
+        make(folder / "a.s", ASSEMBLY, 0o644)
+        make(folder / "wrong.s", ASSEMBLY + "\tsyscall\n", 0o644)
+        make(folder / "large.s", ASSEMBLY.replace("\tli", "\tli $2,5\n" * 4100 + "\tli"), 0o644)
+
+    def call(self, *words, **how):
+        words = [sys.executable, TOP / "compiler/c2ms.py", *PLAIN, "--gcc", self.folder / "gcc", "--multiscalar", self.folder / "program", *words]
+        how = {"cwd": self.folder, "env": {**os.environ, "PYTHONDONTWRITEBYTECODE": "1"}, "stdin": subprocess.DEVNULL, "stdout": subprocess.PIPE, "stderr": subprocess.PIPE, **how}
+        return ended(subprocess.Popen(words, **how))
+
+
+def try_missing_input(folder):
+    compiler = Compiler(folder)
+    (folder / "folder.c").mkdir()
+    for name, why in {"none.c": "No such file", "none.s": "No such file", "folder.c": "Is a directory"}.items():
+        status, out, said = compiler.call(name)
+        expect((status, out) == (2, "") and said.startswith(f"c2ms: {name}: {why}") and said.count("\n") == 1, name, status, said)
+    status, _, said = compiler.call("a.s", "--gcc", "./none")
+    expect(status == 2 and said.startswith("c2ms: ./none: No such file"), status, said)
+
+
+def try_closed_output(folder):
+    compiler = Compiler(folder)
+    expect(compiler.call("a.s")[0] == 0 and "main:" in compiler.call("a.s", "-o", "-")[1])
+    reader, writer = os.pipe()
+    os.close(reader)
+    with open("/dev/full", "wb") as full:
+        ways = {"stdout": writer}, {"stdout": full}, {"stdout": None, "preexec_fn": lambda: os.close(1)}
+        for words, how in [*((["a.s"], it) for it in ways), (["a.s", "--run"], ways[1]), (["--help"], ways[0])]:
+            status, _, said = compiler.call(*words, **how)
+            expect(status == 2 and said.startswith("c2ms: standard output: ") and said.count("\n") == 1, words, how, status, said)
+    os.close(writer)
+    status, out, _ = compiler.call("none.s", stderr=None, preexec_fn=lambda: os.close(2))
+    expect((status, out) == (2, ""), "closed standard error", status, out)
+
+
+def try_refusals(folder):
+    compiler = Compiler(folder)
+    status, _, said = compiler.call("wrong.s")
+    expect(status == 1 and said.startswith("wrong.s:6: refused: "), status, said)
+    status, _, said = compiler.call("large.s")
+    expect(status == 1 and said.startswith("large.s: refused: the program has "), status, said)
+    shutil.copy(folder / "a.s", folder / "-x.c")
+    status, _, said = compiler.call("--", "-x.c")
+    expect(status == 1 and said == "./-x.c: wrong\n", status, said)
+
+
+# 5. c2ms.py -o
+
+
+def try_whole_files(folder):
+    compiler = Compiler(folder)
+    to = folder / "to.s"
+    for before, after in {None: 0o640, 0o604: 0o604, 0o4755: 0o755, 0o400: 0o400}.items():
+        to.unlink(missing_ok=True)
+        if before is not None:
+            make(to, "old", before)
+        kept = folder / "kept"
+        kept.unlink(missing_ok=True)
+        if before is not None:
+            os.link(to, kept)
+        status, out, said = compiler.call("a.s", "-o", "to.s", preexec_fn=lambda: os.umask(0o027))
+        expect((status, out, said) == (0, "", "") and "main:" in to.read_text(), status, out, said)
+        expect(stat.S_IMODE(to.stat().st_mode) == after, before, oct(to.stat().st_mode))
+        expect(before is None or kept.read_text() == "old", "the old file was written into")
+    expect(not list(folder.glob("*.new")))
+
+
+def try_no_plain_file(folder):
+    compiler = Compiler(folder)
+    make(folder / "target", "old", 0o644)
+    (folder / "link").symlink_to("target")
+    (folder / "loose").symlink_to("no\x1bthing")
+    (folder / "folder").mkdir()
+    os.mkfifo(folder / "pipe")
+    for name, why in {"link": "a symbolic link, and is not followed; name its target, target\n", "loose": "target, no\\x1bthing\n",
+                      "folder": "no plain file", "pipe": "no plain file", "/dev/null": "no plain file"}.items():
+        status, out, said = compiler.call("a.s", "-o", name)
+        expect((status, out) == (2, "") and said.startswith(f"c2ms: {name}: it is ") and why in said, name, status, said)
+    expect((folder / "target").read_text() == "old" and (folder / "link").is_symlink() and not list(folder.glob("*.new")))
+
+
+PUT = """
+import os, sys
+sys.path.insert(0, sys.argv[1])
+import whole_file
+bits, noted = [], []
+for name in ("fsync", "fchmod", "rename"):
+    def noting(*words, name=name, real=getattr(os, name)):
+        noted.append(name)
+        bits.extend(oct(os.stat(it).st_mode & 0o7777) for it in os.listdir() if it.endswith(".new"))
+        return real(*words)
+    setattr(os, name, noting)
+exec(sys.argv[2])
+try:
+    whole_file.put("to.s", b"new" * 1000)
+    print(*noted, *bits)
+except whole_file.NotPut as why:
+    print("not put:", why)
+"""
+
+
+def put(folder, before="", **how):
+    words = [sys.executable, "-B", "-c", PUT, TOP / "compiler", before]
+    return subprocess.run(words, cwd=folder, capture_output=True, text=True, **how).stdout
+
+
+def try_steps_of_a_whole_file(folder):
+    to = folder / "to.s"
+    make(to, "old", 0o604)
+    expect(put(folder) == "fsync fchmod rename 0o600 0o600 0o604\n", put(folder))
+    to.write_text("old")
+    # On a full disk the old file stays, and nothing else does.
+    said = put(folder, preexec_fn=lambda: resource.setrlimit(resource.RLIMIT_FSIZE, (1000, 1000)))
+    expect(said.startswith("not put: to.s: File too large") and to.read_text() == "old" and os.listdir(folder) == ["to.s"], said, os.listdir(folder))
+    said = put(folder, "os.geteuid = lambda: 4242")
+    expect(said.startswith("not put: to.s: it belongs to another user") and to.read_text() == "old" and os.listdir(folder) == ["to.s"], said)
+    # Names that are taken are left alone, also those of links.
+    taken = "for it in ('', '.1'): os.symlink('to.s', f'to.s.{os.getpid()}{it}.new')"
+    said = put(folder, taken)
+    expect(said.startswith("fsync fchmod rename") and len(os.listdir(folder)) == 3 and to.read_text().startswith("new"), said)
+    to.write_text("old")
+    said = put(folder, "for it in ['', *(f'.{n}' for n in range(1, 16))]: open(f'to.s.{os.getpid()}{it}.new', 'w')")
+    expect(said.startswith("not put: to.s: 16 names") and to.read_text() == "old", said)
+    said = put(folder, "def fails(*_): raise KeyboardInterrupt\nos.fsync = fails")
+    expect(to.read_text() == "old" and len(os.listdir(folder)) == 3 + 16, os.listdir(folder))
+
+
+# 6. names
+
+
+def try_names(_):
+    for name, wanted in NAMES.items():
+        expect(names.shown(os.fsdecode(name)) == wanted == names.shown(wanted), name, names.shown(os.fsdecode(name)))
+
+
+def is_harmless(said):
+    """Whether each line of a text is its own showing."""
+    return all(names.shown(it) == it for it in said.split("\n"))
+
+
+def try_names_of_the_launcher(folder):
+    for number, name in enumerate(CALLED):
+        room, wanted = folder / str(number), NAMES[name]
+        room.mkdir()
+        place = Place(room, os.fsdecode(name))
+        if number % 2:  # a build that fails, else one that does not
+            (room / "fails").touch()
+            (room / os.fsdecode(name + b"x")).mkdir()
+            status, _, said = place.call("seq", env=place.settings(TMPDIR=os.fsdecode(bytes(room) + b"/" + name + b"x")))
+            expect(status == 2 and f"Its log: {room}/{names.shown(os.fsdecode(name + b'x'))}/" in said, status, said)
+        else:
+            status, _, said = place.call("seq")
+            expect(status == 0 and f"built: {room}/{wanted}/" in said, status, said)
+        expect(is_harmless(said), ascii(said))
+
+
+def try_names_of_c2ms(folder):
+    compiler = Compiler(folder)
+    for name in CALLED:
+        wanted = NAMES[name]
+        wrong, none = os.fsdecode(name + b".s"), os.fsdecode(name + b".c")
+        shutil.copy(folder / "wrong.s", folder / wrong)
+        status, _, said = compiler.call(wrong)
+        expect(status == 1 and said.startswith(f"{wanted}.s:6: refused: ") and is_harmless(said), name, said)
+        status, _, said = compiler.call(none)
+        expect(status == 2 and said.startswith(f"c2ms: {wanted}.c: No such file") and is_harmless(said), name, said)
+    worst = "\x1b\r\n\udcff\u202e\x9b"
+    shutil.copy(folder / "a.s", folder / f"{worst}.s")
+    for words in (["wrong" + worst], [f"{worst}.c"], [f"{worst}.s"], *([f"{worst}.s", *it] for it in
+                  (["-o", f"{worst}/x"], ["-O", worst], ["--nothing" + worst], ["--gcc", worst], ["--multiscalar", worst]))):
+        status, out, said = compiler.call(*words)
+        expect(is_harmless(said) and (status or words == [f"{worst}.s"]), words, ascii(said))
+        expect(is_harmless(out), words, ascii(out))
+    shutil.copy(folder / "a.s", folder / f"{worst}.c")
+    status, _, said = compiler.call(f"{worst}.c")
+    expect(status == 1 and is_harmless(said) and "wrong\n" in said, "what GCC says", status, ascii(said))
+
+
+def tried(name, trial):
+    began = time.monotonic()
+    with tempfile.TemporaryDirectory(prefix="launcher-") as folder:
+        try:
+            trial(pathlib.Path(folder))
+            why = ""
+        except AssertionError as failed:
+            why = f"FAILED: {failed}"
+        except Exception as failed:
+            why = f"FAILED: {type(failed).__name__}: {failed}"
+    return name, ascii(why)[1:-1] if why else "", time.monotonic() - began
+
+
+def main(*words):
+    wanted = [it for it in words if it != "--times"]
+    trials = {name[4:]: it for name, it in globals().items() if name.startswith("try_") and (not wanted or any(word in name for word in wanted))}
+    began, failed = time.monotonic(), 0
+    with concurrent.futures.ThreadPoolExecutor(4) as pool:
+        for name, why, seconds in pool.map(lambda it: tried(*it), trials.items()):
+            failed += bool(why)
+            if why or "--times" in sys.argv:
+                print(f"{name}: {seconds:.1f} s {why}", flush=True)
+    print(f"launcher: {len(trials) - failed} passed, {failed} failed, {time.monotonic() - began:.0f} s")
+    return 1 if failed or not trials else 0
+
+
+if __name__ == "__main__":
+    sys.exit(main(*sys.argv[1:]))
