@@ -222,13 +222,12 @@ def try_edit_while_it_is_built(folder):
 
 
 def try_edit_with_an_old_time(folder):
-    """A file that is moved to the place of another keeps its time."""
-    def move(file):
-        make(folder / "other", "second\n", 0o644)
-        os.utime(folder / "other", (1e9, 1e9))
-        os.replace(folder / "other", file)
+    """As of a copy that keeps the time of its original."""
+    def edit(file):
+        file.write_text("second\n")
+        os.utime(file, (1e9, 1e9))
 
-    edit_while_it_is_built(folder, move)
+    edit_while_it_is_built(folder, edit)
 
 
 def try_what_is_fresh(folder):
@@ -313,12 +312,13 @@ def try_verify(folder):
     make(folder / "m/MANIFEST", f"commit {commit}\nproved and built with kit\n")
     subprocess.run(["tar", "-czf", "release.tar.gz", "m"], cwd=folder, check=True)
     release.mkdir()
+    (folder / "elsewhere/release").mkdir(parents=True)
     shutil.copy(folder / "release.tar.gz", release / "m.tar.gz")
     place = Place(folder, "unused")
 
     def verify():
-        words = ["bash", sources / "release/verify.sh", release / "m.tar.gz", "true"]
-        return subprocess.run(words, env=place.settings(CDPATH=str(folder)), capture_output=True, text=True, cwd=sources)
+        words = ["bash", "release/verify.sh", release / "m.tar.gz", "true"]
+        return subprocess.run(words, env=place.settings(CDPATH=f"{folder}/elsewhere"), capture_output=True, text=True, cwd=sources)
 
     done = verify()
     expect(done.returncode == 0 and "was not compared" in done.stdout, done)
