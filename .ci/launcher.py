@@ -12,6 +12,7 @@ import os
 import pathlib
 import re
 import resource
+import select
 import shutil
 import stat
 import subprocess
@@ -33,7 +34,7 @@ ci)
     echo "rt: low proved"
     made=crates/multiscalar/out/multiscalar
     text=$(cat crates/multiscalar/src/main.rt)
-    sleep "$(cat "$FAKE/sleep" 2>/dev/null || echo 0)"
+    while [ -e "$FAKE/hold" ]; do sleep 0.02; done
     if [ -e "$FAKE/fails" ]; then echo "rt: multiscalar NOT PROVED"; exit 1; fi
     mkdir -p crates/multiscalar/out
     printf '#!/bin/bash\n[ "$1" = --version ] && echo "multiscalar 0.1.0 (proved with a kit)" || echo "%s"\n' "$text" > $made
@@ -111,10 +112,31 @@ class Place:
         return 0
 
 
-def ended(started):
+def ended(started, said=b""):
     """The status and what was written to standard output and standard error; nothing where that went elsewhere."""
-    out, said = ((it or b"").decode("utf-8", "surrogateescape") for it in started.communicate(timeout=25))
-    return started.returncode, out, said
+    out, more = started.communicate(timeout=25)
+    return started.returncode, *((it or b"").decode("utf-8", "surrogateescape") for it in (out, said + (more or b"")))
+
+
+def until(holds):
+    end = time.monotonic() + 10
+    while not holds():
+        expect(time.monotonic() < end, "it takes too long")
+        time.sleep(0.02)
+
+
+def three_at_once(place):
+    """Three calls of which two begin, and say a line, while the first one builds."""
+    (place.folder / "hold").touch()
+    calls = [place.begin("seq")]
+    until(place.builds)
+    calls += [place.begin("seq") for _ in range(2)]
+    lines = [b""]
+    for it in calls[1:]:
+        until(lambda: select.select([it.stderr], [], [], 0)[0])
+        lines.append(it.stderr.readline())
+    (place.folder / "hold").unlink()
+    return [ended(*it) for it in zip(calls, lines)]
 
 
 # Trials: 1. nothing is proved
@@ -171,8 +193,7 @@ def try_words_of_help(_):
 
 def try_three_at_once(folder):
     place = Place(folder)
-    (folder / "sleep").write_text("1")
-    answers = [ended(it) for it in [place.begin("seq") for _ in range(3)]]
+    answers = three_at_once(place)
     expect(place.builds() == 1, place.builds(), "builds", answers)
     expect(all(it[:2] == (0, "first\n") for it in answers), answers)
     said = [it[2] for it in answers]
@@ -182,9 +203,8 @@ def try_three_at_once(folder):
 
 def try_three_that_fail(folder):
     place = Place(folder)
-    (folder / "sleep").write_text("1")
     (folder / "fails").touch()
-    answers = [ended(it) for it in [place.begin("seq") for _ in range(3)]]
+    answers = three_at_once(place)
     expect(place.builds() == 1 and all(it[:2] == (2, "") for it in answers), place.builds(), answers)
     expect(all("built: " not in it[2] for it in answers) and sum("multiscalar is not proved" in it[2] for it in answers) == 1, answers)
     log = next(it for it in (re.search(r"Its log: (.*)\n", it[2]) for it in answers) if it)
@@ -204,15 +224,13 @@ def try_no_place_for_the_program(folder):
 
 def edit_while_it_is_built(folder, edit):
     place = Place(folder)
-    (folder / "sleep").write_text("1")
+    (folder / "hold").touch()
     started = place.begin("seq")
-    while not place.builds():
-        time.sleep(0.02)
-    time.sleep(0.2)
+    until(place.builds)
     edit(place.main)
+    (folder / "hold").unlink()
     status, out, said = ended(started)
     expect((status, out) == (0, "first\n") and "its sources changed meanwhile" in said, status, out, said)
-    (folder / "sleep").unlink()
     expect(place.call("seq")[:2] == (0, "second\n") and place.builds() == 2, place.builds())
     expect(place.call("seq")[:2] == (0, "second\n") and place.builds() == 2, place.builds())
 
@@ -347,7 +365,7 @@ class Compiler:
 
     def call(self, *words, **how):
         words = [sys.executable, TOP / "compiler/c2ms.py", *PLAIN, "--gcc", self.folder / "gcc", "--multiscalar", self.folder / "program", *words]
-        how = {"cwd": self.folder, "env": {**os.environ, "PYTHONDONTWRITEBYTECODE": "1"}, "stdin": subprocess.DEVNULL, "stdout": subprocess.PIPE, "stderr": subprocess.PIPE, **how}
+        how = {"cwd": self.folder, "env": {**os.environ, "PYTHONDONTWRITEBYTECODE": "1", "PYTHONUNBUFFERED": ""}, "stdin": subprocess.DEVNULL, "stdout": subprocess.PIPE, "stderr": subprocess.PIPE, **how}
         return ended(subprocess.Popen(words, **how))
 
 
@@ -419,6 +437,8 @@ def try_no_plain_file(folder):
                       "folder": "no plain file", "pipe": "no plain file", "/dev/null": "no plain file"}.items():
         status, out, said = compiler.call("a.s", "-o", name)
         expect((status, out) == (2, "") and said.startswith(f"c2ms: {name}: it is ") and why in said, name, status, said)
+    status, _, said = compiler.call("wrong.s", "-o", "link")
+    expect(status == 2 and "symbolic link" in said, "before anything is read", status, said)
     expect((folder / "target").read_text() == "old" and (folder / "link").is_symlink() and not list(folder.glob("*.new")))
 
 
@@ -508,13 +528,21 @@ def try_names_of_c2ms(folder):
         status, _, said = compiler.call(none)
         expect(status == 2 and said.startswith(f"c2ms: {wanted}.c: No such file") and is_harmless(said), name, said)
     worst = "\x1b\r\n\udcff\u202e\x9b"
-    shutil.copy(folder / "a.s", folder / f"{worst}.s")
-    for words in (["wrong" + worst], [f"{worst}.c"], [f"{worst}.s"], *([f"{worst}.s", *it] for it in
-                  (["-o", f"{worst}/x"], ["-O", worst], ["--nothing" + worst], ["--gcc", worst], ["--multiscalar", worst]))):
-        status, out, said = compiler.call(*words)
-        expect(is_harmless(said) and (status or words == [f"{worst}.s"]), words, ascii(said))
-        expect(is_harmless(out), words, ascii(out))
-    shutil.copy(folder / "a.s", folder / f"{worst}.c")
+    seen = names.shown(worst)
+    for suffix in (".s", ".c"):
+        shutil.copy(folder / "a.s", folder / f"{worst}{suffix}")
+    for words, said_first in {
+        (f"wrong{worst}",): f"c2ms: wrong{seen}: No such file",
+        (f"{worst}.s", "-o", f"{worst}/x"): f"c2ms: {seen}/x: No such file",
+        (f"{worst}.s", "-O", worst): "usage: ",
+        (f"{worst}.s", f"--nothing{worst}"): "usage: ",
+        (f"{worst}.s", "--gcc", worst): f"c2ms: {seen}: No such file",
+        (f"{worst}.s", "--multiscalar", worst): f"c2ms: {seen}: No such file",
+    }.items():
+        status, _, said = compiler.call(*words)
+        expect(status == 2 and said.startswith(said_first) and is_harmless(said), words, ascii(said))
+    status, out, _ = compiler.call(f"{worst}.s")
+    expect(status == 0 and is_harmless(out) and out.count("Made by") == 1 and out.index("Made by") == 2, "the text", ascii(out))
     status, _, said = compiler.call(f"{worst}.c")
     expect(status == 1 and is_harmless(said) and "wrong\n" in said, "what GCC says", status, ascii(said))
 
