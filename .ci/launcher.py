@@ -365,7 +365,7 @@ class Compiler:
 
     def call(self, *words, **how):
         words = [sys.executable, TOP / "compiler/c2ms.py", *PLAIN, "--gcc", self.folder / "gcc", "--multiscalar", self.folder / "program", *words]
-        how = {"cwd": self.folder, "env": {**os.environ, "PYTHONDONTWRITEBYTECODE": "1", "PYTHONUNBUFFERED": ""}, "stdin": subprocess.DEVNULL, "stdout": subprocess.PIPE, "stderr": subprocess.PIPE, **how}
+        how = {"cwd": self.folder, "stdin": subprocess.DEVNULL, "stdout": subprocess.PIPE, "stderr": subprocess.PIPE, **how}
         return ended(subprocess.Popen(words, **how))
 
 
@@ -463,7 +463,7 @@ except whole_file.NotPut as why:
 
 
 def put(folder, before="", **how):
-    words = [sys.executable, "-B", "-c", PUT, TOP / "compiler", before]
+    words = [sys.executable, "-c", PUT, TOP / "compiler", before]
     return subprocess.run(words, cwd=folder, capture_output=True, text=True, **how).stdout
 
 
@@ -521,12 +521,10 @@ def try_names_of_c2ms(folder):
     compiler = Compiler(folder)
     for name in CALLED:
         wanted = NAMES[name]
-        wrong, none = os.fsdecode(name + b".s"), os.fsdecode(name + b".c")
+        wrong = os.fsdecode(name + b".s")
         shutil.copy(folder / "wrong.s", folder / wrong)
         status, _, said = compiler.call(wrong)
         expect(status == 1 and said.startswith(f"{wanted}.s:6: refused: ") and is_harmless(said), name, said)
-        status, _, said = compiler.call(none)
-        expect(status == 2 and said.startswith(f"c2ms: {wanted}.c: No such file") and is_harmless(said), name, said)
     worst = "\x1b\r\n\udcff\u202e\x9b"
     seen = names.shown(worst)
     for suffix in (".s", ".c"):
@@ -564,7 +562,10 @@ def main(*words):
     wanted = [it for it in words if it != "--times"]
     trials = {name[4:]: it for name, it in globals().items() if name.startswith("try_") and (not wanted or any(word in name for word in wanted))}
     began, failed = time.monotonic(), 0
-    with concurrent.futures.ThreadPoolExecutor(4) as pool:
+    kept = tempfile.TemporaryDirectory(prefix="launcher-")
+    # Each script is compiled once, outside the sources; and streams are as they are for most.
+    os.environ.update(PYTHONPYCACHEPREFIX=kept.name, PYTHONDONTWRITEBYTECODE="", PYTHONUNBUFFERED="")
+    with kept, concurrent.futures.ThreadPoolExecutor(4) as pool:
         for name, why, seconds in pool.map(lambda it: tried(*it), trials.items()):
             failed += bool(why)
             if why or "--times" in sys.argv:
