@@ -91,7 +91,8 @@ def is_built(name):
     kept = noted(name, "built")
     if not kept or not os.access(program, os.X_OK) or not program.is_file() or kept != checksum(needed(name), TOP):
         return False
-    note(name, "built", kept, now)
+    with contextlib.suppress(OSError):  # of sources that another user owns
+        note(name, "built", kept, now)
     return True
 
 
@@ -187,6 +188,8 @@ def run(log, name):
         return 0
     except OSError as fault:
         say(f"the build failed: {fault_of(fault)}")
+        with contextlib.suppress(OSError):
+            note(name, "failed", checksum(crates, TOP), time.time())
         return 1
     except KeyboardInterrupt:
         say("stopped; the crates that were proved are kept")
