@@ -26,6 +26,9 @@ sys.dont_write_bytecode = True
 import names
 import whole_file
 
+HELP = (TOP / "crates/test_program/data/rows/help").read_text()
+# What the proved program says of its version.
+VERSION = re.search(r"^\$ --version\n> (.*)$", HELP, re.M)[1]
 RT = r"""#!/bin/bash
 echo "$1" >> "$FAKE/calls"
 case $1 in
@@ -37,19 +40,19 @@ ci)
     while [ -e "$FAKE/hold" ]; do sleep 0.02; done
     if [ -e "$FAKE/fails" ]; then echo "rt: multiscalar NOT PROVED"; exit 1; fi
     mkdir -p crates/multiscalar/out
-    printf '#!/bin/bash\n[ "$1" = --version ] && echo "multiscalar 0.1.0 (proved with a kit)" || echo "%s"\n' "$text" > $made
+    printf '#!/bin/bash\n[ "$1" = --version ] && echo "VERSION" || echo "%s"\n' "$text" > $made
     chmod +x $made
     echo "rt: multiscalar proved"
     ;;
 try)
     shift 2
-    case $1 in --version | -V) echo "multiscalar 0.1.0 (proved with a kit)" ;; *) printf '<%s>\n' "$@" ;; esac
+    case $1 in --version | -V) echo "VERSION" ;; *) printf '<%s>\n' "$@" ;; esac
     echo "multiscalar: a word of the program" >&2
     echo "run=ended status=1 proved=no" >&2
     exit 1
     ;;
 esac
-"""
+""".replace("VERSION", VERSION)
 GCC = "#!/bin/bash\n[ \"$1\" = --version ] && { echo 'gcc (kit) 12.2.0'; exit; }\nprintf '%s: wrong\\n' \"${@: -1}\" >&2\nexit 1\n"
 PROGRAM = "#!/bin/bash\ncase $1 in annotate | print) cat \"${@: -1}\" ;; run) echo 5 ;; esac\n"
 ASSEMBLY = "\t.text\n\t.globl main\nmain:\n\tli $2,5\n\tjr $31\n"
@@ -126,8 +129,8 @@ def until(holds):
         time.sleep(0.02)
 
 
-def three_at_once(place):
-    """Three calls of which two begin, and say a line, while the first one builds."""
+def three_at_once(place, meanwhile=lambda: None):
+    """Three calls of which two begin, and say a line, while the first one builds; then something else happens."""
     (place.folder / "hold").touch()
     calls = [place.begin("seq")]
     until(place.builds)
@@ -136,6 +139,7 @@ def three_at_once(place):
     for it in calls[1:]:
         until(lambda: select.select([it.stderr], [], [], 0)[0])
         lines.append(it.stderr.readline())
+    meanwhile()
     (place.folder / "hold").unlink()
     return [ended(*it) for it in zip(calls, lines)]
 
@@ -147,9 +151,9 @@ def try_version(folder):
     place = Place(folder)
     for word in ("--version", "-V"):
         status, out, said = place.call("--unproved", word)
-        expect(out == "multiscalar 0.1.0 (nothing is proved: compiled by --unproved)\n", out)
+        expect(out == f"{VERSION.split(' (')[0]} (nothing is proved: compiled by --unproved)\n", out)
         expect(status == 1 and "nothing is proved in this run" in said and "multiscalar: a word of the program\n" in said and "run=" not in said, status, said)
-    expect(place.call("--version")[:2] == (0, "multiscalar 0.1.0 (proved with a kit)\n"))
+    expect(place.call("--version")[:2] == (0, f"{VERSION}\n") and "(proved with " in VERSION)
 
 
 # 2. words
@@ -178,8 +182,7 @@ def try_words(folder):
 
 def try_words_of_help(_):
     """The options that the launcher knows are those of the help."""
-    rows = (TOP / "crates/test_program/data/rows/help").read_text()
-    found = set(re.findall(r"^>   (?:(-\w), |    )(--[a-z-]+) <(\w+)>", rows, re.M))
+    found = set(re.findall(r"^>   (?:(-\w), |    )(--[a-z-]+) <(\w+)>", HELP, re.M))
     files = {it for letter, long, what in found for it in (letter, long) if it and what == "FILE"}
     other = {it for letter, long, what in found for it in (letter, long) if it and what != "FILE"}
     launcher = (TOP / "multiscalar").read_text()
@@ -237,6 +240,12 @@ def edit_while_it_is_built(folder, edit):
 
 def try_edit_while_it_is_built(folder):
     edit_while_it_is_built(folder, lambda file: file.write_text("second\n"))
+
+
+def try_edit_while_others_wait(folder):
+    place = Place(folder)
+    answers = three_at_once(place, lambda: place.main.write_text("second\n"))
+    expect([it[:2] for it in answers] == [(0, "first\n"), (0, "second\n"), (0, "second\n")] and place.builds() == 2, place.builds(), answers)
 
 
 def try_edit_with_an_old_time(folder):
