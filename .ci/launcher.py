@@ -245,7 +245,8 @@ def try_edit_while_it_is_built(folder):
 def try_edit_while_others_wait(folder):
     place = Place(folder)
     answers = three_at_once(place, lambda: place.main.write_text("second\n"))
-    expect([it[:2] for it in answers] == [(0, "first\n"), (0, "second\n"), (0, "second\n")] and place.builds() == 2, place.builds(), answers)
+    # The first one runs what it finds once it has built, which may be the second one's already.
+    expect([it[:2] for it in answers[1:]] == [(0, "second\n")] * 2 and answers[0][0] == 0 and place.builds() == 2, place.builds(), answers)
 
 
 def try_edit_with_an_old_time(folder):
