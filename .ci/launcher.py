@@ -118,12 +118,12 @@ class Place:
 
 def ended(started, said=b""):
     """The status and what was written to standard output and standard error; nothing where that went elsewhere."""
-    out, more = started.communicate(timeout=25)
+    out, more = started.communicate(timeout=120)
     return started.returncode, *((it or b"").decode("utf-8", "surrogateescape") for it in (out, said + (more or b"")))
 
 
 def until(holds):
-    end = time.monotonic() + 20
+    end = time.monotonic() + 60
     while not holds():
         expect(time.monotonic() < end, "it takes too long")
         time.sleep(0.02)
