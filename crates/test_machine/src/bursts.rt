@@ -5,9 +5,12 @@ use machine_model::event::{Event, EventRun};
 use sequencer::machine::Machine;
 use std::alloc::Global;
 use std::process::Abort;
-use test_programs::certificates::{COUNT_CERTIFICATE, DIAMOND_CERTIFICATE};
-use test_programs::programs::{COUNT, COUNT_FORWARDED, DIAMOND};
+use test_programs::certificates::{
+    COUNT_CERTIFICATE, DIAMOND_CERTIFICATE, WRONG_PATH_SPIN_CERTIFICATE,
+};
+use test_programs::programs::{COUNT, COUNT_FORWARDED, DIAMOND, WRONG_PATH_SPIN};
 use unit_core::burst::Burst;
+use unit_core::wait::Wait;
 
 /// A burst of at most 64 steps on a unit; asserts how many it has.
 fn burst<'a>(rt: &impl Abort, machine: &Machine<'a>, unit: u32, steps: u32) -> Burst<'a> {
@@ -53,6 +56,36 @@ fn stale_burst(rt: HostRuntime) {
     assert!(rt; machine.value(2, r9) == Some(7));
 }
 
+// The unit stands where it stood when it was lent, with the same registers, but has executed since.
+#[test]
+fn burst_log_grew(rt: HostRuntime) {
+    let accepted = accepted(
+        &rt,
+        rt.alloc(),
+        WRONG_PATH_SPIN,
+        WRONG_PATH_SPIN_CERTIFICATE,
+    );
+    let mut machine = machine(&rt, rt.alloc(), &accepted, 2);
+    apply_all(&rt, &mut machine, &[Event::Assign(0), Event::Assign(1)]);
+    let stale = burst(&rt, &machine, 1, 64);
+    apply_all(&rt, &mut machine, &[Event::Exec(1)]);
+    hand_in(&rt, &mut machine, stale, 0, 3);
+    let fresh = burst(&rt, &machine, 1, 64);
+    assert!(rt; fresh.ended() == None);
+    hand_in(&rt, &mut machine, fresh, 64, 67);
+}
+
+// The first instruction sends $8, and the burst goes on.
+#[test]
+fn burst_to_the_stop(rt: HostRuntime) {
+    let accepted = accepted(&rt, rt.alloc(), COUNT, COUNT_CERTIFICATE);
+    let mut machine = machine(&rt, rt.alloc(), &accepted, 1);
+    apply_all(&rt, &mut machine, &[Event::Assign(0)]);
+    let whole = burst(&rt, &machine, 0, 4);
+    assert!(rt; whole.ended() == Some(Wait::Stopped));
+    hand_in(&rt, &mut machine, whole, 4, 5);
+}
+
 /// The certificate of `COUNT` with $10 also in the mask of the last instruction of A.
 const COUNT_CERTIFICATE_LARGER: &str = "cert 1
 task A
@@ -70,7 +103,7 @@ task B
 const MACHINES: [(&str, &str, u32, usize); 3] = [
     (COUNT_FORWARDED, COUNT_CERTIFICATE, 0, 1),
     (COUNT, COUNT_CERTIFICATE_LARGER, 0, 1),
-    (COUNT, COUNT_CERTIFICATE, 1, 2),
+    (COUNT, COUNT_CERTIFICATE, 4, 5),
 ];
 
 #[test]
@@ -83,7 +116,7 @@ fn burst_other_program(rt: HostRuntime) {
     }
 }
 
-/// Hands in a burst of the first unit of another machine; its step raises $8 from 0 to 1.
+/// Hands in a burst of the first unit of another machine; its first step raises $8 from 0 to 1.
 fn expect_taken(
     rt: &impl Abort,
     alloc: Global,
@@ -96,8 +129,9 @@ fn expect_taken(
     let accepted = accepted(rt, alloc, program, certificate);
     let mut machine = machine(rt, alloc, &accepted, 1);
     apply_all(rt, &mut machine, &[Event::Assign(0)]);
-    hand_in(rt, &mut machine, burst(rt, lent, 0, 1), events, length);
-    assert!(rt; machine.value(0, register(rt, 8)) == Some(events));
+    hand_in(rt, &mut machine, burst(rt, lent, 0, 4), events, length);
+    let raised = u32::from(events > 0);
+    assert!(rt; machine.value(0, register(rt, 8)) == Some(raised));
 }
 
 // The second unit waits for a register of the first.

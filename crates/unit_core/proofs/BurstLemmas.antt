@@ -1,6 +1,6 @@
 -- A step reads no log, so what was made on a unit without a log holds of that unit with any log.
-use Rattle.std.specs.Prelude.{◌≡◌, ℕ, ◌+◌, ◌++◌, ◌∷◌, [], List, is_some}
-use Rattle.std.proofs.Common.{sym, ap, ◌∙◌, subst, arith, append_assoc, add-one}
+use Rattle.std.specs.Prelude.{◌≡◌, ℕ, ◌+◌, ◌≤◌, ◌++◌, ◌∷◌, [], false, List, is_some, Option, Some, None, IfSome}
+use Rattle.std.proofs.Common.{sym, ap, ◌∙◌, subst, arith, append_assoc, add-one, inl, inr}
 use Rattle.std.proofs.lemmas.List.{append-nil}
 use Rattle.mips_instructions.specs.Words.{address}
 use Rattle.mips_plain.specs.MemoryMap.{byte_of}
@@ -14,7 +14,10 @@ use Rattle.machine_model.specs.Machine.{Active}
 use Rattle.machine_model.specs.Unit.{with_log, gone_on, executed}
 use Rattle.machine_model.specs.Burst.{no_memory, StepsAlone, Burst}
 use Rattle.unit_core.specs.Units.{UnitView, active_of}
-use Rattle.unit_core.specs.Bursts.{Makes, HasSentTheSame, SendsLast}
+use Rattle.unit_core.specs.UnitStep.{IsRefusedFor}
+use Rattle.unit_core.specs.Units.{IsPlaced}
+use Rattle.unit_core.specs.Bursts.{BurstView, IsMade, Makes, HasSentTheSame, SendsLast, EndsFor, EndsAtSend}
+use Rattle.unit_core.specs.declared.wait.Wait.{Wait}
 
 -- a step with another log
 same_after : (o : Outcome) (p : Listing) (u : Active) (m : Marked) (index a b : ℕ) (before log log' : List Read) → log ≡ log' → with_log (executed o p u m index a b no_memory) log ≡ with_log (executed o p (with_log u before) m index a b no_memory) log'
@@ -76,3 +79,45 @@ pub one_sends : (p : Listing) (u mid : UnitView) (steps : ℕ) → Makes p u ste
 one_sends p u mid steps made same n is =
     let one : steps ≡ n = omega arith in
     (mid, subst (λ (k : ℕ). Makes p u k mid) one made, same)
+
+-- the reason that is given is so
+pub reason_of : (p : Listing) (after : Active) (most steps : ℕ) (ended : Option Wait) → EndsFor p after most steps ended → IfSome ended (IsRefusedFor p false after)
+reason_of p after most steps None ends = tt
+reason_of p after most steps (Some why) ends = ends.1
+
+pub reason_at_send : (p : Listing) (before after : Active) (most steps : ℕ) (ended : Option Wait) → EndsAtSend p before after most steps ended → IfSome ended (IsRefusedFor p false after)
+reason_at_send p before after most steps ended ends =
+    elim ends [
+      | inl all ↦ reason_of p after most steps ended all
+      | inr sends ↦ subst (λ (o : Option Wait). IfSome o (IsRefusedFor p false after)) (sym sends.0) tt
+    ]
+
+-- a unit has sent what another one has that differs in the log alone
+pub ends_as : (p : Listing) (u v : UnitView) (after : Active) (most steps : ℕ) (ended : Option Wait) → ((log : List Read) → with_log (active_of v) log ≡ with_log (active_of u) log) → EndsAtSend p (active_of v) after most steps ended → EndsAtSend p (active_of u) after most steps ended
+ends_as p u v after most steps ended same ends =
+    elim ends [
+      | inl all ↦ inl all
+      | inr sends ↦ inr (sends.0, λ all. sends.1 (λ r. all r ∙ ap (λ (a : Active). is_some (a.sent r)) (sym (same []))))
+    ]
+
+-- a burst without a step has the unit before also after it, so what is made on the one is made on the other
+
+pub begun_empty : (b : BurstView) → IsMade b → b.steps ≡ 0 → b.after.log ≡ []
+begun_empty b made none =
+    let p = b.accepted.program in
+    begins_empty p b.before b.after (subst (λ (n : ℕ). Makes p b.before n b.after) none made.made)
+
+pub begun_as : (b : BurstView) (v : UnitView) → IsMade b → b.steps ≡ 0 → v ≡ b.after → (log : List Read) → with_log (active_of v) log ≡ with_log (active_of b.before) log
+begun_as b v made none is log =
+    let p = b.accepted.program in
+    ap (λ (x : UnitView). with_log (active_of x) log) is
+    ∙ begins_as p b.before b.after (subst (λ (n : ℕ). Makes p b.before n b.after) none made.made) log
+
+pub made_from : (b : BurstView) (v w : UnitView) (n : ℕ) (ended : Option Wait) → IsMade b → b.steps ≡ 0 → v ≡ b.after → n ≤ 65536 → Makes b.accepted.program v n w
+    → IfSome ended (IsRefusedFor b.accepted.program false (active_of w)) → IsPlaced b.accepted (active_of w) → IsMade (record b { steps = n; after = w; ended = ended })
+made_from b v w n ended made none is few steps reason placed = record {
+  few = few;
+  made = made_on b.accepted.program b.before v w n (begun_as b v made none is) steps;
+  reason = reason;
+  placed = placed;
+}

@@ -2,7 +2,7 @@
 -- keeps it from sending, which registers may still be written, and what arrived during a burst.
 use Rattle.std.specs.Prelude.{◌≡◌, ℕ, pos, true, false, [], ◌∷◌, ◌++◌, replicate, Some, None}
 use Rattle.std.specs.List.{range_with_len}
-use Rattle.std.proofs.Common.{refl, ap, arith}
+use Rattle.std.proofs.Common.{refl, ap, arith, inl, inr}
 use Rattle.std.proofs.lemmas.Bool.Decides.{nat_tests}
 use Rattle.mips_plain.specs.MemoryMap.{region, effective}
 use Rattle.mips_instructions.specs.declared.instruction.ThreeKind.TheVariants.{Addu}
@@ -12,7 +12,7 @@ use Rattle.mips_instructions.specs.declared.instruction.Op.TheVariants.{Three, L
 use Rattle.task_descriptor.specs.Listing.{Listing}
 use Rattle.mark_checker.specs.Places.{Checked}
 use Rattle.machine_model.specs.Machine.{Active, value}
-use Rattle.machine_model.specs.Unit.{put, exec_refusal, drain_refusal}
+use Rattle.machine_model.specs.Unit.{put, exec_refusal, drain_refusal, with_log}
 use Rattle.machine_model.specs.Refusals.{least}
 use Rattle.machine_model.specs.Burst.{with_arrived}
 use Rattle.machine_model.specs.Examples.{bare, task, count}
@@ -20,8 +20,9 @@ use Rattle.machine_model.specs.declared.event.Refused.TheVariants as refused
 use Rattle.machine_model.specs.declared.event.Spot.{Spot}
 use Rattle.machine_model.specs.declared.event.Spot.TheVariants.{Inside, Stopped}
 use Rattle.unit_core.specs.Units.{UnitView, active_of}
-use Rattle.unit_core.specs.Bursts.{HasMore}
+use Rattle.unit_core.specs.Bursts.{HasMore, EndsFor}
 use Rattle.unit_core.specs.SentRegisters.{mask_has}
+use Rattle.unit_core.specs.declared.wait.Wait.TheVariants as wait
 
 -- A unit of the first task. For register r of these sets 100 + r has arrived, it wrote 200 + r, and it
 -- sent 300 + r; register 0 has arrived with 0.
@@ -176,12 +177,36 @@ pub without_mask : mask_has checked 0 4 8 ≡ false
 without_mask = refl
 
 -- during a burst register 9 may arrive
-pub arrived_since : HasMore at_work (with_arrived at_work (put 9 5 at_work.arrived))
-arrived_since = record { more = λ r word is. grind (arith, nat_tests, is); is = refl }
+pub arrived_since : HasMore at_work 0 (with_arrived at_work (put 9 5 at_work.arrived))
+arrived_since = record { more = λ r word is. grind (arith, nat_tests, is); is = refl; log = refl }
 
 -- but no register may arrive again with another word, nor may the unit write in the meantime
-pub arrived_anew : HasMore at_work (with_arrived at_work (put 6 5 at_work.arrived)) → ⊥
+pub arrived_anew : HasMore at_work 0 (with_arrived at_work (put 6 5 at_work.arrived)) → ⊥
 arrived_anew has = let e = has.more 6 106 refl in cc
 
-pub written_since : HasMore at_work (record at_work { local = put 9 5 at_work.local }) → ⊥
+pub written_since : HasMore at_work 0 (record at_work { local = put 9 5 at_work.local }) → ⊥
 written_since has = let e = ap (λ (u : Active). u.local 9) has.is in cc
+
+-- nor may it read, even where all else is as it was
+pub read_since : HasMore at_work 0 (with_log at_work (record { pc = 0x400000; a = 0; b = 0 } ∷ [])) → ⊥
+read_since has = absurd (omega (arith, has.log))
+
+-- of 64 steps that were asked for four were made, and the unit has stopped: only that may be given as the reason
+abbrev pub at_stop : Active
+at_stop = active_of (unit (Stopped 0x400018) but_three 0 0)
+
+pub ends_at_stop : EndsFor moves at_stop 64 4 (Some wait.Stopped)
+unfolding least
+ends_at_stop = (omega arith, inl refl)
+
+pub ends_for_nothing : EndsFor moves at_stop 64 4 None → ⊥
+ends_for_nothing ends = absurd (omega (arith, ends))
+
+pub ends_for_another : EndsFor moves at_stop 64 4 (Some wait.NotHead) → ⊥
+unfolding least
+ends_for_another ends = elim ends.1 [ inl other ↦ cc | inr none ↦ let e = none.0 in cc ]
+
+-- memory may be lacking only where the unit could execute
+pub ends_for_memory : EndsFor moves at_stop 64 4 (Some wait.OutOfMemory) → ⊥
+unfolding least
+ends_for_memory ends = elim ends.1 [ inl other ↦ cc | inr none ↦ let e = none.1 in cc ]

@@ -1,4 +1,4 @@
-//! What a unit holds except its log.
+//! What a unit holds, of its log only the length.
 
 ghost use Rattle.std.specs.Prelude.{◌≡◌};
 ghost use Rattle.unit_core.specs.Units.{unlogged};
@@ -7,8 +7,8 @@ use machine_model::event::Spot;
 use register_ring::held::RegisterWords;
 use register_ring::port::Port;
 
-/// What a unit holds except its log: its task and serial number, its place, what arrived and what it sent,
-/// and what it wrote itself. A burst is made on a copy of it.
+/// What a unit holds, of its log only the length: its task and serial number, its place, what arrived and what
+/// it sent, what it wrote itself, and how much it has read. A burst is made on a copy of it.
 #[derive(Clone, Copy, Debug)]
 pub struct UnitState {
     pub(crate) task: u32,
@@ -16,6 +16,7 @@ pub struct UnitState {
     pub(crate) spot: Spot,
     pub(crate) port: Port,
     pub(crate) local: RegisterWords,
+    pub(crate) reads: usize,
 }
 
 impl UnitState {
