@@ -1,6 +1,6 @@
 -- Serial numbers rise from the head to the tail and stay below the number of Assigns: each Assign gives
 -- the next one, and no other event gives any.
-use Rattle.std.proofs.Common.{◌≡◌, ℕ, zero, suc, ◌≤◌, List, [], ◌∷◌, ◌++◌, take, Some, refl, sym, ap, ◌∙◌, subst, arith}
+use Rattle.std.proofs.Common.{◌≡◌, ℕ, zero, suc, ◌<◌, ◌≤◌, List, [], ◌∷◌, ◌++◌, take, Some, refl, sym, ap, ◌∙◌, subst, arith}
 use Rattle.std.specs.Prelude.{slice_get, slice_set}
 use Rattle.mips_plain.specs.Effect.{outcome_after}
 use Rattle.mips_plain.specs.declared.outcome.Outcome.{Outcome}
@@ -54,7 +54,7 @@ fill low regs (x ∷ us) high h = (h.0, h.1)
 
 -- an event keeps them rising
 
-exec_serial : (o : Outcome) (p : Listing) (u : Active) (m : Marked) (index a b : ℕ) (memory : ℕ → ℕ) → (executed o p u m index a b memory).serial ≡ u.serial
+pub exec_serial : (o : Outcome) (p : Listing) (u : Active) (m : Marked) (index a b : ℕ) (memory : ℕ → ℕ) → (executed o p u m index a b memory).serial ≡ u.serial
 exec_serial Running p u m index a b memory = refl
 exec_serial Halted p u m index a b memory = refl
 exec_serial (Trapped trap) p u m index a b memory = refl
@@ -110,6 +110,20 @@ distinct low (x ∷ us) high h (suc j) zero u v at there same =
     let over : suc x.serial ≤ u.serial = above (suc x.serial) us high j u h.1 at in
     absurd (omega arith)
 distinct low (x ∷ us) high h (suc j) (suc k) u v at there same = ap suc (distinct (suc x.serial) us high h.1 j k u v at there same)
+
+below : (low : ℕ) (us : List Active) (high k : ℕ) (u : Active) → Rise low us high → slice_get us k ≡ Some u → u.serial < high
+below low [] high k u h at = absurd (cc)
+below low (x ∷ us) high zero u h at =
+    let same : x ≡ u = cc in
+    let last : suc x.serial ≤ high = bound (suc x.serial) us high h.1 in
+    let serial : x.serial ≡ u.serial = ap (λ (w : Active). w.serial) same in omega arith
+below low (x ∷ us) high (suc k) u h at = below (suc x.serial) us high k u h.1 at
+
+-- a unit at work was assigned
+pub serial_below : (p : Listing) (units : ℕ) (events : List Event) (s : State) → Replays p units events s → (k : ℕ) (u : Active) → slice_get s.queue k ≡ Some u → u.serial < s.assigns
+serial_below p units events s replay k u at =
+    let start : 0 ≤ 0 = omega arith in
+    below 0 s.queue s.assigns k u (rises p units events (opening p) s start replay) at
 
 pub serials_distinct : (p : Listing) (units : ℕ) (events : List Event) (s : State) → Replays p units events s → AreDistinct s.queue
 serials_distinct p units events s replay =

@@ -23,7 +23,7 @@ use Rattle.sequencer.specs.Bursts.{IsFresh, Takes}
 abbrev pub Found : MachineView → BurstView → (k : ℕ) → Type 0
 Found m b k =
     (0 < b.steps) × (b.accepted ≡ m.accepted) × (position_with (state m).queue b.before.serial ≡ Some k)
-    × ((u : Active) × (slice_get (state m).queue k ≡ Some u) × HasMore (active_of b.before) u)
+    × ((u : Active) × (slice_get (state m).queue k ≡ Some u) × HasMore (active_of b.before) b.reads u)
 
 abbrev pub fresh_at : (m : MachineView) (b : BurstView) (k : ℕ) → Found m b k → IsFresh m b
 fresh_at m b k f = record { has_step = f.0; is_own = f.1; position = k; unit = f.3.0; is_unit = f.3.1; has_more = f.3.2 }

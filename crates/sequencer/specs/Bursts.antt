@@ -23,14 +23,14 @@ pub record IsAtWork (m : MachineView) (number : ℕ) (u : Active) : Type 0 where
   pub is_inside : u.place ≡ Inside index
 
 -- a burst with a step, made with this machine's program and certificate, and an active unit that is the
--- one that it was made on, logs aside, with at most more registers arrived
+-- one that it was made on, its log in length, with at most more registers arrived
 pub record IsFresh (m : MachineView) (b : BurstView) : Type 0 where
   pub has_step : 0 < b.steps
   pub is_own : b.accepted ≡ m.accepted
   pub position : ℕ
   pub unit : Active
   pub is_unit : slice_get (state m).queue position ≡ Some unit
-  pub has_more : HasMore (active_of b.before) unit
+  pub has_more : HasMore (active_of b.before) b.reads unit
 
 -- what refuses a burst: the run has ended; or it is fresh and its steps don't fit into the history; or it
 -- is fresh, its steps fit, and its reads find no room

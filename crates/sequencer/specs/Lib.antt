@@ -5,5 +5,6 @@ pub mod Rings
 pub mod Choices
 pub mod Finish
 pub mod Bursts
+pub mod Logs
 pub mod Examples
 pub mod OfAccepted

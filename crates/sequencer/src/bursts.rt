@@ -23,13 +23,13 @@ impl<'a> Machine<'a> {
     ghost use Rattle.sequencer.specs.Rings.{unit_for};
     ghost use Rattle.sequencer.specs.Bursts.{IsAtWork, IsFresh, IsRefusedBurst, Takes};
 
-    /// Lends the unit with this number on the ring, as it is except for its log, with the machine's program
-    /// and certificate, to make a burst on. `None` exactly where that unit is free or has stopped, or
+    /// Lends the unit with this number on the ring, as it is, of its log only the length, with the machine's
+    /// program and certificate, to make a burst on. `None` exactly where that unit is free or has stopped, or
     /// there is no such unit. The machine does not change. Takes no memory, and the cost does not depend on
     /// the length of the log.
     pub fn lease(&self, unit: u32) -> Option<Lease<'a>>
         ensures some { IfSome result (λ lease. (lease.accepted ≡ self.now.accepted)
-            × ((u : Active) × IsAtWork self.now unit u × (active_of lease.unit ≡ with_log u []))) }
+            × ((u : Active) × IsAtWork self.now unit u × (active_of lease.unit ≡ with_log u []) × (lease.reads ≡ length u.log))) }
         ensures none { IfNone result ((u : Active) → IsAtWork self.now unit u → ⊥) }
     {
         self.law_replay();
@@ -43,7 +43,7 @@ impl<'a> Machine<'a> {
     /// of its reads. Answers whether it did; if not, the burst stays as it is.
     pub fn lend(&self, unit: u32, burst: &mut Burst<'a>) -> bool
         ensures lent { IsTrue result → (burst.new.accepted ≡ self.now.accepted) × (burst.new.steps ≡ 0)
-            × ((u : Active) × IsAtWork self.now unit u × (active_of burst.new.before ≡ with_log u [])) }
+            × ((u : Active) × IsAtWork self.now unit u × (active_of burst.new.before ≡ with_log u []) × (burst.new.reads ≡ length u.log)) }
         ensures none { result ≡ false → (burst.new ≡ burst.old) × ((u : Active) → IsAtWork self.now unit u → ⊥) }
     {
         self.law_replay();
@@ -84,11 +84,12 @@ impl<'a> Machine<'a> {
     }
 
     /// Hands in a burst, and answers how many events that was. Where an active unit is the one that
-    /// the burst was made on, logs aside, with at most more registers arrived, that unit takes it over:
-    /// one Exec for each step. Answers 0, and changes nothing, exactly where the burst has no step, was
-    /// made with another program or certificate than the machine's, which are compared by value, or no
-    /// active unit is the one that it was made on, as when that was squashed. Apart from that comparison,
-    /// the cost depends on the length of the burst alone, not on the size of the log or the history.
+    /// the burst was made on, with at most more registers arrived, that unit takes it over: one Exec for
+    /// each step. Of its log the length is compared: with the serial number it tells the log. Answers 0, and
+    /// changes nothing, exactly where the burst has no step, was made with another program or certificate
+    /// than the machine's, which are compared by value, or no active unit is the one that it was made on, as
+    /// when that was squashed or has executed since. Apart from that comparison, the cost depends on the
+    /// length of the burst alone, not on the size of the log or the history.
     ///
     /// # Errors
     ///
@@ -156,7 +157,7 @@ impl<'a> Machine<'a> {
     fn position_for(&self, burst: &Burst<'_>) -> Option<u32>
         ensures some { IfSome result (λ k. (0 < burst.now.steps)
             × (position_with (state self.now).queue burst.now.before.serial ≡ Some k)
-            × ((u : Active) × (slice_get (state self.now).queue k ≡ Some u) × HasMore (active_of burst.now.before) u)) }
+            × ((u : Active) × (slice_get (state self.now).queue k ≡ Some u) × HasMore (active_of burst.now.before) burst.now.reads u)) }
         ensures none { IfNone result (IsFresh self.now burst.now → ⊥) }
     {
         self.law_replay();

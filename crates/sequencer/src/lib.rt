@@ -6,6 +6,7 @@ pub mod accepted_laws;
 mod bursts;
 mod history;
 mod laws;
+pub mod log_laws;
 pub mod machine;
 pub mod predict;
 mod ready;

@@ -1,5 +1,5 @@
 -- A fresh burst has its unit where the search looks, so where that finds none, or another unit, it is stale.
-use Rattle.std.proofs.Common.{◌≡◌, Some, None, sym, ap, ◌∙◌, subst}
+use Rattle.std.proofs.Common.{◌≡◌, ℕ, Some, None, sym, ap, ◌∙◌, subst}
 use Rattle.std.specs.Prelude.{slice_get}
 use Rattle.std.proofs.lemmas.Bool.{false≢true}
 use Rattle.machine_model.specs.Machine.{Active}
@@ -14,7 +14,7 @@ pub returns-in_default-clause-none : goal.returns-in_default-clause-none
 returns-in_default-clause-none c = λ f.
     let m = c.args.self.now in
     let b = c.args.burst.now in
-    let serial : c.serial.result ≡ b.before.serial = c.serial.ensures ∙ ap (λ (u : UnitView). u.serial) c.before-before.ensures in
+    let serial : c.serial.result ≡ b.before.serial = c.serial.ensures ∙ ap (λ (u : UnitView). u.serial) c.before-before.ensures.unit in
     let found : c.position_with.result ≡ position_with (state m).queue b.before.serial =
     c.position_with.ensures ∙ (λ j. position_with (state (c.self.view_is j)).queue (serial j)) in
     never_none m b f c.law_replay.ensures.distinct (sym found ∙ c.in_default.is)
@@ -24,7 +24,7 @@ returns-in_default-unit-clause-none c = λ f.
     let m = c.args.self.now in
     let b = c.args.burst.now in
     let k = c.in-Some.position in
-    let serial : c.serial.result ≡ b.before.serial = c.serial.ensures ∙ ap (λ (u : UnitView). u.serial) c.before-before.ensures in
+    let serial : c.serial.result ≡ b.before.serial = c.serial.ensures ∙ ap (λ (u : UnitView). u.serial) c.before-before.ensures.unit in
     let found : c.position_with.result ≡ position_with (state m).queue b.before.serial =
     c.position_with.ensures ∙ (λ j. position_with (state (c.self.view_is j)).queue (serial j)) in
     let here = at_fresh m b f c.law_replay.ensures.distinct k (sym found ∙ c.in-Some.is) in
@@ -39,7 +39,7 @@ returns-then-not-has_more-clause-none c = λ f.
     let m = c.args.self.now in
     let b = c.args.burst.now in
     let k = c.in-Some.position in
-    let serial : c.serial.result ≡ b.before.serial = c.serial.ensures ∙ ap (λ (u : UnitView). u.serial) c.before-before.ensures in
+    let serial : c.serial.result ≡ b.before.serial = c.serial.ensures ∙ ap (λ (u : UnitView). u.serial) c.before-before.ensures.unit in
     let found : c.position_with.result ≡ position_with (state m).queue b.before.serial =
     c.position_with.ensures ∙ (λ j. position_with (state (c.self.view_is j)).queue (serial j)) in
     let here = at_fresh m b f c.law_replay.ensures.distinct k (sym found ∙ c.in-Some.is) in
@@ -48,7 +48,9 @@ returns-then-not-has_more-clause-none c = λ f.
     ap (λ (x : MachineView). slice_get (state x).queue k) (sym c.self.view_is) ∙ sym c.in-Some-unit.ensures in
     let both : Some u ≡ Some f.unit = sym there ∙ here in
     let same : u ≡ f.unit = cc in
-    let more : HasMore (active_of (unlogged c.before-before.result.now)) u =
-    subst (λ (v : Active). HasMore (active_of (unlogged c.before-before.result.now)) v) (sym same)
-    (subst (λ (x : UnitView). HasMore (active_of x) f.unit) (sym c.before-before.ensures) f.has_more) in
+    let state = c.before-before.result.now in
+    let more : HasMore (active_of (unlogged state)) state.reads u =
+    subst (λ (v : Active). HasMore (active_of (unlogged state)) state.reads v) (sym same)
+    (subst (λ (n : ℕ). HasMore (active_of (unlogged state)) n f.unit) (sym c.before-before.ensures.reads)
+    (subst (λ (x : UnitView). HasMore (active_of x) b.reads f.unit) (sym c.before-before.ensures.unit) f.has_more)) in
     false≢true (sym c.if-not-has_more.true ∙ c.has_more.ensures.1 more)
