@@ -38,6 +38,36 @@ BUILT = "crates/{0}/out/{0}"
 # answers; the reason. A list doubles its room when it is full, so it may ask for twice what it holds in the end.
 Bound = collections.namedtuple("Bound", "fixed given answered why")
 BOUNDS = {
+    "Memory::new": Bound(65_536, 0, 0, "a region of memory has 65,536 bytes"),
+    "Program::plain": Bound(65_536, 2, 0, "a region of memory; 24 bytes for each instruction"),
+    "Plain::new": Bound(65_536, 2, 0, "a region of memory; 24 bytes for each instruction"),
+    "Plain::step": Bound(64, 0, 4, "the words that were written"),
+    "Plain::run": Bound(64, 0, 4, "the words that were written"),
+    "assemble": Bound(2_048, 4, 0, "the code, the tasks and the labels of the text"),
+    "print": Bound(1_024, 0, 4, "the room that the longest line needs, for each line"),
+    "members": Bound(64, 1, 0, "a bit for each instruction, and those that are left to look at"),
+    "propose": Bound(512, 1, 0, "24 bytes for each instruction"),
+    "certify": Bound(512, 1, 0, "24 bytes for each instruction"),
+    "certificate read": Bound(512, 1, 0, "a list for each task, and 16 bytes for each of its lines"),
+    "certificate write": Bound(256, 0, 2, "the text"),
+    "check_task": Bound(131_072, 2, 2, "32 bytes for each of 4,096 places; the findings"),
+    "verdict": Bound(131_072, 2, 2, "32 bytes for each of 4,096 places; the findings"),
+    "verdict_shared": Bound(131_072, 2, 2, "32 bytes for each of 4,096 places; the findings"),
+    "accepts_shared": Bound(131_072, 2, 2, "32 bytes for each of 4,096 places; the findings"),
+    "fetch": Bound(2_097_152, 2, 0, "the first room for a file; then the file"),
+    "Unit::exec": Bound(1_024, 0, 0, "one more read, and one more word"),
+    "Unit::exec_ahead": Bound(1_024, 0, 0, "one more read"),
+    "Unit::take": Bound(4_096, 0, 0, "the reads of a burst are handed over, not copied"),
+    "apply": Bound(1_024, 0, 0, "one more read, word or retired task"),
+    "apply_burst": Bound(1_024, 0, 0, "the reads of a burst are handed over, not copied"),
+    "Burst::run": Bound(65_536, 0, 0, "the reads of a burst: 12 bytes for each of some 2,000"),
+    "finish": Bound(4_096, 0, 0, "as `apply`, for each event"),
+    "Machine::new": Bound(16_000_000, 2, 0, "the history has 1,000,000 places of 16 bytes"),
+    "run_threads": Bound(16_000_000, 2, 2, "the history has 1,000,000 places of 16 bytes"),
+    # Subcommands: what they read, and what they print.
+    **{f"multiscalar {name}": Bound(4_194_304, 8, 4, "the first room for a file; the texts that are read and printed")
+       for name in ("seq", "print", "explain", "annotate", "check")},
+    **{f"multiscalar {name}": Bound(16_000_000, 8, 4, "the history has 1,000,000 places of 16 bytes; the texts") for name in ("run", "replay", "curve")},
 }
 
 
@@ -76,7 +106,7 @@ def tried(program, calls, seconds):
 
 def measured_of_program(program, part, of):
     """Of each measured run in this part its subcommand, its words, its greatest growth, and the bytes given and answered."""
-    return [(words[0], " ".join(os.path.basename(it) for it in words), ended.greatest, given, len(ended.out) + len(ended.told), ended.status)
+    return [(f"multiscalar {words[0]}", " ".join(os.path.basename(it) for it in words), ended.greatest, given, len(ended.out) + len(ended.told), ended.status)
             for words, ended, given in refused_growths.greatest(program, part, of)]
 
 

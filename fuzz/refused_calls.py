@@ -115,7 +115,7 @@ out $10
 halt
 """
 # Many short tasks, one after another: a growth by a product of two of their numbers is far beyond need.
-MANY_TASKS, IN_EACH = 250, 12
+MANY_TASKS, IN_EACH = 60, 12
 MANY = "".join([".start T0\n", *(f".task T{at} create=$8 targets=T{at + 1}\n" for at in range(MANY_TASKS)),
                 f".task T{MANY_TASKS} create=- targets=-\n",
                 *("".join([f"T{at}:\n", "addiu $8,$8,1\n" * (IN_EACH - 1), "addiu $8,$8,1 !f!s\n"]) for at in range(MANY_TASKS)),
@@ -126,6 +126,8 @@ ON_PROGRAM = ["Memory::new", "Program::plain", "Plain::new", "Plain::step", "Pla
               "text_of", "log_text", "lines_text"]
 ON_BOTH = ["certificate_errors", "certificate read", "certificate write", "check_task", "verdict", "Accepted::new", "fetch", "Text::append", "Text::pieces"]
 IN_THREADS = ["read_shared", "verdict_shared", "accepts_shared", "fetch_shared", "run_threads", "run_workers", "serve"]
+# Calls that take a machine from event to event.
+STEPS = {"Unit::exec", "Unit::exec_ahead", "Unit::take", "apply", "finish", "Burst::run", "apply_burst"}
 # Calls on an accepted program whose run ends.
 ON_ACCEPTED = ["Unit::exec", "Unit::exec_ahead", "Unit::take", "Machine::new", "finish", "Burst::run", "apply_burst", "run_threads", "run_steps", "lives_of_runs", "summary", "picture", "trace", "lines of JSON",
                "row_of", "curve, table", "curve, picture"]
@@ -264,10 +266,10 @@ def worked_cases(folder):
 
 
 def measured_cases(folder):
-    """The worked cases, and each of their calls on a program of many tasks."""
+    """The worked cases, and those of their calls that do not run a machine on a program of many tasks."""
     every = list(worked_cases(folder))
     yield from every
-    for call in dict.fromkeys(case.call for case in every):
+    for call in dict.fromkeys(case.call for case in every if case.call not in STEPS):
         yield from of_example(folder / "many tasks", [call], workers=3 if call in IN_THREADS else 1)
 
 
