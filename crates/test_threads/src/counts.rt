@@ -1,4 +1,4 @@
-//! That the workers share the work: which of them came to the gates, and how often.
+//! That the workers share the work: which of them came to the gates, how often, and in which order.
 
 use crate::given::{Bench, Meeting};
 use parallel_check::checking::verdict_shared;
@@ -7,18 +7,22 @@ use parallel_check::reading::ReadAhead;
 use std::alloc::{AllocError, Global};
 use std::fmt;
 use std::process::Abort;
-use std::sync::atomic::{AtomicU32, Ordering};
+use std::sync::atomic::{AtomicBool, AtomicU32, Ordering};
 use test_programs::acceptance::parts;
 use test_programs::certificates::DIAMOND_CERTIFICATE;
 use test_programs::programs::DIAMOND;
 use text_pieces::text::Text;
 
-/// Counts the calls of each worker, and those for each task or block.
+/// Counts the calls of each worker, and those for each task or block, and sees whether each worker ends what it has begun
+/// before it begins anything else.
 #[derive(Drop)]
 struct Counts {
     workers: Vec<AtomicU32>,
     before: Vec<AtomicU32>,
     after: Vec<AtomicU32>,
+    /// What each worker has begun and not ended: a number from 1, 0 where there is nothing.
+    begun: Vec<AtomicU32>,
+    is_out_of_turn: AtomicBool,
 }
 
 // The given number of counts of 0.
@@ -55,32 +59,61 @@ impl Counts {
             workers: zeros(alloc, workers as usize)?,
             before: zeros(alloc, works)?,
             after: zeros(alloc, works)?,
+            begun: zeros(alloc, workers as usize)?,
+            is_out_of_turn: AtomicBool::new(false),
         })
     }
 
-    // Each task or block came once, before and after, and each under the number of a worker.
+    fn begins(&self, worker: u32, work: usize) {
+        count(&self.workers, worker as usize);
+        count(&self.before, work);
+        self.changes(worker, 0, number_of(work));
+    }
+
+    fn ends(&self, worker: u32, work: usize) {
+        count(&self.after, work);
+        self.changes(worker, number_of(work), 0);
+    }
+
+    // A worker had begun the first of these and not ended it, and now the second.
+    fn changes(&self, worker: u32, from: u32, to: u32) {
+        let had = match self.begun.get(worker as usize) {
+            Some(begun) => begun.swap(to, Ordering::SeqCst) == from,
+            None => false,
+        };
+        if !had {
+            self.is_out_of_turn.store(true, Ordering::SeqCst);
+        }
+    }
+
+    // Each task or block came once, before and after, and each under the number of a worker, the same both times.
     fn expect_each_once(&self, rt: &impl Abort, works: u32) {
+        assert!(rt; !self.is_out_of_turn.load(Ordering::SeqCst));
         assert!(rt; is_each_once(&self.before));
         assert!(rt; is_each_once(&self.after));
         assert!(rt; total(&self.workers) == works);
     }
 }
 
+// The number of a task or block, from 1.
+fn number_of(work: usize) -> u32 {
+    u32::try_from(work).unwrap_or(u32::MAX).saturating_add(1)
+}
+
 impl CheckGate for Counts {
     fn before(&self, worker: u32, task: u32) {
-        count(&self.workers, worker as usize);
-        count(&self.before, task as usize);
+        self.begins(worker, task as usize);
     }
 
-    fn after(&self, _worker: u32, task: u32) {
-        count(&self.after, task as usize);
+    fn after(&self, worker: u32, task: u32) {
+        self.ends(worker, task as usize);
     }
 }
 
 #[test]
 fn each_task_is_checked_once(rt: HostRuntime) {
     let (program, cert) = parts(rt.alloc(), DIAMOND, DIAMOND_CERTIFICATE).expect(&rt, "parts");
-    for workers in [1, 2, 3, 16] {
+    for workers in [1, 2, 4, 16] {
         let gate = Counts::new(rt.alloc(), workers, 4)
             .ok()
             .expect(&rt, "room for counts");
@@ -129,12 +162,11 @@ fn block_number(piece: usize, start: usize) -> usize {
 
 impl ReadGate for Counts {
     fn before_block(&self, worker: u32, piece: usize, start: usize) {
-        count(&self.workers, worker as usize);
-        count(&self.before, block_number(piece, start));
+        self.begins(worker, block_number(piece, start));
     }
 
-    fn after_block(&self, _worker: u32, piece: usize, start: usize) {
-        count(&self.after, block_number(piece, start));
+    fn after_block(&self, worker: u32, piece: usize, start: usize) {
+        self.ends(worker, block_number(piece, start));
     }
 }
 
