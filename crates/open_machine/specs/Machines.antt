@@ -1,12 +1,13 @@
 -- The open machine as contracts see it: any well-formed program, what the events changed, and how many there
 -- were.
-use Rattle.std.specs.Prelude.{◌≡◌, ℕ, ◌+◌, ◌<◌, ◌≤◌, ◌⊎◌, ◌^◌, List, length, slice_get, Some, None, Result, Ok, Err, OnOk, OnErr}
+use Rattle.std.specs.Prelude.{◌≡◌, ℕ, ◌+◌, ◌<◌, ◌≤◌, ◌⊎◌, ◌^◌, Bool, true, false, IsTrue, List, length, slice_get, Some, None, Result, Ok, Err, OnOk, OnErr}
 use Rattle.std.specs.Result.{result_err}
 use Rattle.task_descriptor.specs.Listing.{Listing}
 use Rattle.machine_model.specs.Machine.{Active, State}
 use Rattle.machine_model.specs.Step.{Next}
 use Rattle.machine_model.specs.Answer.{answer, after, later_refusal, most_events}
 use Rattle.machine_model.specs.declared.event.Event.{Event}
+use Rattle.machine_model.specs.declared.event.Event.TheVariants.{Exec, Retire}
 use Rattle.machine_model.specs.declared.event.Refused.{Refused}
 use Rattle.machine_model.specs.declared.event.Refused.TheVariants as refused
 use Rattle.processor_steps.specs.Processors.{ProcessorView, state_of}
@@ -27,13 +28,23 @@ units_of m = m.processor.queue.capacity
 abbrev pub answer_to : OpenView → Event → Result (Unit {0}) Refused
 answer_to m e = answer m.program (units_of m) (state m) m.count e
 
--- the model's answer, or that memory is lacking where the model answers Ok
-abbrev pub IsAnswered : OpenView → Event → Result (Unit {0}) Refused → Type 0
-IsAnswered m e result = (result ≡ answer_to m e) ⊎ ((result ≡ Err refused.OutOfMemory) × (answer_to m e ≡ Ok tt))
+-- an event that takes memory: an Exec, for what is read and put out; a Retire, for the reads and the commit
+abbrev pub takes_memory : Event → Bool
+takes_memory (Exec k) = true
+takes_memory Retire = true
+takes_memory e = false
 
--- a machine after an event: the next state by the machine step, one more event, over the same program
+-- the model's answer, or that memory is lacking where the model answers Ok and the event takes memory
+abbrev pub IsAnswered : OpenView → Event → Result (Unit {0}) Refused → Type 0
+IsAnswered m e result =
+    (result ≡ answer_to m e)
+    ⊎ ((result ≡ Err refused.OutOfMemory) × (answer_to m e ≡ Ok tt) × IsTrue (takes_memory e))
+
+-- a machine after an event: the next state by the machine step, which is what the event leaves; one more event, over
+-- the same program
 pub record Applies (old : OpenView) (e : Event) (new : OpenView) : Type 0 where
   pub next : Next old.program (units_of old) (state old) e (state new)
+  pub leaves : state new ≡ after old.program (state old) e
   pub count : new.count ≡ old.count + 1
 
 -- no log has more reads than this
@@ -58,7 +69,7 @@ pub record IsOpen (m : OpenView) : Type 0 where
 pub record Tries (p : Listing) (old : ProcessorView) (n : ℕ) (e : Event) (result : Result (Unit {0}) Refused) (new : ProcessorView) : Type 0 where
   pub answer :
       (result_err result ≡ later_refusal p old.queue.capacity (state_of old) n e)
-      ⊎ ((result ≡ Err refused.OutOfMemory) × (later_refusal p old.queue.capacity (state_of old) n e ≡ None))
+      ⊎ ((result ≡ Err refused.OutOfMemory) × (later_refusal p old.queue.capacity (state_of old) n e ≡ None) × IsTrue (takes_memory e))
   pub state : OnOk result (state_of new ≡ after p (state_of old) e)
   pub capacity : new.queue.capacity ≡ old.queue.capacity
   pub err : OnErr result (new ≡ old)

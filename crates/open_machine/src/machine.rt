@@ -65,7 +65,8 @@ impl<'a> OpenMachine<'a> {
     ///
     /// # Errors
     ///
-    /// The first refusal that holds, else `OutOfMemory` where a growth was refused; nothing is changed then.
+    /// The first refusal that holds, else `OutOfMemory` where a growth for an Exec or a Retire was refused, the only
+    /// events that take memory; nothing is changed then.
     pub fn apply(&mut self, event: &Event) -> Result<(), Refused>
         ensures answer { IsAnswered self.old event.now result }
         ensures ok { OnOk result (Applies self.old event.now self.new) }
