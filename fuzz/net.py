@@ -182,6 +182,9 @@ def told(before, now):
 
 def looked_over(program, net, lines):
     """Compares with the recorded table. A recorded command line that is in the net but not asked for is passed over."""
+    if not TABLE.is_file():
+        print("net: FAILED: nothing is recorded: fuzz/net.py --record PROGRAM writes", TABLE.name)
+        return 1
     begin = time.monotonic()
     texts, before = read_table()
     now = over_all(row_of, [program], net, lines)
