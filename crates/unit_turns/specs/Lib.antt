@@ -7,3 +7,4 @@ pub mod Courses
 pub mod Lockstep
 pub mod Reports
 pub mod SynchronousRunnerExamples
+pub mod Bells

@@ -11,6 +11,16 @@ const LOOKS: u32 = 30;
 /// How often it does so before it sleeps.
 const ROUNDS: u32 = 2_000;
 
+/// What can be rung. Nothing is known of `is_rung` but that `ring` establishes it, so a contract that states it, of code
+/// that is proved for each implementation, says that this bell was rung.
+pub trait Ring {
+    ghost is_rung: { Self → Type 0 };
+
+    /// Rings, for whoever waits.
+    fn ring(&self)
+        ensures { is_rung self.now };
+}
+
 /// What a worker with nothing to do waits for.
 #[derive(Drop)]
 pub struct Bell {
@@ -25,12 +35,6 @@ impl Bell {
             rings: AtomicU64::new(0),
             sleeper: Condvar::new(),
         }
-    }
-
-    /// Rings, for whoever waits.
-    pub fn ring(&self) {
-        self.rings.fetch_add(1, Ordering::SeqCst);
-        self.sleeper.notify_all();
     }
 
     /// How often it has rung.
@@ -62,5 +66,14 @@ impl Bell {
     /// Sleeps until it rings, or wakes earlier for no reason; the lock is free meanwhile.
     pub fn sleep<'l, T, R: Wait>(&self, rt: &R, guard: MutexGuard<'l, T>) -> MutexGuard<'l, T> {
         self.sleeper.wait(rt, guard)
+    }
+}
+
+impl Ring for Bell {
+    ghost is_rung = { λ bell. Unit {0} };
+
+    fn ring(&self) {
+        self.rings.fetch_add(1, Ordering::SeqCst);
+        self.sleeper.notify_all();
     }
 }

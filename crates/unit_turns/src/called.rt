@@ -1,6 +1,6 @@
 //! Workers that have waited and now have something to do.
 
-use crate::bell::Bell;
+use crate::bell::Ring;
 use limits::ranges::MOST_WORKERS;
 use std::marker::Model;
 
@@ -23,6 +23,7 @@ impl Model for Called {
 
 impl Called {
     ghost use Rattle.std.specs.Prelude.{◌≡◌, ℕ, ◌<◌, true, false, IsTrue, ◌↔◌, replicate, slice_set, slice_get, Some};
+    ghost use Rattle.unit_turns.specs.Bells.{RingsFor};
 
     /// No worker.
     pub fn none() -> Called
@@ -47,19 +48,30 @@ impl Called {
     pub fn has(&self, worker: u32) -> bool
         ensures { IsTrue result ↔ (slice_get self.now worker ≡ Some true) }
     {
-        match self.is_called.get(worker as usize) {
-            Some(is_called) => *is_called,
-            None => false,
-        }
+        is_called_at(&self.is_called, worker as usize)
     }
 
     /// Rings for each of them: the bell at the place of its number.
-    pub fn ring(self, bells: &[Bell]) {
+    pub fn ring<B: Ring>(self, bells: &[B])
+        ensures { RingsFor B.is_rung self bells.now }
+    {
         let Called { is_called } = self;
-        for (bell, is_called) in bells.iter().zip(is_called) {
-            if is_called {
+        for (worker, bell) in bells.iter().enumerate() {
+            if is_called_at(&is_called, worker) {
                 bell.ring();
             }
         }
+    }
+}
+
+ghost use Rattle.std.specs.Prelude.{◌≡◌, IsTrue, ◌↔◌, slice_get, Some, true};
+
+/// Whether the worker with this number is among them.
+fn is_called_at(is_called: &[bool], worker: usize) -> bool
+    ensures { IsTrue result ↔ (slice_get is_called.now worker ≡ Some true) }
+{
+    match is_called.get(worker) {
+        Some(is_called) => *is_called,
+        None => false,
     }
 }

@@ -1,0 +1,6 @@
+use Rattle.std.proofs.Common.{◌≡◌, ℕ, ◌<◌, slice_get, Some, true}
+use Rattle.unit_turns.proofs.called.Called.ring.Given as goal
+
+-- the bells so far are rung
+abbrev pub invariant-loop-worker : goal.invariant-loop-worker
+invariant-loop-worker g l = (w : ℕ) (bell : _) → w < l.worker → slice_get l.is_called w ≡ Some true → slice_get l.bells w ≡ Some bell → g.B.Ring.is_rung bell
