@@ -6,3 +6,6 @@ pub mod Sharing
 pub mod Turning
 pub mod Going
 pub mod Late
+pub mod HoldTurning
+pub mod Filling
+pub mod Rousing

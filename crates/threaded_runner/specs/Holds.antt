@@ -1,6 +1,6 @@
 -- What a worker does is what `turn` names: each event of a hold of the lock is one that the turn of one of
 -- its units names, in the machine in which it is applied.
-use Rattle.std.specs.Prelude.{◌≡◌, ℕ, ◌≤◌, ◌⊎◌, List, [], ◌∷◌, zero, suc, length, true, Some, Err}
+use Rattle.std.specs.Prelude.{◌≡◌, ℕ, ◌≤◌, ◌⊎◌, List, [], ◌∷◌, zero, suc, length, true, Result, Some, Err}
 use Rattle.machine_model.specs.declared.event.Event.{Event}
 use Rattle.machine_model.specs.declared.event.Event.TheVariants.{Exec, Drop}
 use Rattle.machine_model.specs.declared.event.Refused.{Refused}
@@ -48,9 +48,9 @@ abbrev pub TakesTurns : Share → (turns : ℕ) → (old new : DeskView) → Typ
 TakesTurns s turns old new =
     (es : List Event) × GoesBy s old.machine es new.machine × ((turns ≤ length es) ⊎ (new.is_stopped ≡ true))
 
--- an event is refused, by the machine step or for want of memory
-abbrev pub IsStoppedAt : MachineView → Event → Type 0
-IsStoppedAt m e = (why : Refused) × IsAnswered m e (Err why)
+-- an event was asked for and refused, by the machine step or for want of memory
+abbrev pub IsStoppedAt : (MachineView → Event → Result (Unit {0}) Refused → Type 0) → MachineView → Event → Type 0
+IsStoppedAt was_asked m e = (why : Refused) × IsAnswered m e (Err why) × was_asked m e (Err why)
 
 -- the given number of instructions of the head, one after another (for private functions alone)
 abbrev pub RunsHead : (old : MachineView) → (n : ℕ) → (new : MachineView) → Type 0

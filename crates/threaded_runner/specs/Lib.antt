@@ -5,5 +5,9 @@ pub mod Shares
 pub mod Calls
 pub mod Paces
 pub mod Holds
+pub mod Lending
+pub mod Away
 pub mod Workers
+pub mod HoldTurns
+pub mod Stations
 pub mod Examples

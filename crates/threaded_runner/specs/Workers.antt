@@ -1,5 +1,5 @@
 -- A worker as contracts see it, and what it does once it lets go of the lock.
-use Rattle.std.specs.Prelude.{◌≡◌, ℕ, ◌+◌, ◌<◌, ◌≤◌, ◌⊎◌, List, Bool, min, nat_eq, if◌then◌else◌, length, slice_set, true, false, Option, Some, None, Result, Ok, Err}
+use Rattle.std.specs.Prelude.{◌≡◌, ℕ, ◌+◌, ◌-◌, ◌<◌, ◌≤◌, ◌⊎◌, List, Bool, min, nat_eq, if◌then◌else◌, length, slice_set, true, false, Option, Some, None, Result, Ok, Err}
 use Rattle.machine_model.specs.declared.event.Event.{Event}
 use Rattle.machine_model.specs.declared.event.Event.TheVariants.{Assign, Exec, Drop}
 use Rattle.machine_model.specs.declared.event.Refused.{Refused}
@@ -19,7 +19,6 @@ use Rattle.threaded_runner.specs.declared.next.Then.TheVariants.{Burst, BurstInP
 use Rattle.threaded_runner.specs.Shares.{AllWait, IsFirst}
 use Rattle.threaded_runner.specs.Paces.{pace_of, is_held, next_task, after_check_in}
 use Rattle.threaded_runner.specs.Desks.{DeskView, IsDone, SameNotes, stopped}
-use Rattle.threaded_runner.specs.Holds.{TakesTurns}
 
 -- which units the worker serves, the budget of the run, and the pace of each unit
 pub record WorkerView : Type 0 where
@@ -68,11 +67,16 @@ IsThenOf s unit pace room (Wait idle) = ⊥
 IsThenOf s unit pace room GoOn = ⊥
 IsThenOf s unit pace room End = ⊥
 
--- the unit's turn is a burst, for which the budget leaves room
+-- the unit's turn is a burst, for which the budget leaves room, and no instruction is to be executed singly
 pub record IsBurst (w : WorkerView) (m : MachineView) (next : NextBurst) : Type 0 where
   pub is_first : IsFirst m w.share next.unit
   pub is_turn : turn_of m next.unit ≡ turns.Burst
   pub fits : next.most + length m.history ≤ w.budget
+  pub no_single : (pace_of w.paces next.unit).single ≡ 0
+
+-- how many events the budget leaves room for, at most as many as a burst may have
+abbrev pub room_for : WorkerView → MachineView → ℕ
+room_for w m = min (w.budget - length m.history) 65536
 
 -- a worker has nothing to do: all its units wait, or the first of them that does not is held back
 abbrev pub HasNothing : WorkerView → MachineView → Type 0
@@ -81,8 +85,8 @@ HasNothing w m = AllWait m w.share ⊎ ((unit : ℕ) × IsFirst m w.share unit �
 -- what a worker does next is what it found under the lock; it waits only where it has nothing to do, and ends only
 -- where the run is over
 abbrev pub IsNext : WorkerView → DeskView → Then → Type 0
-IsNext w d (Burst next) = IsBurst w d.machine next
-IsNext w d (BurstInPlace next) = IsBurst w d.machine next × (w.share.workers ≡ 1)
+IsNext w d (Burst next) = IsBurst w d.machine next × IsThenOf w.share next.unit (pace_of w.paces next.unit) (room_for w d.machine) (Burst next)
+IsNext w d (BurstInPlace next) = IsBurst w d.machine next × IsThenOf w.share next.unit (pace_of w.paces next.unit) (room_for w d.machine) (BurstInPlace next)
 IsNext w d (Wait idle) = (idle.worker ≡ w.share.worker) × HasNothing w d.machine
 IsNext w d GoOn = Unit {0}
 IsNext w d End = IsDone w.budget d
@@ -91,11 +95,6 @@ IsNext w d End = IsDone w.budget d
 pub record IsSameWorker (w w' : WorkerView) : Type 0 where
   pub share : w'.share ≡ w.share
   pub budget : w'.budget ≡ w.budget
-
--- a turn was taken; or nothing has changed, and the worker is to let go of the lock
-abbrev pub IsTurnTaken : WorkerView → (old : DeskView) → WorkerView → (new : DeskView) → Option Then → Type 0
-IsTurnTaken w old w' new None = TakesTurns w.share 1 old new
-IsTurnTaken w old w' new (Some next) = (w' ≡ w) × (new ≡ old) × IsNext w' new next × (next ≡ GoOn → ⊥)
 
 -- A burst is handed in: one that is fresh is taken over, with exactly its steps; a stale one changes nothing.
 

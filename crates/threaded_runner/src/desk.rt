@@ -2,6 +2,7 @@
 //! the run must stop for want of memory.
 
 use crate::counts::{add, zeros};
+use crate::deeds::Deeds;
 use crate::machine_laws::law_replay;
 use crate::naming::Naming;
 use crate::report::{How, Report};
@@ -18,7 +19,7 @@ use unit_turns::laws::law_head_unit;
 
 /// What the lock holds: the machine of the run, and what else its workers share.
 #[derive(Drop)]
-pub(crate) struct Desk<'a, P: Predict, J: Naming> {
+pub(crate) struct Desk<'a, P: Drop, J: Naming + Deeds> {
     machine: Machine<'a>,
     predictor: P,
     counts: Vec<u64>,
@@ -27,7 +28,7 @@ pub(crate) struct Desk<'a, P: Predict, J: Naming> {
     run: PhantomData<J>,
 }
 
-impl<'a, P: Predict, J: Naming> Model for Desk<'a, P, J> {
+impl<'a, P: Drop, J: Naming + Deeds> Model for Desk<'a, P, J> {
     ghost use Rattle.threaded_runner.specs.Desks.{DeskView, IsDesk, IsOfRun};
 
     ghost Value = { DeskView };
@@ -38,7 +39,7 @@ impl<'a, P: Predict, J: Naming> Model for Desk<'a, P, J> {
         × IsOfRun J.accepted J.units J.workers J.budget (record { machine = d.machine; counts = d.counts.items; is_stopped = d.is_stopped; asleep = d.asleep }) };
 }
 
-impl<'a, P: Predict, J: Naming> Desk<'a, P, J> {
+impl<'a, P: Drop, J: Naming + Deeds> Desk<'a, P, J> {
     ghost use Rattle.std.specs.Prelude.{◌≡◌, ℕ, ◌+◌, ◌<◌, ◌≤◌, ◌⊎◌, ◌↔◌, [], ◌++◌, replicate, slice_get, slice_set, unwrap_or, IfOk, IfErr, OnOk, OnErr, IsTrue, length, true, false, Ok, Some};
     ghost use Rattle.sequencer.specs.Machines.{state, units_of, SameRing, Applies, IsAnswered, answer_to};
     ghost use Rattle.sequencer.specs.Rings.{unit_for};
@@ -119,12 +120,13 @@ impl<'a, P: Predict, J: Naming> Desk<'a, P, J> {
         ensures answer { IsAnswered self.old.machine event result }
         ensures ok { OnOk result (Applies self.old.machine event self.new.machine) }
         ensures err { OnErr result (self.new ≡ self.old) }
+        ensures asked { J.was_asked self.old.machine event result }
         ensures kept { SameRing self.old.machine self.new.machine }
         ensures notes { SameNotes self.old self.new }
         ensures workers { length self.new.counts ≡ length self.old.counts }
     {
         law_replay(&self.machine);
-        self.machine.apply(event)?;
+        J::apply(&mut self.machine, event)?;
         law_replay(&self.machine);
         add(&mut self.counts, unit, 1);
         Ok(())
@@ -135,7 +137,7 @@ impl<'a, P: Predict, J: Naming> Desk<'a, P, J> {
     pub(crate) fn run_head(&mut self, most: u32) -> u32
         ensures few { result ≤ most }
         ensures ran { RunsHead self.old.machine result self.new.machine }
-        ensures until { result < most → IsStoppedAt self.new.machine (Exec 0) }
+        ensures until { result < most → IsStoppedAt J.was_asked self.new.machine (Exec 0) }
         ensures history { self.new.machine.history ≡ self.old.machine.history ++ replicate result (Exec 0) }
         ensures room { length self.new.machine.history ≤ most_events }
         ensures kept { SameRing self.old.machine self.new.machine }
@@ -144,24 +146,10 @@ impl<'a, P: Predict, J: Naming> Desk<'a, P, J> {
     {
         law_replay(&self.machine);
         let unit = self.machine.head_unit();
-        let steps = exec_head(&mut self.machine, most);
+        let steps = exec_head::<J>(&mut self.machine, most);
         law_replay(&self.machine);
         add(&mut self.counts, unit, steps);
         steps
-    }
-
-    /// Asks the predictor which target comes next, and applies that target's Assign, which is the unit's. Such an
-    /// event takes no memory and is not refused.
-    pub(crate) fn choose(&mut self, unit: u32)
-        requires may { MayChoose self.old.machine unit }
-        requires room { length self.old.machine.history < J.budget }
-        ensures chosen { (answer : ℕ) × (e : Event) × (choice_of self.old.machine.accepted.program (state self.old.machine) answer ≡ Some e) × Applies self.old.machine e self.new.machine }
-        ensures kept { SameRing self.old.machine self.new.machine }
-        ensures notes { SameNotes self.old self.new }
-    {
-        let targets = self.machine.choices();
-        let answer = self.predictor.choose(targets);
-        self.assign(unit, answer);
     }
 
     /// Applies the Assign that an answer chooses, which is the unit's.
@@ -191,13 +179,14 @@ impl<'a, P: Predict, J: Naming> Desk<'a, P, J> {
         ensures stale { IfOk result (λ events. events ≡ 0 → (IsFresh self.old.machine burst.old → ⊥) × (self.new ≡ self.old)) }
         ensures taken { IfOk result (λ events. 0 < events → (events ≡ burst.old.steps) × Takes self.old.machine burst.old self.new.machine) }
         ensures refused { IfErr result (λ why. (self.new ≡ self.old) × IsRefusedBurst self.old.machine burst.old why) }
+        ensures handed_in { J.was_handed_in self.old.machine burst.old result }
         ensures kept { SameRing self.old.machine self.new.machine }
         ensures notes { SameNotes self.old self.new }
         ensures workers { length self.new.counts ≡ length self.old.counts }
     {
         law_replay(&self.machine);
         let unit = self.machine.unit_with(burst.before().serial()).unwrap_or(0);
-        let events = self.machine.take_own_burst(burst)?;
+        let events = J::hand_in(&mut self.machine, burst)?;
         if events == 0 {
             return Ok(0);
         }
@@ -346,6 +335,29 @@ impl<'a, P: Predict, J: Naming> Desk<'a, P, J> {
     }
 }
 
+impl<'a, P: Predict, J: Naming + Deeds> Desk<'a, P, J> {
+    ghost use Rattle.std.specs.Prelude.{◌≡◌, ℕ, ◌<◌, length, Some};
+    ghost use Rattle.sequencer.specs.Machines.{state, SameRing, Applies};
+    ghost use Rattle.sequencer.specs.Choices.{choice_of};
+    ghost use Rattle.threaded_runner.specs.Desks.{SameNotes};
+    ghost use Rattle.unit_turns.specs.Turns.{MayChoose};
+    ghost use Rattle.machine_model.specs.declared.event.Event.{Event};
+
+    /// Asks the predictor which target comes next, and applies that target's Assign, which is the unit's. Such an
+    /// event takes no memory and is not refused.
+    pub(crate) fn choose(&mut self, unit: u32)
+        requires may { MayChoose self.old.machine unit }
+        requires room { length self.old.machine.history < J.budget }
+        ensures chosen { (answer : ℕ) × (e : Event) × (choice_of self.old.machine.accepted.program (state self.old.machine) answer ≡ Some e) × Applies self.old.machine e self.new.machine }
+        ensures kept { SameRing self.old.machine self.new.machine }
+        ensures notes { SameNotes self.old self.new }
+    {
+        let targets = self.machine.choices();
+        let answer = self.predictor.choose(targets);
+        self.assign(unit, answer);
+    }
+}
+
 ghost use Rattle.std.specs.Prelude.{◌≡◌, ◌<◌, ◌≤◌, ◌++◌, replicate, Some};
 ghost use Rattle.machine_model.specs.declared.event.Event.TheVariants.{Exec};
 ghost use Rattle.machine_model.specs.Answer.{most_events};
@@ -370,15 +382,15 @@ fn assign_of(machine: &Machine<'_>, unit: u32, answer: u32) -> Event
 /// The head executes at most the given number of instructions; answers how many. It ends earlier only where one is
 /// refused.
 #[tactic(auto, using(crate::proofs::Locked::one_more))]
-fn exec_head(machine: &mut Machine<'_>, most: u32) -> u32
+fn exec_head<J: Deeds>(machine: &mut Machine<'_>, most: u32) -> u32
     ensures few { result ≤ most }
     ensures ran { RunsHead machine.old result machine.new }
-    ensures until { result < most → IsStoppedAt machine.new (Exec 0) }
+    ensures until { result < most → IsStoppedAt J.was_asked machine.new (Exec 0) }
     ensures history { machine.new.history ≡ machine.old.history ++ replicate result (Exec 0) }
     ensures kept { SameRing machine.old machine.new }
 {
     for steps in 0..most {
-        if machine.apply(Event::Exec(0)).is_err() {
+        if J::apply(machine, Event::Exec(0)).is_err() {
             return steps;
         }
     }

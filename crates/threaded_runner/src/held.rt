@@ -1,19 +1,21 @@
 //! The lock, while a worker holds it.
 
-ghost use Rattle.std.specs.Prelude.{◌≡◌, Some, true, slice_get};
+ghost use Rattle.std.specs.Prelude.{◌≡◌, ◌≤◌, Some, length, true, slice_get};
 ghost use Rattle.std.specs.Sync.Mutex.{mutex_guard_value};
-ghost use Rattle.threaded_runner.specs.Calls.{AreCalled, IsAsleep};
+ghost use Rattle.unit_turns.specs.Bells.{RingsFor};
+ghost use Rattle.threaded_runner.specs.Calls.{AreCalled, AreRungFor, IsAsleep};
 ghost use Rattle.threaded_runner.specs.Desks.{IsDone};
+ghost use Rattle.threaded_runner.specs.Shares.{IsShareOf};
 ghost use Rattle.threaded_runner.specs.Workers.{HasNothing};
 
+use crate::deeds::Deeds;
 use crate::desk::Desk;
 use crate::hold::{Idle, Worker};
 use crate::naming::Naming;
 use crate::share::Share;
-use sequencer::predict::Predict;
 use std::sync::{Mutex, MutexGuard, Wait};
 use std::{hint, thread};
-use unit_turns::bell::Bell;
+use unit_turns::bell::{Bell, Ring};
 use unit_turns::called::Called;
 
 /// How often a worker tries for the lock before it leaves its core to another thread for a moment.
@@ -22,15 +24,15 @@ const TRIES: u32 = 5;
 /// How often it does so before it waits asleep.
 const ROUNDS: u32 = 100;
 
-/// The lock, while a worker holds it. It has no `Drop`: so a worker lets go of it by `let_go` alone, or by what calls
-/// it, which rings for those that have something to do, or sleeps.
-pub(crate) struct Held<'l, 'a, P: Predict, J: Naming> {
+/// The lock, while a worker holds it. It has no `Drop`: so a worker lets go of it by the functions of this file
+/// alone, which ring for those that have something to do, or sleep.
+pub(crate) struct Held<'l, 'a, P: Drop, J: Naming + Deeds> {
     pub(crate) desk: MutexGuard<'l, Desk<'a, P, J>>,
 }
 
 /// Takes the lock. A hold is short and waking a thread is slow, so a worker tries for a while before it
 /// sleeps.
-pub(crate) fn take<'l, 'a, P: Predict, J: Naming, R: Wait>(
+pub(crate) fn take<'l, 'a, P: Drop, J: Naming + Deeds, R: Wait>(
     rt: &R,
     shared: &'l Mutex<Desk<'a, P, J>>,
 ) -> Held<'l, 'a, P, J> {
@@ -56,37 +58,38 @@ fn try_soon<T>(shared: &Mutex<T>) -> Option<MutexGuard<'_, T>> {
     None
 }
 
-/// Lets go of the lock, and rings for the workers that now have something to do: of all workers but this one,
-/// none stays asleep that has a turn, or whose run is over.
-pub(crate) fn let_go<P: Predict, J: Naming>(
-    held: Held<'_, '_, P, J>,
-    called: Called,
-    bells: &[Bell],
+/// Lets go of the lock, and rings for the workers that now have something to do.
+pub(crate) fn let_go<P: Drop, J: Naming + Deeds, B: Ring>(
+    mut held: Held<'_, '_, P, J>,
+    bells: &[B],
     share: Share,
+    budget: u32,
 )
-    requires { AreCalled J.budget share (mutex_guard_value held.desk) }
+    requires share { IsShareOf J.units J.workers share }
+    requires budget { budget ≡ J.budget }
+    requires bells { J.workers ≤ length bells.now }
+    ensures { AreRungFor B.is_rung J.budget share (mutex_guard_value held.entry.desk) bells.now }
 {
-    let Held { desk } = held;
-    drop(desk);
-    called.ring(bells);
+    let called = held.desk.call(share, budget);
+    let_go_called(held, called, bells, share);
 }
 
-/// Lets go of the lock as `let_go` does, for a worker that has nothing to do: it is marked as waiting, so that it is
-/// rung for once it has something.
-pub(crate) fn let_go_to_wait<P: Predict, J: Naming>(
-    held: Held<'_, '_, P, J>,
+/// Lets go of the lock as `let_go` does, for a worker that has nothing to do: it is marked as waiting.
+pub(crate) fn let_go_to_wait<P: Drop, J: Naming + Deeds, B: Ring>(
+    mut held: Held<'_, '_, P, J>,
     idle: Idle,
-    called: Called,
-    bells: &[Bell],
+    bells: &[B],
     worker: &Worker<J>,
 )
-    requires called { AreCalled J.budget worker.now.share (mutex_guard_value held.desk) }
-    requires nothing { HasNothing worker.now (mutex_guard_value held.desk).machine }
     requires own { idle.worker ≡ worker.now.share.worker }
-    requires marked { IsAsleep (mutex_guard_value held.desk).asleep idle.worker }
+    requires nothing { HasNothing worker.now (mutex_guard_value held.desk).machine }
+    requires bells { J.workers ≤ length bells.now }
+    ensures { AreRungFor B.is_rung J.budget worker.now.share (mutex_guard_value held.entry.desk) bells.now }
 {
-    let Idle { worker: _ } = idle;
-    let_go(held, called, bells, worker.share());
+    let share = worker.share();
+    let called = held.desk.call(share, worker.budget());
+    held.desk.fall_asleep(share.worker);
+    let_go_marked(held, idle, called, bells, worker);
 }
 
 /// That a worker ended where the run was over: `let_go_at_end` alone makes it.
@@ -96,25 +99,85 @@ pub(crate) struct Ended {
 }
 
 /// Lets go of the lock as `let_go` does, for a worker that ends: the run is over.
-pub(crate) fn let_go_at_end<P: Predict, J: Naming>(
+pub(crate) fn let_go_at_end<P: Drop, J: Naming + Deeds, B: Ring>(
     held: Held<'_, '_, P, J>,
-    called: Called,
-    bells: &[Bell],
+    bells: &[B],
     worker: &Worker<J>,
 ) -> Ended
-    requires called { AreCalled J.budget worker.now.share (mutex_guard_value held.desk) }
     requires over { IsDone worker.now.budget (mutex_guard_value held.desk) }
+    requires bells { J.workers ≤ length bells.now }
+    ensures { AreRungFor B.is_rung J.budget worker.now.share (mutex_guard_value held.entry.desk) bells.now }
 {
     let share = worker.share();
-    let_go(held, called, bells, share);
+    let_go(held, bells, share, worker.budget());
     Ended {
         worker: share.worker,
     }
 }
 
+/// That a run was stopped: `let_go_stopped` alone makes it.
+#[derive(Drop)]
+pub(crate) struct Stopped {
+    worker: u32,
+}
+
+/// Lets go of the lock as `let_go` does, where the run must stop.
+pub(crate) fn let_go_stopped<P: Drop, J: Naming + Deeds, B: Ring>(
+    held: Held<'_, '_, P, J>,
+    bells: &[B],
+    share: Share,
+    budget: u32,
+) -> Stopped
+    requires share { IsShareOf J.units J.workers share }
+    requires budget { budget ≡ J.budget }
+    requires stopped { (mutex_guard_value held.desk).is_stopped ≡ true }
+    requires bells { J.workers ≤ length bells.now }
+    ensures { AreRungFor B.is_rung J.budget share (mutex_guard_value held.entry.desk) bells.now }
+{
+    let_go(held, bells, share, budget);
+    Stopped {
+        worker: share.worker,
+    }
+}
+
+/// Lets go of the lock, and rings for those that were called: of all workers but this one, none stays asleep that has
+/// a turn, or whose run is over.
+fn let_go_called<P: Drop, J: Naming + Deeds, B: Ring>(
+    held: Held<'_, '_, P, J>,
+    called: Called,
+    bells: &[B],
+    share: Share,
+)
+    requires { AreCalled J.budget share (mutex_guard_value held.desk) }
+    ensures { RingsFor B.is_rung called bells.now }
+{
+    let Held { desk } = held;
+    drop(desk);
+    called.ring(bells);
+}
+
+/// Lets go of the lock as `let_go_called` does, for a worker that has nothing to do: it is marked as waiting, so that
+/// it is rung for once it has something.
+fn let_go_marked<P: Drop, J: Naming + Deeds, B: Ring>(
+    held: Held<'_, '_, P, J>,
+    idle: Idle,
+    called: Called,
+    bells: &[B],
+    worker: &Worker<J>,
+)
+    requires called { AreCalled J.budget worker.now.share (mutex_guard_value held.desk) }
+    requires nothing { HasNothing worker.now (mutex_guard_value held.desk).machine }
+    requires own { idle.worker ≡ worker.now.share.worker }
+    requires marked { IsAsleep (mutex_guard_value held.desk).asleep idle.worker }
+    ensures { RingsFor B.is_rung called bells.now }
+{
+    let Idle { worker: _ } = idle;
+    let_go_called(held, called, bells, worker.share());
+}
+
 /// Sleeps until the worker's bell rings, or wakes earlier for no reason; the lock is free meanwhile. A worker
 /// that was called before it sleeps would not hear its bell.
-pub(crate) fn sleep<'l, 'a, P: Predict, J: Naming, R: Wait>(
+pub(crate) fn sleep<'l, 'a, P: Drop, J: Naming + Deeds, R: Wait>(
     rt: &R,
     held: Held<'l, 'a, P, J>,
     bell: &Bell,

@@ -1,5 +1,6 @@
 //! What a worker does while it holds the lock.
 
+use crate::deeds::Deeds;
 use crate::desk::Desk;
 use crate::machine_laws::law_drop;
 use crate::naming::Naming;
@@ -24,14 +25,14 @@ const EVENTS_IN_PLACE: u32 = 1_024;
 
 /// A worker of a run: which units it serves, and how it continues with each.
 #[derive(Drop)]
-pub(crate) struct Worker<J: Naming> {
+pub(crate) struct Worker<J: Naming + Deeds> {
     share: Share,
     budget: u32,
     paces: [Pace; 16],
     run: PhantomData<J>,
 }
 
-impl<J: Naming> Model for Worker<J> {
+impl<J: Naming + Deeds> Model for Worker<J> {
     ghost use Rattle.std.specs.Prelude.{◌≡◌};
     ghost use Rattle.threaded_runner.specs.Shares.{IsShareOf};
     ghost use Rattle.threaded_runner.specs.Workers.{WorkerView};
@@ -43,8 +44,8 @@ impl<J: Naming> Model for Worker<J> {
     ghost invariant = { λ w. IsShareOf J.units J.workers w.share × (w.budget ≡ J.budget) };
 }
 
-impl<J: Naming> Worker<J> {
-    ghost use Rattle.std.specs.Prelude.{◌≡◌, ℕ, ◌+◌, ◌-◌, ◌<◌, ◌≤◌, ◌⊎◌, min, length, replicate, nat_eq, if◌then◌else◌, Result, Err};
+impl<J: Naming + Deeds> Worker<J> {
+    ghost use Rattle.std.specs.Prelude.{◌≡◌, ℕ, ◌+◌, ◌-◌, ◌<◌, ◌≤◌, ◌⊎◌, min, length, replicate, nat_eq, if◌then◌else◌, Result, Err, true, false};
     ghost use Rattle.machine_model.specs.Answer.{most_events};
     ghost use Rattle.machine_model.specs.declared.event.Event.TheVariants.{Exec};
     ghost use Rattle.machine_model.specs.declared.event.Refused.{Refused};
@@ -55,9 +56,10 @@ impl<J: Naming> Worker<J> {
     ghost use Rattle.unit_turns.specs.Turns.{IsTurn, IsOwn, MayChoose, MayBurst, turn_of};
     ghost use Rattle.threaded_runner.specs.Shares.{IsFirst, IsServed, IsShareOf};
     ghost use Rattle.threaded_runner.specs.Paces.{after_check_in, after_in_place, fresh_pace, is_held, next_task, pace_of};
-    ghost use Rattle.threaded_runner.specs.Desks.{DeskView};
-    ghost use Rattle.threaded_runner.specs.Holds.{TakesTurns};
-    ghost use Rattle.threaded_runner.specs.Workers.{DoesEvent, FollowsUp, GivesUp, IsHandedIn, IsNext, IsSameWorker, IsThenOf, IsTurnTaken, StopsRun, WorkerView, with_pace};
+    ghost use Rattle.threaded_runner.specs.Desks.{DeskView, SameNotes};
+    ghost use Rattle.threaded_runner.specs.Holds.{IsStoppedAt, RunsHead, TakesTurns};
+    ghost use Rattle.threaded_runner.specs.Workers.{DoesEvent, FollowsUp, GivesUp, IsHandedIn, IsNext, IsSameWorker, IsThenOf, StopsRun, WorkerView, with_pace};
+    ghost use Rattle.threaded_runner.specs.HoldTurns.{Executes, ExecutesSingly, GaveUp, Holds, HoldsLong, IsTurnTaken};
 
     /// A worker that has done nothing.
     pub(crate) fn new(share: Share, budget: u32) -> Worker<J>
@@ -94,6 +96,8 @@ impl<J: Naming> Worker<J> {
         ensures next { IsNext self.new desk.new result }
         ensures turns { TakesTurns self.old.share 0 desk.old desk.new }
         ensures many { result ≡ Then.GoOn → TakesTurns self.old.share 64 desk.old desk.new }
+        ensures does { Holds J.was_asked self.old desk.old self.new desk.new }
+        ensures long { result ≡ Then.GoOn → HoldsLong J.was_asked self.old desk.old self.new desk.new }
         ensures stays { IsSameWorker self.old self.new }
     {
         for _ in 0..TURNS_OF_A_HOLD {
@@ -122,7 +126,7 @@ impl<J: Naming> Worker<J> {
         requires turn { turn ≡ turn_of desk.old.machine unit }
         requires own { IsTurn desk.old.machine unit turn }
         requires room { length desk.old.machine.history < self.old.budget }
-        ensures turn { IsTurnTaken self.old desk.old self.new desk.new result }
+        ensures turn { IsTurnTaken J.was_asked self.old desk.old self.new desk.new result }
         ensures stays { IsSameWorker self.old self.new }
     {
         match turn {
@@ -134,17 +138,12 @@ impl<J: Naming> Worker<J> {
     }
 
     /// Applies the event of a unit's turn, unless it is an Assign that has to wait.
-    fn apply<P: Predict>(
-        &mut self,
-        desk: &mut Desk<'_, P, J>,
-        unit: u32,
-        event: Event,
-    ) -> Option<Then>
+    fn apply<P: Drop>(&mut self, desk: &mut Desk<'_, P, J>, unit: u32, event: Event) -> Option<Then>
         requires first { IsFirst desk.old.machine self.old.share unit }
         requires turn { Turn.Apply event ≡ turn_of desk.old.machine unit }
         requires own { IsOwn desk.old.machine unit event }
         requires room { length desk.old.machine.history < self.old.budget }
-        ensures turn { IsTurnTaken self.old desk.old self.new desk.new result }
+        ensures turn { IsTurnTaken J.was_asked self.old desk.old self.new desk.new result }
         ensures stays { IsSameWorker self.old self.new }
     {
         if assigns(&event) && self.is_held(desk.machine(), unit) {
@@ -156,13 +155,13 @@ impl<J: Naming> Worker<J> {
 
     /// Applies the event of a unit's turn. Where memory runs out for it, the unit gives up its task, and the
     /// head the run.
-    fn apply_event<P: Predict>(&mut self, desk: &mut Desk<'_, P, J>, unit: u32, event: Event)
+    fn apply_event<P: Drop>(&mut self, desk: &mut Desk<'_, P, J>, unit: u32, event: Event)
         requires served { IsServed self.old.share unit }
         requires turn { Turn.Apply event ≡ turn_of desk.old.machine unit }
         requires own { IsOwn desk.old.machine unit event }
         requires room { length desk.old.machine.history < self.old.budget }
         ensures turn { TakesTurns self.old.share 1 desk.old desk.new }
-        ensures did { DoesEvent self.old unit event desk.old self.new desk.new ⊎ GivesUp self.old unit desk.old self.new desk.new ⊎ StopsRun self.old unit desk.old self.new desk.new }
+        ensures did { DoesEvent self.old unit event desk.old self.new desk.new ⊎ GaveUp J.was_asked self.old unit event desk.old self.new desk.new }
         ensures few { length desk.new.machine.history ≤ length desk.old.machine.history + 1 }
         ensures stays { IsSameWorker self.old self.new }
     {
@@ -190,7 +189,7 @@ impl<J: Naming> Worker<J> {
         requires turn { Turn.Choose ≡ turn_of desk.old.machine unit }
         requires own { MayChoose desk.old.machine unit }
         requires room { length desk.old.machine.history < self.old.budget }
-        ensures turn { IsTurnTaken self.old desk.old self.new desk.new result }
+        ensures turn { IsTurnTaken J.was_asked self.old desk.old self.new desk.new result }
         ensures stays { IsSameWorker self.old self.new }
     {
         if self.is_held(desk.machine(), unit) {
@@ -249,12 +248,12 @@ impl<J: Naming> Worker<J> {
     }
 
     /// The burst that is made next of a unit, unless instructions are executed one by one here.
-    fn next_burst<P: Predict>(&mut self, desk: &mut Desk<'_, P, J>, unit: u32) -> Option<Then>
+    fn next_burst<P: Drop>(&mut self, desk: &mut Desk<'_, P, J>, unit: u32) -> Option<Then>
         requires first { IsFirst desk.old.machine self.old.share unit }
         requires turn { Turn.Burst ≡ turn_of desk.old.machine unit }
         requires own { MayBurst desk.old.machine unit }
         requires room { length desk.old.machine.history < self.old.budget }
-        ensures turn { IsTurnTaken self.old desk.old self.new desk.new result }
+        ensures turn { IsTurnTaken J.was_asked self.old desk.old self.new desk.new result }
         ensures stays { IsSameWorker self.old self.new }
     {
         let pace = self.pace(unit);
@@ -290,12 +289,14 @@ impl<J: Naming> Worker<J> {
     }
 
     /// The unit executes instructions under the lock: the head at most the given number, another unit one.
-    fn execute<P: Predict>(&mut self, desk: &mut Desk<'_, P, J>, unit: u32, most: u32)
+    fn execute<P: Drop>(&mut self, desk: &mut Desk<'_, P, J>, unit: u32, most: u32)
         requires served { IsServed self.old.share unit }
         requires turn { Turn.Burst ≡ turn_of desk.old.machine unit }
         requires own { MayBurst desk.old.machine unit }
         requires some { 0 < most }
+        requires paced { most ≤ (pace_of self.old.paces unit).single }
         ensures turn { TakesTurns self.old.share 1 desk.old desk.new }
+        ensures singly { ExecutesSingly J.was_asked self.old unit desk.old self.new desk.new }
         ensures few { length desk.new.machine.history ≤ length desk.old.machine.history + most }
         ensures stays { IsSameWorker self.old self.new }
     {
@@ -308,14 +309,16 @@ impl<J: Naming> Worker<J> {
     }
 
     /// The instructions of `execute`; answers how many there were.
-    fn exec<P: Predict>(&self, desk: &mut Desk<'_, P, J>, unit: u32, most: u32) -> u32
+    fn exec<P: Drop>(&self, desk: &mut Desk<'_, P, J>, unit: u32, most: u32) -> u32
         requires served { IsServed self.now.share unit }
         requires turn { Turn.Burst ≡ turn_of desk.old.machine unit }
         requires own { MayBurst desk.old.machine unit }
         requires some { 0 < most }
         ensures few { result ≤ most }
         ensures history { length desk.new.machine.history ≡ length desk.old.machine.history + result }
-        ensures none { result ≡ 0 → desk.new.machine ≡ desk.old.machine }
+        ensures none { result ≡ 0 → (desk.new.machine ≡ desk.old.machine) × ((k : ℕ) × (unit_for desk.old.machine (Exec k) ≡ unit) × IsStoppedAt J.was_asked desk.old.machine (Exec k)) }
+        ensures executes { 0 < result → Executes desk.old.machine unit result desk.new.machine }
+        ensures notes { SameNotes desk.old desk.new }
         ensures turns { TakesTurns self.now.share result desk.old desk.new }
     {
         // Reading the share gives what is known of it.
@@ -333,7 +336,7 @@ impl<J: Naming> Worker<J> {
     /// The head, which is the unit of this burst, executes its instructions in place, and continues from task
     /// to task by the events that `turn` names: at most the given number of events. Answers how many
     /// instructions that was.
-    pub(crate) fn run_in_place<P: Predict>(
+    pub(crate) fn run_in_place<P: Drop>(
         &mut self,
         desk: &mut Desk<'_, P, J>,
         next: &NextBurst,
@@ -365,10 +368,12 @@ impl<J: Naming> Worker<J> {
     }
 
     /// The head executes at most the given number of instructions of its task; answers how many.
-    fn run_inside<P: Predict>(&self, desk: &mut Desk<'_, P, J>, most: u32) -> u32
+    fn run_inside<P: Drop>(&self, desk: &mut Desk<'_, P, J>, most: u32) -> u32
         requires { self.now.share.workers ≡ 1 }
         ensures few { result ≤ most }
         ensures history { length desk.new.machine.history ≡ length desk.old.machine.history + result }
+        ensures runs { RunsHead desk.old.machine result desk.new.machine }
+        ensures notes { SameNotes desk.old desk.new }
         ensures turns { TakesTurns self.now.share 0 desk.old desk.new }
     {
         // Reading the share gives what is known of it.
@@ -381,7 +386,7 @@ impl<J: Naming> Worker<J> {
     }
 
     /// Applies the event that the turn of the head's unit names; answers whether the run went on and it names one.
-    fn apply_at_head<P: Predict>(&mut self, desk: &mut Desk<'_, P, J>) -> bool
+    fn apply_at_head<P: Drop>(&mut self, desk: &mut Desk<'_, P, J>) -> bool
         requires { self.old.share.workers ≡ 1 }
         ensures turns { TakesTurns self.old.share 0 desk.old desk.new }
         ensures few { length desk.new.machine.history ≤ length desk.old.machine.history + 1 }
@@ -405,7 +410,7 @@ impl<J: Naming> Worker<J> {
 
     /// Want of memory for an event of a unit: one that is not the head is dropped, and at the head the run
     /// must stop.
-    fn give_up<P: Predict>(&mut self, desk: &mut Desk<'_, P, J>, unit: u32)
+    fn give_up<P: Drop>(&mut self, desk: &mut Desk<'_, P, J>, unit: u32)
         requires running { (state desk.old.machine).outcome ≡ standing.Running }
         requires room { length desk.old.machine.history < most_events }
         ensures { GivesUp self.old unit desk.old self.new desk.new ⊎ StopsRun self.old unit desk.old self.new desk.new }
@@ -418,7 +423,7 @@ impl<J: Naming> Worker<J> {
     }
 
     /// A unit ahead of the head gives up its task.
-    fn drop_task<P: Predict>(&mut self, desk: &mut Desk<'_, P, J>, unit: u32, position: u32)
+    fn drop_task<P: Drop>(&mut self, desk: &mut Desk<'_, P, J>, unit: u32, position: u32)
         requires running { (state desk.old.machine).outcome ≡ standing.Running }
         requires room { length desk.old.machine.history < most_events }
         requires ahead { 0 < position }
@@ -439,15 +444,15 @@ impl<J: Naming> Worker<J> {
 
     /// Hands in the burst that was made as `next` states. Where memory runs out for it, the unit gives up its
     /// task if it is ahead of the head; the head continues by single instructions.
-    pub(crate) fn check_in<P: Predict>(
+    pub(crate) fn check_in<P: Drop>(
         &mut self,
         desk: &mut Desk<'_, P, J>,
         next: &NextBurst,
         burst: &mut Burst<'_>,
     )
         requires { burst.old.accepted ≡ J.accepted }
-        ensures answered { (answer : Result ℕ Refused) × (mid : DeskView) × IsHandedIn desk.old burst.old answer mid
-            × FollowsUp self.old next.now burst.old.steps answer mid self.new desk.new }
+        ensures answered { (answer : Result ℕ Refused) × (mid : DeskView) × J.was_handed_in desk.old.machine burst.old answer
+            × IsHandedIn desk.old burst.old answer mid × FollowsUp self.old next.now burst.old.steps answer mid self.new desk.new }
         ensures stays { IsSameWorker self.old self.new }
     {
         let steps = burst.steps();
@@ -456,7 +461,7 @@ impl<J: Naming> Worker<J> {
     }
 
     /// After the answer to a burst of the given number of instructions.
-    fn follow_up<P: Predict>(
+    fn follow_up<P: Drop>(
         &mut self,
         desk: &mut Desk<'_, P, J>,
         next: &NextBurst,

@@ -1,7 +1,9 @@
 //! Threads over one machine: one lock, a worker for each unit or for several, bursts away from the lock.
 #![tactic(auto)]
 
+mod away;
 mod counts;
+mod deeds;
 mod desk;
 pub mod gate;
 mod held;
@@ -15,4 +17,5 @@ pub mod report;
 pub mod runner;
 mod share;
 mod slots;
+mod station;
 mod worker;

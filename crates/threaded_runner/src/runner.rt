@@ -4,14 +4,15 @@ ghost use Rattle.std.specs.Prelude.{◌≡◌, ◌≢◌, ◌<◌, ◌≤◌, �
 ghost use Rattle.threaded_runner.specs.Reports.{IsThreadsReportOf};
 ghost use Rattle.threaded_runner.specs.Shares.{IsShareOf};
 
+use crate::deeds::Deeds;
 use crate::desk::Desk;
 use crate::gate::RunGate;
-use crate::held::take;
+use crate::held::{Ended, Stopped, let_go_stopped, take};
 use crate::hold::Worker;
 use crate::naming::Naming;
 use crate::report::{Report, RunFault};
 use crate::share::Share;
-use crate::worker::{ring_and_let_go, serve};
+use crate::worker::serve;
 use limits::ranges::{Budget, MOST_BUDGET, MOST_UNITS, Units, Workers};
 use mark_checker::accept::Accepted;
 use sequencer::machine::Machine;
@@ -113,7 +114,7 @@ pub fn run_by<'a, P: Predict, G: RunGate, R: Threads + Wait + Sync>(
 }
 
 /// The run over the program and certificate that its types name.
-fn run_named<'a, P: Predict, J: Naming + Send + Sync, G: RunGate, R: Threads + Wait + Sync>(
+fn run_named<'a, P: Predict, J: Naming + Deeds + Send + Sync, G: RunGate, R: Threads + Wait + Sync>(
     rt: &R,
     alloc: Global,
     accepted: &'a Accepted,
@@ -141,7 +142,7 @@ fn run_named<'a, P: Predict, J: Naming + Send + Sync, G: RunGate, R: Threads + W
 }
 
 /// A desk with a machine at its start.
-fn new_desk<'a, P: Predict, J: Naming>(
+fn new_desk<'a, P: Predict, J: Naming + Deeds>(
     alloc: Global,
     accepted: &'a Accepted,
     units: Units,
@@ -171,7 +172,7 @@ fn new_bells(alloc: Global, workers: u32) -> Result<Vec<Bell>, AllocError>
 }
 
 /// One thread for each worker; returns when all have ended.
-fn work<'a, 't, P: Predict, J: Naming + Send + Sync, G: RunGate, R: Threads + Wait + Sync>(
+fn work<'a, 't, P: Predict, J: Naming + Deeds + Send + Sync, G: RunGate, R: Threads + Wait + Sync>(
     rt: &'t R,
     shared: &'t Mutex<Desk<'a, P, J>>,
     bells: &'t [Bell],
@@ -200,7 +201,11 @@ fn work<'a, 't, P: Predict, J: Naming + Send + Sync, G: RunGate, R: Threads + Wa
                 let worker = Worker::new(share, budget);
                 let bell = &bells[number as usize];
                 if scope
-                    .spawn(move || serve(rt, shared, bells, bell, gate, worker))
+                    .spawn(
+                        move || -> Ended
+                            requires { J.workers ≤ length bells.now }
+                        { serve(rt, shared, bells, bell, gate, worker) },
+                    )
                     .is_err()
                 {
                     give_up(rt, shared, bells, share, budget);
@@ -211,17 +216,18 @@ fn work<'a, 't, P: Predict, J: Naming + Send + Sync, G: RunGate, R: Threads + Wa
 }
 
 /// Notes that the thread of a worker could not be made, and rings for all others.
-fn give_up<P: Predict, J: Naming, R: Wait>(
+fn give_up<P: Predict, J: Naming + Deeds, R: Wait>(
     rt: &R,
     shared: &Mutex<Desk<'_, P, J>>,
     bells: &[Bell],
     share: Share,
     budget: u32,
-)
+) -> Stopped
     requires share { IsShareOf J.units J.workers share }
     requires budget { budget ≡ J.budget }
+    requires bells { J.workers ≤ length bells.now }
 {
     let mut held = take(rt, shared);
     held.desk.stop();
-    ring_and_let_go(held, bells, share, budget);
+    let_go_stopped(held, bells, share, budget)
 }

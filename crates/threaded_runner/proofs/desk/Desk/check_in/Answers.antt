@@ -29,7 +29,7 @@ invariant_of-self-2 g c =
     let belongs : unit_for m (Exec k) ≡ unit = sym found in
     let worker = unit % vec_len i.counts in
     let counted = c.add.ensures ∙ ap (λ (n : ℕ). slice_set i.counts.items worker (slice_index i.counts.items worker + n)) taken.0 in (
-      more m c.take_own_burst.new.self i.counts.items c.add.new.counts.items (replicate b.steps (Exec k)) unit b.steps (vec_len i.counts) i.is_stopped i.asleep c.self.invariant.0
+      more m c.hand_in.new.machine i.counts.items c.add.new.counts.items (replicate b.steps (Exec k)) unit b.steps (vec_len i.counts) i.is_stopped i.asleep c.self.invariant.0
           (execs_own m (length i.counts.items) unit k b.steps c.law_replay.ensures.retired c.law_replay.ensures.active belongs)
           (length-replicate b.steps (Exec k)) taken.1.history c.in_ok-events.ensures.kept.units i.counts.ok.0
           counted,
@@ -37,7 +37,7 @@ invariant_of-self-2 g c =
         accepted = c.in_ok-events.ensures.kept.accepted ∙ c.self.invariant.1.accepted;
         units = c.in_ok-events.ensures.kept.units ∙ c.self.invariant.1.units;
         workers = as_many i.counts.items c.add.new.counts.items worker (slice_index i.counts.items worker + b.steps) counted ∙ c.self.invariant.1.workers;
-        late = execs_late g.J.Naming.budget m.history c.take_own_burst.new.self.history k b.steps taken.1.history c.self.invariant.1.late;
+        late = execs_late g.J.Naming.budget m.history c.hand_in.new.machine.history k b.steps taken.1.history c.self.invariant.1.late;
       },
     )
 
@@ -45,4 +45,4 @@ invariant_of-self-2 g c =
 pub returns-clause-taken : goal.returns-clause-taken
 returns-clause-taken g c = λ some.
     let taken = c.in_ok-events.ensures.taken some in
-    (taken.0, subst (λ (m : MachineView). Takes m c.args.burst.now c.take_own_burst.new.self) (ap (λ (d : DeskView). d.machine) c.self.view_is) taken.1)
+    (taken.0, subst (λ (m : MachineView). Takes m c.args.burst.now c.hand_in.new.machine) (ap (λ (d : DeskView). d.machine) c.self.view_is) taken.1)

@@ -8,7 +8,7 @@ use Rattle.threaded_runner.proofs.Sharing.{head_served, on_ring}
 use Rattle.threaded_runner.proofs.hold.Worker.apply_at_head.Goals as goal
 
 pub apply_event-requires-clause-served : goal.apply_event-requires-clause-served
-apply_event-requires-clause-served g c κs within =
+apply_event-requires-clause-served g c =
     let s = c.args.self.now.share in
     let m = c.machine-machine.result.now in
     let head = c.head_unit-head.result in

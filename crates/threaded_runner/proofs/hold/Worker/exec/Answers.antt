@@ -1,8 +1,9 @@
-use Rattle.std.proofs.Common.{◌≡◌, ℕ, ◌<◌, ap, subst, arith}
+use Rattle.std.proofs.Common.{◌≡◌, ℕ, ◌<◌, inl, sym, ap, subst, arith}
 use Rattle.machine_model.specs.declared.event.Event.TheVariants.{Exec}
 use Rattle.sequencer.specs.Machines.{MachineView, units_of}
 use Rattle.sequencer.specs.Rings.{unit_for}
 use Rattle.threaded_runner.specs.declared.share.Share.{Share}
+use Rattle.threaded_runner.specs.Holds.{IsStoppedAt, RunsHead}
 use Rattle.threaded_runner.proofs.Going.{runs_are_turns}
 use Rattle.threaded_runner.proofs.hold.Worker.exec.Goals as goal
 
@@ -15,3 +16,19 @@ returns-in-Some-eq0-clause-turns g c =
     subst (λ (m : MachineView). unit_for m (Exec 0) ≡ c.args.unit) c.machine.ensures.machine
     (subst (λ (k : ℕ). unit_for c.machine.result.now (Exec k) ≡ c.args.unit) c.in-Some-eq0.field-0-test c.in-Some-eq0.ensures.position.1) in
     runs_are_turns c.args.self.now.share c.args.unit c.args.desk.now c.run_head.new.self c.run_head.result some c.requires.served belongs c.run_head.ensures.room c.run_head.ensures.ran
+
+pub returns-in-Some-eq0-clause-executes : goal.returns-in-Some-eq0-clause-executes
+returns-in-Some-eq0-clause-executes g c = λ some.
+    let belongs : unit_for c.args.desk.now.machine (Exec 0) ≡ c.args.unit =
+    subst (λ (m : MachineView). unit_for m (Exec 0) ≡ c.args.unit) c.machine.ensures.machine
+    (subst (λ (k : ℕ). unit_for c.machine.result.now (Exec k) ≡ c.args.unit) c.in-Some-eq0.field-0-test c.in-Some-eq0.ensures.position.1) in
+    inl (belongs, c.run_head.ensures.ran)
+
+pub returns-in-Some-eq0-clause-none : goal.returns-in-Some-eq0-clause-none
+returns-in-Some-eq0-clause-none g c = λ zero.
+    let belongs : unit_for c.args.desk.now.machine (Exec 0) ≡ c.args.unit =
+    subst (λ (m : MachineView). unit_for m (Exec 0) ≡ c.args.unit) c.machine.ensures.machine
+    (subst (λ (k : ℕ). unit_for c.machine.result.now (Exec k) ≡ c.args.unit) c.in-Some-eq0.field-0-test c.in-Some-eq0.ensures.position.1) in
+    let same : c.run_head.new.self.machine ≡ c.args.desk.now.machine = subst (λ (n : ℕ). RunsHead c.args.desk.now.machine n c.run_head.new.self.machine) zero c.run_head.ensures.ran in
+    let less : c.run_head.result < c.args.most = subst (λ (n : ℕ). n < c.args.most) (sym zero) c.requires.some in
+    (same, (0, belongs, subst (λ (m : MachineView). IsStoppedAt g.J.Deeds.was_asked m (Exec 0)) same (c.run_head.ensures.until less)))

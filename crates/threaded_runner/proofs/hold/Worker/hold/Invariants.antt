@@ -1,4 +1,5 @@
 use Rattle.threaded_runner.specs.Holds.{TakesTurns}
+use Rattle.threaded_runner.specs.HoldTurns.{HoldsFor}
 use Rattle.threaded_runner.specs.Workers.{IsSameWorker}
 use Rattle.threaded_runner.proofs.hold.Worker.hold.Given as goal
 
@@ -6,5 +7,6 @@ use Rattle.threaded_runner.proofs.hold.Worker.hold.Given as goal
 abbrev pub invariant-loop : goal.invariant-loop
 invariant-loop g l = record {
   turns : TakesTurns l.initial.self.share l.counter l.initial.desk l.desk;
+  does : HoldsFor g.J.Deeds.was_asked l.counter l.initial.self l.initial.desk l.self l.desk;
   stays : IsSameWorker l.initial.self l.self;
 }
