@@ -1,6 +1,6 @@
 -- One turn of a worker that lets go of the lock, over anything that it may lend a unit from and any gate.
 use Rattle.std.specs.Prelude.{◌≡◌, ℕ, ◌⊎◌}
-use Rattle.unit_core.specs.Bursts.{BurstView, IsBurstOn}
+use Rattle.unit_core.specs.Bursts.{BurstView, IsBurstToSend}
 use Rattle.threaded_runner.specs.declared.next.NextBurst.{NextBurst}
 
 -- The unit is lent of what was held; the gate is called; a burst is made on what was lent, of at most as many
@@ -15,7 +15,7 @@ pub record IsMade {B H W : Type 0} (lends : H → ℕ → BurstView → Type 0) 
   pub before : is_before gate worker opened
   pub burst : BurstView
   pub made : was_made lent next.most burst
-  pub is_burst : IsBurstOn lent.accepted lent.before next.most burst
+  pub is_burst : IsBurstToSend (record { accepted = lent.accepted; unit = lent.before; reads = lent.reads }) next.most burst
   pub after : is_after opened worker burst.steps gate'
   pub handed_in : hands_in bench next burst bench' held'
 

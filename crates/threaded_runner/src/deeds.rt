@@ -5,7 +5,7 @@ ghost use Rattle.machine_model.specs.declared.event.Event.{Event};
 ghost use Rattle.machine_model.specs.declared.event.Refused.{Refused};
 ghost use Rattle.machine_model.specs.declared.event.Standing.TheVariants as standing;
 ghost use Rattle.machine_model.specs.Machine.{Active};
-ghost use Rattle.unit_core.specs.Bursts.{BurstView, IsBurstOn};
+ghost use Rattle.unit_core.specs.Bursts.{BurstView, IsBurstToSend, lent};
 ghost use Rattle.sequencer.specs.Machines.{MachineView, state, Applies, IsAnswered, SameRing};
 ghost use Rattle.sequencer.specs.Bursts.{IsAtWork, IsFresh, IsRefusedBurst, Takes};
 ghost use Rattle.threaded_runner.specs.Lending.{IsLent};
@@ -54,11 +54,12 @@ pub(crate) trait Deeds {
         ensures lent { IsTrue result → IsSomeAnd slot.new (λ burst. IsLent machine.now unit burst × was_lent machine.now unit burst) }
         ensures none { result ≡ false → (u : Active) → IsAtWork machine.now unit u → ⊥ };
 
-    /// Executes instructions on the unit that was lent.
+    /// Executes instructions on the unit that was lent, up to the first that sends a register, so that the next unit
+    /// gets it soon.
     fn make(burst: &mut Burst<'_>, most: u32)
         requires few { most ≤ 65536 }
         requires none { burst.old.steps ≡ 0 }
-        ensures burst { IsBurstOn burst.old.accepted burst.old.before most burst.new }
+        ensures burst { IsBurstToSend (lent burst.old) most burst.new }
         ensures made { was_made burst.old most burst.new };
 }
 
@@ -69,7 +70,7 @@ impl Deeds for Brand {
 
     ghost was_lent = { λ m unit burst. IsLent m unit burst };
 
-    ghost was_made = { λ lent most burst. IsBurstOn lent.accepted lent.before most burst };
+    ghost was_made = { λ begun most burst. IsBurstToSend (lent begun) most burst };
 
     #[inline]
     fn apply(machine: &mut Machine<'_>, event: Event) -> Result<(), Refused> {
@@ -91,7 +92,7 @@ impl Deeds for Brand {
 
     #[inline]
     fn make(burst: &mut Burst<'_>, most: u32) {
-        burst.go(most);
+        burst.go_to_send(most);
     }
 }
 
