@@ -22,7 +22,7 @@ invariant_of-self-2 g c =
     let taken = c.in_ok-events.ensures.taken (omega (arith, c.if-events-eq0.false)) in
     let k = taken.1.fresh.position in
     let unit_at = λ (position : ℕ). unit_for m (Exec position) in
-    let serial : c.serial.result ≡ b.before.serial = c.serial.ensures ∙ ap (λ (u : UnitView). u.serial) c.before-2.ensures in
+    let serial : c.serial.result ≡ b.before.serial = c.serial.ensures ∙ ap (λ (u : UnitView). u.serial) c.before-2.ensures.unit in
     let found : unit ≡ unit_at k =
     c.unwrap_or-unit.ensures
     ∙ ap (λ (o : Option ℕ). unwrap_or o 0) (c.unit_with.ensures ∙ ap (λ (s : ℕ). option_map unit_at (position_with (state m).queue s)) serial ∙ ap (λ (o : Option ℕ). option_map unit_at o) taken.1.owner) in
