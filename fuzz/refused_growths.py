@@ -106,7 +106,7 @@ task B
 # The runs on a program of many tasks whose greatest growth is measured as well: S is a script of its run.
 MEASURED = ["seq P", "print P", "explain P", "annotate P", *(f"annotate P --emit {emit}" for emit in ("cert", "keep", "marks")),
             "check P C", "check P C --workers 4", "check P --least", "run P C --units 4", "run P C --units 4 --schedule steps",
-            *(f"replay P C S --units 1 --emit {emit}" for emit in ("report", "summary", "svg", "trace", "json")), "curve P C --units 2"]
+            *(f"replay P C S --units 1 --emit {emit}" for emit in ("answers", "summary", "svg", "trace", "json")), "curve P C --units 2"]
 
 
 def worked_cases(folder):
