@@ -40,14 +40,14 @@ SOURCE = r"""
 #include <stdio.h>
 #include <stdlib.h>
 #include <string.h>
-#include <sys/resource.h>
 #include <sys/stat.h>
 #include <sys/syscall.h>
 #include <sys/sysmacros.h>
 #include <unistd.h>
 // INTERRUPTED: of the first so many reads and the first so many writes each is interrupted; SHORT: then each takes at most
-// so many bytes; CALLS: the file that takes a line for each call; FAILS: the call that fails, and its error; PLANTED: in
-// which way the calls are wrong.
+// so many bytes; CALLS: the file that takes a line for each call; FAILS: the call that fails, and its error; PROCESS: the
+// number of the process; STRANGER: the file that belongs to the user and the group 12345; PLANTED: in which way the calls
+// are wrong.
 static int is_planted(const char *name) { return getenv("PLANTED") && !strcmp(getenv("PLANTED"), name); }
 static long number(const char *name) { return getenv(name) ? strtol(getenv(name), NULL, 10) : 0; }
 static void note(const char *format, ...) {
@@ -78,8 +78,10 @@ int open(const char *path, int flags, ...) {
     va_list more; va_start(more, flags); int mode = va_arg(more, int); va_end(more);
     char name[4097];
     snprintf(name, sizeof name, "%s", path);
+    if (is_planted("limit") && !strcmp(path, "/proc/self/limits")) { errno = ENOENT; return -1; }
     if (is_planted("spaces") && strchr(name, ' ')) *strchr(name, ' ') = 0;
-    int file = (int)syscall(SYS_openat, AT_FDCWD, name, flags, mode);
+    int file = (int)syscall(SYS_openat, AT_FDCWD, name, flags, is_planted("readable") ? 0666 : mode);
+    if (file < 0 && errno == EEXIST && is_planted("taken")) errno = EACCES;
     struct stat about;
     if (file >= 0 && flags & O_CREAT && !fstat(file, &about)) note("create %s %o\n", name, about.st_mode & 07777);
     else note("open %s\n", name);
@@ -99,15 +101,21 @@ ssize_t write(int file, const void *from, size_t n) {
 }
 int fsync(int file) { if (is_planted("sync")) return 0; note("sync\n"); return fails("fsync") ? -1 : (int)syscall(SYS_fsync, file); }
 int fdatasync(int file) { note("sync\n"); return (int)syscall(SYS_fdatasync, file); }
-int fchmod(int file, mode_t mode) { if (is_planted("mode")) return 0; note("mode %o\n", mode); return fails("fchmod") ? -1 : (int)syscall(SYS_fchmod, file, mode); }
+int fchmod(int file, mode_t mode) { if (is_planted("mode")) return 0; if (is_planted("special")) mode |= 07000; note("mode %o\n", mode); return fails("fchmod") ? -1 : (int)syscall(SYS_fchmod, file, mode); }
 int isatty(int file) { struct stat about; return is_planted("colours") || (!fstat(file, &about) && S_ISCHR(about.st_mode) && major(about.st_rdev) == 136); }
 int __libc_start_main(int (*program)(int, char **, char **), int count, char **words, void (*first)(void), void (*last)(void), void (*end)(void), void *stack) {
     int (*real)(int (*)(int, char **, char **), int, char **, void (*)(void), void (*)(void), void (*)(void), void *) = dlsym(RTLD_NEXT, "__libc_start_main");
     if (is_planted("words") && count > 9) words[count = 9] = NULL;
     return real(program, count, words, first, last, end, stack);
 }
-int fchown(int file, uid_t owner, gid_t group) { note("owner\n"); return fails("fchown") ? -1 : (int)syscall(SYS_fchown, file, owner, group); }
+int fchown(int file, uid_t owner, gid_t group) { if (is_planted("owner")) return 0; note("owner\n"); return fails("fchown") ? -1 : (int)syscall(SYS_fchown, file, owner, group); }
 int rename(const char *from, const char *to) { note("rename %s %s\n", from, to); return fails("rename") ? -1 : (int)syscall(SYS_renameat, AT_FDCWD, from, AT_FDCWD, to); }
+pid_t getpid(void) { return number("PROCESS") ? (pid_t)number("PROCESS") : (pid_t)syscall(SYS_getpid); }
+int statx(int file, const char *restrict path, int flags, unsigned mask, struct statx *restrict into) {
+    int done = (int)syscall(SYS_statx, file, path, is_planted("links") ? flags & ~AT_SYMLINK_NOFOLLOW : flags, mask, into);
+    if (!done && getenv("STRANGER") && !strcmp(path, getenv("STRANGER"))) into->stx_uid = into->stx_gid = 12345;
+    return done;
+}
 int unlink(const char *path) { note("remove %s\n", path); return (int)syscall(SYS_unlinkat, AT_FDCWD, path, 0); }
 """
 
@@ -168,7 +176,7 @@ class Bench:
 
     def expect_run(self, words, status, output, errors=b"", **settings):
         ran = self.run(*words, **settings)
-        self.expect(" ".join(words)[:200], ran[:3], (status, output, errors))
+        self.expect(ascii(" ".join(words)[:200])[1:-1], ran[:3], (status, output, errors))
         return ran[3]
 
     def files(self):
@@ -242,7 +250,7 @@ def interrupted_calls(bench):
 
 
 def colours(bench):
-    """Only a terminal gets colours, and only where NO_COLOR forbids none."""
+    """Only a terminal gets colours, and only where NO_COLOR and TERM forbid none."""
     bench.write("a.s", b"A: addu $1,$2\n")
     for words in (["explain", "a.s"], ["explain", "--color", "auto", "a.s"], ["explain", "--color", "never", "a.s"]):
         status, output, errors, _ = bench.run(*words)
@@ -250,6 +258,7 @@ def colours(bench):
     bench.expect("--color always in a pipe", b"\x1b[" in bench.run("explain", "--color", "always", "a.s")[1], True)
     bench.expect("on a terminal", b"\x1b[" in on_terminal(bench, "explain", "a.s"), True)
     bench.expect("on a terminal, NO_COLOR", b"\x1b[" in on_terminal(bench, "explain", "a.s", NO_COLOR="1"), False)
+    bench.expect("on a dumb terminal", b"\x1b[" in on_terminal(bench, "explain", "a.s", TERM="dumb"), False)
 
 
 def on_terminal(bench, *words, **settings):
@@ -257,7 +266,7 @@ def on_terminal(bench, *words, **settings):
     ours, its = pty.openpty()
     tty.setraw(its)
     environment = {name: value for name, value in os.environ.items() if name != "NO_COLOR"}
-    process = subprocess.Popen([bench.program, *words], cwd=bench.folder, env=dict(environment, **settings), stdin=subprocess.DEVNULL, stdout=its, stderr=subprocess.DEVNULL)
+    process = subprocess.Popen([bench.program, *words], cwd=bench.folder, env={**environment, "TERM": "xterm", **settings}, stdin=subprocess.DEVNULL, stdout=its, stderr=subprocess.DEVNULL)
     os.close(its)
     written = b""
     try:
@@ -305,13 +314,125 @@ def result_file(bench):
     bench.expect("all files", bench.files(), ["a.s", "c.s"])
 
 
-CHECKS = [long_certificate, forty_programs, names_with_spaces, interrupted_calls, colours, predicted, result_file]
+def rights(bench):
+    """A result gets who may read, write and run the old file, and no more: a program that runs as its owner is not made anew."""
+    bench.write("a.s", COUNT)
+    for mode in (0o4755, 0o2755, 0o6777, 0o1644):
+        for words in (["print", "-o", "b.s", "a.s"], ["annotate", "--in-place", "b.s"]):
+            out = bench.write("b.s", COUNT, mode)
+            bench.expect_run(words, 0, b"")
+            bench.expect(f"{mode:o} after {' '.join(words)}", f"{mode_of(out):o}", f"{mode & 0o777:o}")
+
+
+def hidden_until_whole(bench):
+    """Until it is whole and synced, a file that takes the place of another is for its owner alone."""
+    bench.write("a.s", COUNT)
+    for mode in (0o600, 0o640, 0o644):
+        bench.write("b.s", b"old", mode)
+        noted = bench.expect_run(["print", "-o", "b.s", "a.s"], 0, b"", before=lambda: os.umask(0), PROCESS=77)
+        calls = [it for it in noted if it.split()[0] in ("create", "write", "sync", "mode", "rename")]
+        wanted = ["create b.s.77.new 600", "write", "sync", f"mode {mode:o}", "rename b.s.77.new b.s"]
+        bench.expect(f"the calls for mode {mode:o}", list(dict.fromkeys(calls)), wanted)
+
+
+def owners(bench):
+    """A file of another keeps its owner and group, or is refused before anything is written."""
+    bench.write("a.s", COUNT)
+    out = bench.write("b.s", b"old", 0o666)
+    noted = bench.expect_run(["print", "-o", "b.s", "a.s"], 2, b"", b"multiscalar: file b.s: its owner and group cannot be kept\n", STRANGER="b.s", FAILS="fchown 1")
+    bench.expect("b.s", (out.read_bytes(), mode_of(out)), (b"old", 0o666))
+    bench.expect("what is written", [it for it in noted if it.split()[0] in ("write", "rename")], [])
+    bench.expect("all files", bench.files(), ["a.s", "b.s"])
+    if os.geteuid() == 0:
+        bench.expect_run(["print", "-o", "b.s", "a.s"], 0, b"", STRANGER="b.s")
+        about = out.stat()
+        bench.expect("its owner and group", (about.st_uid, about.st_gid, out.read_bytes(), mode_of(out)), (12345, 12345, PRINTED, 0o666))
+
+
+def left_overs(bench):
+    """A file that an ended process left beside the result is not in the way, and stays; sixty-four are."""
+    bench.write("a.s", COUNT)
+    out = bench.write("b.s", b"old")
+    bench.write("b.s.77.new", b"left")
+    bench.write("b.s.78.new", b"left, too")
+    noted = bench.expect_run(["print", "-o", "b.s", "a.s"], 0, b"", PROCESS=77)
+    bench.expect("the new file", [it for it in noted if it.startswith("rename")], ["rename b.s.79.new b.s"])
+    bench.expect("b.s", out.read_bytes(), PRINTED)
+    bench.expect("all files", bench.files(), ["a.s", "b.s", "b.s.77.new", "b.s.78.new"])
+    for number in range(79, 77 + 64):
+        bench.write(f"b.s.{number}.new", b"left")
+    bench.expect_run(["seq", "-o", "b.s", "a.s"], 2, b"", b"multiscalar: file b.s: the new file's name is taken\n", PROCESS=77)
+    bench.expect("b.s", out.read_bytes(), PRINTED)
+    bench.expect("the files left", len(bench.files()), 2 + 64)
+
+
+def links(bench):
+    """A link takes no result; the message says which file to name."""
+    (bench.folder / "to").mkdir()
+    file = bench.write("to/a.s", COUNT)
+    for name, leads in (("b.s", "to/a.s"), ("c.s", "b.s"), ("d.s", "missing"), ("e.s", "to")):
+        (bench.folder / name).symlink_to(leads)
+    told = f"is a link; name the file itself, {os.path.realpath(file)}\n".encode()
+    for words in (["annotate", "--in-place", "b.s"], ["annotate", "--in-place", "c.s"], ["print", "-o", "c.s", "to/a.s"]):
+        name = words[2].encode()
+        bench.expect_run(words, 2, b"", b"multiscalar: file " + name + b": " + told)
+    for name in (b"d.s", b"e.s"):
+        bench.expect_run(["print", "-o", name.decode(), "to/a.s"], 2, b"", b"multiscalar: file " + name + b": is no plain file\n")
+    bench.expect("a.s", file.read_bytes(), COUNT)
+    bench.expect("all files", bench.files(), ["b.s", "c.s", "d.s", "e.s", "to"])
+
+
+def size_limit(bench):
+    """A result that is longer than a file may be is refused, and not cut."""
+    text = b".task A create=- targets=-\nA:\n" + b"nop\n" * 3000 + b"halt\n"
+    bench.write("a.s", text)
+    printed = bench.run("print", "a.s")[1]
+    out = bench.write("b.s", b"old")
+    for most, status, settings in ((len(printed) - 1, 2, {}), (5000, 2, {"INTERRUPTED": 3}), (5000, 2, {"SHORT": 7}), (len(printed), 0, {})):
+        limited = lambda: resource.setrlimit(resource.RLIMIT_FSIZE, (most, most))
+        told = b"multiscalar: file b.s: longer than the limit on the size of files (ulimit -f)\n" if status else b""
+        bench.expect_run(["print", "-o", "b.s", "a.s"], status, b"", told, before=limited, **settings)
+        bench.expect(f"b.s for {most} bytes", out.read_bytes(), b"old" if status else printed)
+        bench.expect("all files", bench.files(), ["a.s", "b.s"])
+
+
+# Names of files, and how they are shown.
+STRANGE = {
+    "bad.s: accepted 2 tasks 6 instructions\ngood.s": r"bad.s: accepted 2 tasks 6 instructions\x0agood.s",
+    "\n::error::a.s": r"\x0a::error::a.s", "a\x1b[2J.s": r"a\x1b[2J.s", "a\rb.s": r"a\x0db.s", "a\tb.s": r"a\x09b.s", "a\x7f.s": r"a\x7f.s",
+    "a\x9b2J.s": r"a\xc2\x9b2J.s", "a\u202eb.s": r"a\xe2\x80\xaeb.s", "\ufeffa.s": r"\xef\xbb\xbfa.s", "a b\u00e9.s": "a b\u00e9.s",
+}
+
+
+def strange_names(bench):
+    """No name or word steers a terminal, ends a line or forges one."""
+    bench.write("right.s", COUNT)
+    right = "right.s: accepted 2 tasks 6 instructions\n"
+    for name, told in STRANGE.items():
+        bench.expect_run(["seq", name], 2, b"", f"multiscalar: file {told}\n".encode())
+        bench.expect_run(["explain", name], 2, b"", f"multiscalar: file {told}: no such file\n".encode())
+        bench.expect_run(["seq", "-o", f"{name}/b", "right.s"], 2, b"", f"multiscalar: file {told}/b: no such folder\n".encode())
+        missing = f"multiscalar: file {told}: no such file\n"
+        bench.expect_run(["check", "--least", name, "right.s"], 2, f"{right}2 programs: 1 right, 0 wrong, 1 not judged\n".encode(), missing.encode())
+        bench.write(name, COUNT)
+        both = f"{told}: accepted 2 tasks 6 instructions\n{right}2 programs: 2 right, 0 wrong, 0 not judged\n"
+        bench.expect_run(["check", "--least", name, "right.s"], 0, both.encode())
+        (bench.folder / name).unlink()
+        (bench.folder / name).mkdir()
+        bench.expect_run(["explain", name], 2, b"", f"multiscalar: file {told}: is a directory; name its files, as in {told}/*.s\n".encode())
+        status, output, errors, _ = bench.run("seq", "right.s", f"--x{name}")
+        bench.expect(f"a wrong option --x{told}", (status, output, errors.split(b"\n")[0]), (2, b"", f"error: unexpected argument '--x{told}' found".encode()))
+
+
+CHECKS = [long_certificate, forty_programs, names_with_spaces, interrupted_calls, colours, predicted, result_file, rights, hidden_until_whole, owners, left_overs, links,
+          size_limit, strange_names]
 
 
 # A fault of the program, and the check that is to see it.
 PLANTED = {
     "offsets": long_certificate, "words": forty_programs, "spaces": names_with_spaces, "interrupted": interrupted_calls, "colours": colours,
-    "mode": result_file, "sync": result_file,
+    "mode": result_file, "sync": result_file, "special": rights, "readable": hidden_until_whole, "owner": owners, "taken": left_overs, "links": links,
+    "limit": size_limit,
 }
 
 

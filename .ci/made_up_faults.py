@@ -27,6 +27,7 @@ ALLOWED = {
     # One of two calls that fail for want of memory alone was refused.
     "mips_plain/src/memory.rt": 1,
     # The condition calls a function whose contract says that the fault is want of memory.
+    "demonstration/src/driven.rt": 1,
     "demonstration/src/judge.rt": 1,
     # What a refused push gives, without the value that it hands back.
     "parallel_check/src/checking.rt": 1,

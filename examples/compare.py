@@ -58,6 +58,7 @@ def shown(terminal):
 def run_on_terminal(program, words, stream, no_color):
     """The status, and what the given stream shows, which is a terminal; the other one is not."""
     environment = {name: value for name, value in os.environ.items() if name != "NO_COLOR"}
+    environment["TERM"] = "xterm"
     if no_color is not None:
         environment["NO_COLOR"] = no_color
     ours, its = pty.openpty()

@@ -2,6 +2,7 @@
 """Runs the program on texts at the limits that take the most memory, and looks at answers, memory and time.
 
     limits.py PROGRAM [--only WORD]
+    limits.py PROGRAM --gate [--only WORD]
 
 A certificate of 134,217,728 bytes is judged and one of a byte more is not, by `check` with one worker and four, by
 `explain`, by `run` and by `replay`; so with an event script. Certificates and scripts without end are refused within the memory
@@ -13,6 +14,10 @@ greatest memory is compared with BOUNDS, which README.md counts from the limits.
 an answer or the memory is another, and says the seconds, which depend on the machine; those of hostile masks may be a
 second of the processor, and one for each 30 MB that are read and written. Needs python3, Linux, 400 MB
 in the temporary folder and 3 GB of memory, 5 where the program writes JSON; it is no part of the tests.
+
+With --gate: texts that take long, or much memory, where an answer is sought carelessly. Each run may take
+three times the processor's time of `check --least` of the same program, or a second if that is more, and 512 MB. `explain` does not
+keep to this yet: many mistakes in one long line take it longer. So no test runs this.
 """
 import argparse
 import collections
@@ -338,6 +343,92 @@ def many_tasks(folder, traces):
         yield "the most tasks, in steps", ["run", program, "--least", "--schedule", "steps", "--units", "16", "--emit", emit], 3, None, bound
 
 
+# What a run of WORST may take: this many times what `check --least` of its program takes, but no less than a second; and millions of bytes.
+TIMES, LEAST_SECONDS, GATE_MEMORY = 3, 1, 512
+
+
+def ring(tasks, mark=""):
+    """A program of so many tasks of four instructions in a ring; the mark is that of a write to $8, which each task lets go at its end if it has none."""
+    marks = "".join(f".task T{k} create=$8 targets=T{(k + 1) % tasks}\n" for k in range(tasks))
+    return marks + "".join(f"T{k}: addiu $8,$8,1{mark}\nnop\nnop\nj T{(k + 1) % tasks} !s\n" for k in range(tasks))
+
+
+def worst(folder):
+    """The texts that were found to take longest: their names, the words of the runs, and the program of each."""
+    def written(name, text):
+        path = folder / f"{name.replace(' ', '-')}.s"
+        path.write_bytes(text if isinstance(text, bytes) else text.encode())
+        return path
+
+    half = PROGRAM_LIMIT // 2
+    texts = {
+        "labels without end in a line": "A: " * 28_000,
+        "labels without end in a long line": "A: " * 200_000,
+        "one label many times": "a:" * half,
+        "unknown targets": ".task A create=- targets=" + ",".join(f"B{k}" for k in range(470_000)) + "\nA: halt !s\n",
+        "short lines": "x\n" * half,
+        "an unknown name in each line": "".join(f"j N{k}\n" for k in range(400_000)),
+        "names that are much alike": "".join(f"L{k}:\n" for k in range(300_000)) + "nop\nj L300001\nhalt !s\n",
+        "names and as many unknown ones": "".join(f"L{k}: j M{k}\n" for k in range(4_000)),
+        "operands without end": "addu " + ",".join(["$8"] * 1_000_000),
+        "letters without end": "x" * PROGRAM_LIMIT,
+        "a mask without end": ".task A create=" + ",".join(["$8"] * 1_000_000) + " targets=A\nA: j A !s\n",
+        "a comment without end": "#" * PROGRAM_LIMIT,
+        "bytes that are no text": bytes(range(128, 256)) * (PROGRAM_LIMIT // 128),
+        "a ring of tasks": ring(1000),
+        "a ring of tasks, each with a wrong mark": ring(1000, " !f").replace("nop\nnop", "nop\naddiu $8,$8,1"),
+    }
+    for kind, (create, instruction, *_) in MASKS.items():
+        texts[kind] = through(create, instruction)
+    for name, text in texts.items():
+        path = written(name, text)
+        for words in (["explain"], ["explain", "--format", "sarif"], ["explain", "--format", "json"], ["seq", "--budget", "1000"], ["print"],
+                      ["annotate"], ["check", "--least"], ["run", "--least", "--budget", "1000"], ["demonstrate"]):
+            yield name, [words[0], path, *words[1:]], path
+    yield from worst_inputs(folder)
+
+
+def worst_inputs(folder):
+    """Certificates and scripts of the same kinds."""
+    program = COUNT / "program.s"
+    texts = {
+        "wrong lines": "x\n" * 4_000_000,
+        "a line without end": "exec " * 1_600_000,
+        "entries of no task": "cert 2\n" + "7 0000000000000000\n" * 400_000,
+        "unknown tasks": "cert 2\n" + "".join(f"task N{k}\n" for k in range(600_000)),
+        "unknown tasks of a script": "".join(f"assign N{k}\n" for k in range(600_000)),
+    }
+    for name, text in texts.items():
+        path = folder / f"{name.replace(' ', '-')}.text"
+        path.write_text(text)
+        yield f"{name}, as a certificate", ["explain", program, "--certificate", path], program
+        yield f"{name}, as a script", ["explain", program, "--script", path], program
+        yield f"{name}, as a script", ["replay", program, COUNT / "certificate.cert2", path, "--strict"], program
+    loop = folder / "loop.s"
+    loop.write_text(".task A create=$8 targets=A,B\nA: addiu $8,$8,1 !f\nslti $1,$8,9\nbne $1,$0,A !s\nj B !s\n.task B create=- targets=-\nB: out $8\nhalt !s\n")
+    yield "a long search", ["demonstrate", loop, "--steps", "1000000"], loop
+
+
+def gate(program, only=""):
+    """Runs each of `worst`, and says which took longer, or more memory, than they may. What `check --least` takes is measured once for a program."""
+    wrong, count, begin, least = 0, 0, time.monotonic(), {}
+    with tempfile.TemporaryDirectory(prefix="multiscalar-limits-") as name:
+        folder = pathlib.Path(name)
+        for kind, words, text in worst(folder):
+            if only not in f"{kind} {words[0]}":
+                continue
+            if text not in least:
+                least[text] = ran(program, ["check", "--least", str(text)], folder).processor
+            ended = ran(program, [str(word) for word in words], folder)
+            most = max(LEAST_SECONDS, TIMES * least[text])
+            count += 1
+            if ended.status not in (0, 1, 2, 3) or ended.processor > most or ended.memory > GATE_MEMORY:
+                wrong += 1
+                print(f"wrong: {kind}: {' '.join(str(word).replace(name, '.') for word in words)}: status {ended.status}, {ended.processor:.1f} s of {most:.1f}, {ended.memory:.0f} MB of {GATE_MEMORY}", flush=True)
+    print(f"limits: {count} runs, {wrong} wrong ({time.monotonic() - begin:.0f} s)")
+    return 1 if wrong else 0
+
+
 def faults_of(ended, status, answer, bound, reason="", timed=()):
     """What is wrong with a run. The answer is how standard output begins, empty where it is, or the file that is refused, or left open; it may take
     a second, and one for each 30 MB, if it is given the files that it reads."""
@@ -388,7 +479,10 @@ def main():
     parser = argparse.ArgumentParser(description=__doc__.splitlines()[0])
     parser.add_argument("program")
     parser.add_argument("--only", default="", metavar="WORD", help="only what has this in its name")
+    parser.add_argument("--gate", action="store_true", help="texts that would take long, within two minutes")
     args = parser.parse_args()
+    if args.gate:
+        return gate(str(pathlib.Path(args.program).resolve()), args.only)
     wrong = 0
     for part, count, seen, differences in run(str(pathlib.Path(args.program).resolve()), only=args.only):
         print(f"{part}: {count} runs,", *seen, flush=True)

@@ -1,5 +1,5 @@
--- Whether bytes are readable is decided by reading them as UTF-8; and what is shown of them is UTF-8, since a byte of
--- ASCII is shown as ASCII, and the bytes of a letter together or not at all.
+-- What is shown of bytes is UTF-8, since a byte of ASCII is shown as ASCII, and the bytes of a letter together or not at
+-- all.
 use Rattle.std.proofs.Common.{ℕ, zero, suc, lit<, ◌≡◌, ◌<◌, ◌≤◌, ◌/◌, ◌%◌, Bool, true, false, ◌&&◌, not, List, [], ◌∷◌, refl, subst, arith, cond, codes}
 use Rattle.std.specs.List.{list_all, list_any}
 use Rattle.std.specs.Prelude.{nat_lt, nat_le}
@@ -9,17 +9,8 @@ use lib.Utf8.{scalars, encode, encodes}
 use Rattle.std.proofs.lemmas.Bool.Decides.{nat_tests}
 use Rattle.std.proofs.lemmas.List.Concat.{flat_map-append}
 use Rattle.std.proofs.lemmas.Str.{is_utf8-from_IsUtf8, IsUtf8-from_is_utf8, IsUtf8-append, IsUtf8-encode, IsUtf8-nil, IsUtf8-from_ascii, IsAscii-append, encode_ascii}
-use Rattle.diagnostics.specs.Excerpt.{steers, is_readable, is_plain, hex_digit, escaped, shown_byte, shown}
-
-pub readable_text : (bs : List ℕ) (steered : Bool) → IsUtf8 bs → steered ≡ list_any steers (chars bs) → not steered ≡ is_readable bs
-unfolding is_readable
-readable_text bs steered u e = rw (is_utf8-from_IsUtf8 bs u, e) refl
-
-pub no_text : (bs : List ℕ) → ¬ (IsUtf8 bs) → false ≡ is_readable bs
-unfolding is_readable
-no_text bs n =
-    elim (is_utf8 bs) as (λ b. is_utf8 bs ≡ b → false ≡ (b && not (list_any steers (chars bs))))
-    [ true ↦ λ e. absurd (n (IsUtf8-from_is_utf8 bs e)) | false ↦ λ e. refl ] refl
+use Rattle.shown_names.specs.Shown.{is_readable, hex_digit, escaped}
+use Rattle.diagnostics.specs.Excerpt.{is_plain, shown_byte, shown}
 
 ascii_cons : (b : ℕ) (bs : List ℕ) → b < 128 → IsAscii bs → IsAscii (b ∷ bs)
 ascii_cons b bs h t zero = h

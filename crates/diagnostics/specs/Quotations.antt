@@ -1,6 +1,7 @@
 -- How a message quotes bytes of a text, or writes them.
 use Rattle.std.specs.Prelude.{ℕ, List, ◌++◌, codes, length, nat_le, if◌then◌else◌}
-use Rattle.diagnostics.specs.Excerpt.{is_readable, shown, front}
+use Rattle.shown_names.specs.Shown.{is_readable}
+use Rattle.diagnostics.specs.Excerpt.{shown, front}
 
 -- as an excerpt shows them
 unfoldable pub as_shown : List ℕ → List ℕ

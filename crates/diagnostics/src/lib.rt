@@ -8,7 +8,6 @@ pub mod diagnostic;
 mod excerpt;
 pub mod files;
 pub mod helps;
-mod label;
 pub mod laws;
 pub mod listed;
 pub mod more;

@@ -16,7 +16,8 @@ use Rattle.canonical_text.specs.CanonicalText.{members}
 use Rattle.diagnostics.specs.declared.diagnostic.Diagnostic.{Diagnostic}
 use Rattle.diagnostics.specs.declared.diagnostic.Note.{Note}
 use Rattle.diagnostics.specs.declared.diagnostic.Span.{Span}
-use Rattle.diagnostics.specs.Excerpt.{is_readable, letter_start}
+use Rattle.shown_names.specs.Shown.{is_readable}
+use Rattle.diagnostics.specs.Excerpt.{letter_start}
 use Rattle.diagnostics.specs.Quotations.{as_shown, quoted}
 use Rattle.input_diagnostics.specs.declared.mistaken.Mistaken.TheVariants.{Certificate, Script}
 use Rattle.input_diagnostics.specs.MistakenTexts.{mistaken_kind}

@@ -11,7 +11,7 @@ use Rattle.report_texts.specs.CheckText.{check_text}
 use Rattle.explain_report.specs.ExplainText.{IsExplainReport}
 use Rattle.verdict_report.specs.CurveText.{IsCurveText}
 use Rattle.strict_replay.specs.StrictReplay.{strict_text}
-use Rattle.verdict_report.specs.ReplayText.{replay_text}
+use Rattle.verdict_report.specs.ReplayText.{IsReplayText}
 use Rattle.verdict_report.specs.RunText.{IsRunText}
 use Rattle.multiscalar_c.specs.Codes.{curve_emits, emits, formats, prediction_of, replay_emits, run_emits, source_of}
 
@@ -48,7 +48,7 @@ pub record ReplayTakes (units emit : ℕ) : Type 0 where
 abbrev pub IsReplayed : (is_least : Bool) → (units emit : ℕ) → (program certificate script : List ℕ) → Report → Type 0
 IsReplayed is_least units emit program certificate script report =
     IfSome (slice_get replay_emits emit) (λ emit. OfCertificate (source_of is_least) program certificate (λ certificate.
-    report ≡ replay_text emit units None [] program certificate script))
+    IsReplayText emit units None program certificate script report))
 
 -- what `replay --strict` writes
 abbrev pub IsReplayedStrictly : (is_least : Bool) → (units : ℕ) → (program certificate script : List ℕ) → Report → Type 0
@@ -66,10 +66,10 @@ pub record RunTakes {Emit : Type 0} (emits : List Emit) (units budget predict : 
 abbrev pub IsRun : (is_least : Bool) → (units budget predict : ℕ) → (list : List ℕ) → (emit : ℕ) → (program certificate : List ℕ) → Report → Type 0
 IsRun is_least units budget predict list emit program certificate report =
     IfSome (prediction_of predict list) (λ predict. IfSome (slice_get run_emits emit) (λ emit.
-    OfCertificate (source_of is_least) program certificate (λ certificate. IsRunText Steps units budget predict emit [] program certificate report)))
+    OfCertificate (source_of is_least) program certificate (λ certificate. IsRunText Steps units budget predict emit program certificate report)))
 
 -- what `curve` writes
 abbrev pub IsCurve : (is_least : Bool) → (units budget predict : ℕ) → (list : List ℕ) → (emit : ℕ) → (program certificate : List ℕ) → Report → Type 0
 IsCurve is_least units budget predict list emit program certificate report =
     IfSome (prediction_of predict list) (λ predict. IfSome (slice_get curve_emits emit) (λ emit.
-    OfCertificate (source_of is_least) program certificate (λ certificate. IsCurveText units budget predict emit program certificate report)))
+    OfCertificate (source_of is_least) program certificate (λ certificate. IsCurveText units budget predict program certificate report)))

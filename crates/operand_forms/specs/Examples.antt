@@ -10,7 +10,7 @@ use Rattle.program_tokens.specs.declared.token.Token.TheVariants.{Register, Numb
 use Rattle.mips_instructions.specs.declared.instruction.LoadKind.TheVariants.{Lw}
 use Rattle.mips_instructions.specs.declared.instruction.Mnemonic.TheVariants.{Load, JumpLinkReg}
 use Rattle.program_statements.specs.declared.fault.StatementFault.TheVariants as fault
-use Rattle.diagnostics.specs.Excerpt.{is_readable}
+use Rattle.shown_names.specs.Shown.{is_readable}
 use Rattle.diagnostics.specs.Quotations.{as_shown}
 use Rattle.operand_forms.specs.declared.shape.OperandShape.TheVariants as shape
 use Rattle.operand_forms.specs.BinaryNumbers.{binary_value}

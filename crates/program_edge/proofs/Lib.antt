@@ -3,4 +3,5 @@ mod PathLemmas
 mod AskedLemmas
 mod ReportLemmas
 mod SeveralLemmas
+mod ShownLemmas
 mod PartLemmas

@@ -13,8 +13,9 @@ use Rattle.verdict_report.specs.declared.fault.ServeFault.TheVariants as serve
 use Rattle.verdict_report.specs.CurveProgress.{IsProgress, progress_lines}
 use Rattle.verdict_report.specs.JobTexts.{IsCutOff, IsDone, IsReportOf}
 use Rattle.verdict_report.specs.Writing.{Begins}
-use Rattle.text_pieces.specs.Files.{ChangesAt, Same}
-use Rattle.text_pieces.specs.declared.unwritten.Unwritten.{Unwritten}
+use Rattle.result_files.specs.Files.{ChangesAt, Same}
+use Rattle.result_files.specs.declared.unwritten.Unwritten.{Unwritten}
+use Rattle.shown_names.specs.Shown.{shown}
 use Rattle.program_edge.specs.declared.fault.Fault.{Fault}
 use Rattle.program_edge.specs.declared.fault.Fault.TheVariants.{NotWritten, Serve}
 use Rattle.program_edge.specs.declared.unread.Unread.{Unread}
@@ -96,7 +97,7 @@ ending_after is_told own = record { status = own.status; is_told = is_told && ow
 -- delivered; the ending covers both
 pub record IsMadeTold (watched : Bool) (audience : Audience) (place : Option (String Global)) (job : Job) (texts : Texts) (ending : Answered) (heard : Option (List ℕ)) (old new : World) : Type 0 where
   pub is_told : Bool
-  pub said : IsProgress job texts audience.name is_told old.errors heard
+  pub said : IsProgress job texts (shown audience.name) is_told old.errors heard
   pub own : Answered
   pub ended : ending ≡ ending_after is_told own
   pub delivered : IsDelivered watched audience place job texts own (record old { errors = heard }) new
@@ -105,7 +106,7 @@ pub record IsMadeTold (watched : Bool) (audience : Audience) (place : Option (St
 -- the job was delivered, or was not done, after standard error had heard how far it is
 pub record IsDeliveredTold (watched : Bool) (audience : Audience) (place : Option (String Global)) (job : Job) (texts : Texts) (ending : Answered) (old new : World) : Type 0 where
   pub heard : Option (List ℕ)
-  pub begun : Begins old.errors heard (progress_lines job audience.name)
+  pub begun : Begins old.errors heard (progress_lines job (shown audience.name))
   pub ends : IsMadeTold watched audience place job texts ending heard old new
       ⊎ IsNotDone job texts ending (record old { errors = heard }) new
 

@@ -4,6 +4,7 @@ use Rattle.jobs.specs.declared.job.Job.{Job}
 use Rattle.report_texts.specs.OutputTexts.{Report}
 use Rattle.explain_report.specs.LeftOvers.{IsLeftOver}
 use Rattle.explain_report.specs.declared.left.LeftOver.{LeftOver}
+use Rattle.shown_names.specs.Shown.{shown}
 use Rattle.program_edge.specs.Hints.{hint_for}
 
 -- who reads standard error: whether it is a terminal, whether what is left is asked for, and the name of the
@@ -19,11 +20,11 @@ rest_said asked None = []
 rest_said true (Some left) = left.said.items
 rest_said false (Some left) = if left.count == 0 then [] else left.said.items
 
--- the text about what a job leaves that wrote this: nothing, unless someone hears it
+-- the text about what a job leaves that wrote this, with the name as it is shown: nothing, unless someone hears it
 abbrev pub IsRest : (heard asked : Bool) → Job → (program name : List ℕ) → (written : Report) → (said : List ℕ) → Type 0
 IsRest false asked job program name written said = said ≡ []
 IsRest true asked job program name written said =
-    (left : Option LeftOver) × IsLeftOver job program name written left × (said ≡ rest_said asked left)
+    (left : Option LeftOver) × IsLeftOver job program (shown name) written left × (said ≡ rest_said asked left)
 
 -- the hint beside a report: a terminal hears of what is left unasked
 pub record IsBeside (audience : Audience) (job : Job) (program : List ℕ) (written : Report) (said : List ℕ) : Type 0 where

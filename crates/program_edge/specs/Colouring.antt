@@ -1,5 +1,6 @@
 -- Whether the lines for a person have colours, where that is left to what the program finds.
-use Rattle.std.specs.Prelude.{◌==◌, Bool, true, false, is_some, length, Result, Ok, Err}
+use Rattle.std.specs.Prelude.{◌==◌, ◌&&◌, Bool, true, false, not, is_some, length, codes, Result, Ok, Err}
+use Rattle.std.specs.Str.{bytes_eq}
 use Rattle.std.specs.String.{string_bytes}
 use Rattle.std.specs.declared.alloc.Global.{Global}
 use Rattle.std.specs.declared.string.String.{String}
@@ -12,11 +13,20 @@ use Rattle.jobs.specs.declared.job.Job.TheVariants.{Explain}
 use Rattle.command_line.specs.declared.request.Request.{Request}
 use Rattle.program_edge.specs.declared.fault.Fault.{Fault}
 
--- what the environment says of colours by its variable NO_COLOR: they are wanted where it is not set, or is empty
-abbrev pub wants_colors : Result (String Global) VarError → Bool
-wants_colors (Ok value) = length (string_bytes value) == 0
-wants_colors (Err NotPresent) = true
-wants_colors (Err fault) = false
+-- the environment forbids no colours by its variable NO_COLOR: it is not set, or is empty
+abbrev pub allows_colors : (no_color : Result (String Global) VarError) → Bool
+allows_colors (Ok value) = length (string_bytes value) == 0
+allows_colors (Err NotPresent) = true
+allows_colors (Err fault) = false
+
+-- it names a terminal, by its variable TERM, that has none
+abbrev pub is_dumb : (term : Result (String Global) VarError) → Bool
+is_dumb (Ok value) = bytes_eq (string_bytes value) (codes "dumb")
+is_dumb (Err fault) = false
+
+-- what the environment says of colours by both
+abbrev pub wants_colors : (no_color term : Result (String Global) VarError) → Bool
+wants_colors no_color term = allows_colors no_color && not (is_dumb term)
 
 -- whether there are colours: where it is left open, if standard output shows them and no file takes the lines
 abbrev pub colors_for : (shows_colors is_kept : Bool) → Colors → Colors

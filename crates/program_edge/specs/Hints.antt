@@ -5,6 +5,8 @@ use Rattle.std.specs.List.{starts_with}
 use Rattle.jobs.specs.declared.job.Job.{Job}
 use Rattle.jobs.specs.declared.job.Job.TheVariants.{Explain}
 use Rattle.report_texts.specs.OutputTexts.{Report}
+use Rattle.shown_names.specs.Shell.{shell_word}
+use Rattle.shown_names.specs.Shown.{shown}
 use Rattle.verdict_report.specs.Writing.{Begins}
 use Rattle.program_edge.specs.Refusals.{last_line}
 
@@ -24,17 +26,17 @@ says_all line = starts_with nat_eq line (codes "certificate refused: ")
 abbrev pub without_end : List ℕ → List ℕ
 without_end line = take (length line - 1) line
 
--- the program, and the file
+-- the program, and the file, whose name is shown
 abbrev pub file_name : (name : List ℕ) → List ℕ
-file_name name = codes "multiscalar: " ++ (name ++ codes ": ")
+file_name name = codes "multiscalar: " ++ (shown name ++ codes ": ")
 
 -- the file, and the line about it
 abbrev pub named_line : (name line : List ℕ) → List ℕ
 named_line name line = file_name name ++ without_end line
 
--- the command that says more
+-- the command that says more, as a shell takes it
 abbrev pub command_words : (name : List ℕ) → List ℕ
-command_words name = codes "; multiscalar explain " ++ (name ++ (codes " says more" ++ 10 ∷ []))
+command_words name = codes "; multiscalar explain " ++ (shell_word name ++ (codes " says more" ++ 10 ∷ []))
 
 -- one line for a result that ends with this line, or none
 abbrev pub line_hint : (name line : List ℕ) → List ℕ

@@ -22,6 +22,8 @@ use Rattle.program_edge.specs.Hints.{explains, hint_for}
 use Rattle.program_edge.specs.Streams.{IsCut, IsToldAlone, IsWritten, World}
 use Rattle.program_edge.specs.Summaries.{judged_by, summary_line, tally_of, worst_status}
 use Rattle.program_edge.specs.Telling.{file_line, program_reason}
+use Rattle.shown_names.specs.Shell.{shell_word}
+use Rattle.shown_names.specs.Shown.{shown}
 
 -- what the two streams get for a program, and what it counts as
 pub record Part : Type 0 where
@@ -38,9 +40,9 @@ abbrev pub named_rest : (name : List ℕ) → (starts : Bool) → (text : List �
 named_rest name starts [] = []
 named_rest name starts (b ∷ text) = (if starts then name else []) ++ (b ∷ named_rest name (b == 10) text)
 
--- the lines of a text, each with the file's name before it
+-- the lines of a text, each with the file's name before it, as it is shown
 abbrev pub named_lines : (name text : List ℕ) → List ℕ
-named_lines name text = named_rest (name ++ codes ": ") true text
+named_lines name text = named_rest (shown name ++ codes ": ") true text
 
 -- how a report stands among others: the lines of `check` do not name their file, those of `explain` do
 abbrev pub among_others : Job → (name text : List ℕ) → List ℕ
@@ -53,7 +55,7 @@ is_certificate job text = explains job && starts_with nat_eq text (codes "cert "
 
 -- why a certificate is not judged, and what explains it
 abbrev pub certificate_reason : (name : List ℕ) → List ℕ
-certificate_reason name = codes "is a certificate; explain PROGRAM --certificate " ++ (name ++ codes " explains it")
+certificate_reason name = codes "is a certificate; explain PROGRAM --certificate " ++ (shell_word name ++ codes " explains it")
 
 -- the job for the program of this name
 abbrev pub IsJobFor : (asked : Job) → (name : List ℕ) → Job → Type 0

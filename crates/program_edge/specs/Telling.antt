@@ -16,7 +16,10 @@ use Rattle.command_line.specs.declared.words.UsageFault.{UsageFault}
 use Rattle.command_line.specs.declared.words.UsageFault.TheVariants as usage
 use Rattle.verdict_report.specs.FaultText.{serve_fault_text}
 use Rattle.verdict_report.specs.Writing.{Begins}
-use Rattle.text_pieces.specs.Refusals.{unwritten_words}
+use Rattle.result_files.specs.declared.unwritten.Unwritten.{Unwritten}
+use Rattle.result_files.specs.declared.unwritten.Unwritten.TheVariants.{Link}
+use Rattle.result_files.specs.Refusals.{link_reason, unwritten_words}
+use Rattle.shown_names.specs.Shown.{shown}
 use Rattle.program_edge.specs.Usage.{is_shown}
 
 -- why a file gives no text; the limit is that of a certificate or a script
@@ -28,9 +31,9 @@ reason_words reason.TooLong = codes "longer than 134217728 bytes"
 reason_words reason.OutOfMemory = codes "out of memory"
 reason_words reason.Other = codes "cannot be read"
 
--- a file, and a reason
+-- a file, and a reason. Names of files stand in all that is told as they are shown
 abbrev pub file_words : (path : List ℕ) → (reason : List ℕ) → List ℕ
-file_words path reason = (codes "file " ++ path) ++ (codes ": " ++ reason)
+file_words path reason = (codes "file " ++ shown path) ++ (codes ": " ++ reason)
 
 -- the file that gives no text, and why
 abbrev pub unread_words : Unread → List ℕ
@@ -38,7 +41,7 @@ unread_words unread = file_words (string_bytes unread.path) (reason_words unread
 
 -- of a folder, how its files are named
 abbrev pub folder_reason : (name : List ℕ) → List ℕ
-folder_reason name = codes "is a directory; name its files, as in " ++ (name ++ codes "/*.s")
+folder_reason name = codes "is a directory; name its files, as in " ++ (shown name ++ codes "/*.s")
 
 -- why a file of this name gives no program
 abbrev pub program_reason : (name : List ℕ) → UnreadReason → List ℕ
@@ -51,7 +54,12 @@ unread_program_words unread = file_words (string_bytes unread.path) (program_rea
 
 -- a line that says this of a file
 abbrev pub file_line : (name said : List ℕ) → List ℕ
-file_line name said = codes "multiscalar: file " ++ (name ++ (codes ": " ++ (said ++ 10 ∷ [])))
+file_line name said = codes "multiscalar: file " ++ (shown name ++ (codes ": " ++ (said ++ 10 ∷ [])))
+
+-- why a file takes no result: of a link, which file to name
+abbrev pub unwritten_reason : Unwritten → List ℕ
+unwritten_reason (Link file) = link_reason (shown (string_bytes file))
+unwritten_reason reason = unwritten_words reason
 
 -- what a fault is called: the text that `clap` wrote, or what stands after `multiscalar: `
 abbrev pub name_of : Fault → List ℕ
@@ -62,11 +70,11 @@ name_of Predict = codes "2 Predict"
 name_of Emit = codes "3 Emit"
 name_of OutOfMemory = codes "4 OutOfMemory"
 name_of InputTwice = codes "5 InputTwice: only one file can be - (standard input)"
-name_of (File path) = codes "file " ++ string_bytes path
+name_of (File path) = codes "file " ++ shown (string_bytes path)
 name_of (Explained unread) = unread_words unread
 name_of (NoProgram unread) = unread_program_words unread
 name_of (Serve fault) = serve_fault_text fault
-name_of (NotWritten path reason) = file_words (string_bytes path) (unwritten_words reason)
+name_of (NotWritten path reason) = file_words (string_bytes path) (unwritten_reason reason)
 
 -- the text for a fault: as it stands, or one line
 abbrev pub said_of : Fault → List ℕ

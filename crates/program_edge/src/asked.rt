@@ -36,7 +36,7 @@ pub fn asked_by(alloc: Global, words: &[String]) -> Result<Request, Fault>
 {
     let asked = match request_of(alloc, words) {
         Ok(asked) => asked,
-        Err(fault) => return Err(fault_of(alloc, fault)),
+        Err(fault) => return Err(fault_of(alloc, words, fault)),
     };
     if inputs(&asked) > 1 {
         return Err(Fault::InputTwice);
@@ -75,12 +75,12 @@ fn input(name: &str) -> u32
     u32::from(name == STANDARD_INPUT)
 }
 
-/// The fault that is reported for one of the words. `OutOfMemory` may come in place of a text.
-pub fn fault_of(alloc: Global, fault: UsageFault) -> Fault
+/// The fault that is reported for one of these words. `OutOfMemory` may come in place of a text.
+pub fn fault_of(alloc: Global, words: &[String], fault: UsageFault) -> Fault
     ensures { IsFaultOf fault result }
 {
     match fault {
-        UsageFault::Words(error) => match UsageText::new(alloc, error) {
+        UsageFault::Words(error) => match UsageText::new(alloc, words, error) {
             Ok(text) if text.is_shown() => Fault::Help(text),
             Ok(text) => Fault::Words(text),
             Err(AllocError) => Fault::OutOfMemory,

@@ -1,6 +1,6 @@
 //! Whether the lines for a person have colours, where that is left to what the program finds.
 ghost use Rattle.std.specs.Prelude.{◌≡◌};
-ghost use Rattle.program_edge.specs.Colouring.{colors_for, settled, settled_asked, settled_job, wants_colors};
+ghost use Rattle.program_edge.specs.Colouring.{allows_colors, colors_for, is_dumb, settled, settled_asked, settled_job, wants_colors};
 
 use crate::fault::Fault;
 use command_line::request::Request;
@@ -8,18 +8,36 @@ use jobs::job::{Colors, Job};
 use std::env;
 use std::env::{Env, VarError};
 
-/// Whether a terminal may show colours, as the environment says by its variable `NO_COLOR`.
+/// Whether a terminal may show colours, as the environment says by its variables `NO_COLOR` and `TERM`.
 pub fn is_colorful<R: Env + AllocGlobal>(rt: &R) -> bool {
-    wants_colors(env::var(rt, "NO_COLOR"))
+    wants_colors(env::var(rt, "NO_COLOR"), env::var(rt, "TERM"))
 }
 
-/// Whether colours are wanted, for the value of `NO_COLOR`: where it is not set, or is empty.
-pub fn wants_colors(no_color: Result<String, VarError>) -> bool
-    ensures { result ≡ wants_colors no_color }
+/// Whether colours are wanted, for the values of `NO_COLOR` and `TERM`: where the first is not set, or is empty, and the
+/// second is not `dumb`.
+pub fn wants_colors(no_color: Result<String, VarError>, term: Result<String, VarError>) -> bool
+    ensures { result ≡ wants_colors no_color term }
+{
+    allows_colors(no_color) && !is_dumb(term)
+}
+
+// Whether `NO_COLOR` is not set, or is empty.
+fn allows_colors(no_color: Result<String, VarError>) -> bool
+    ensures { result ≡ allows_colors no_color }
 {
     match no_color {
         Ok(value) => value.as_str().is_empty(),
         Err(VarError::NotPresent) => true,
+        Err(_) => false,
+    }
+}
+
+// Whether `TERM` names a terminal that has no colours.
+fn is_dumb(term: Result<String, VarError>) -> bool
+    ensures { result ≡ is_dumb term }
+{
+    match term {
+        Ok(value) => value.as_str() == "dumb",
         Err(_) => false,
     }
 }

@@ -4,6 +4,8 @@ ghost use Rattle.program_edge.specs.Hints.{command_words, explains, file_name, h
 
 use crate::refusal::last_line;
 use jobs::job::Job;
+use shown_names::name::shown_name;
+use shown_names::shell::shell_word;
 use std::alloc::{AllocError, Global};
 
 /// The line that standard error gets beside the result of a job with this status, of a program of this name; empty
@@ -57,38 +59,45 @@ fn line_hint(alloc: Global, name: &str, line: &[u8]) -> Result<Vec<u8>, AllocErr
 {
     let mut hint = Vec::new(alloc);
     if has_more(line) {
-        add_named_line(name, line, &mut hint)?;
-        add_command(name, &mut hint)?;
+        add_named_line(alloc, name, line, &mut hint)?;
+        add_command(alloc, name, &mut hint)?;
     } else if says_all(line) {
-        add_named_line(name, line, &mut hint)?;
+        add_named_line(alloc, name, line, &mut hint)?;
         hint.push(b'\n')?;
     }
     Ok(hint)
 }
 
 // Adds the file, and the line about it.
-fn add_named_line(name: &str, line: &[u8], hint: &mut Vec<u8>) -> Result<(), AllocError>
+fn add_named_line(
+    alloc: Global,
+    name: &str,
+    line: &[u8],
+    hint: &mut Vec<u8>,
+) -> Result<(), AllocError>
     ensures { OnOk result (hint.new.items ≡ hint.old.items ++ named_line name.now line.now) }
 {
-    add_name(name, hint)?;
+    add_name(alloc, name, hint)?;
     hint.extend_from_slice(without_end(line))
 }
 
 // Adds the program and the file.
-fn add_name(name: &str, hint: &mut Vec<u8>) -> Result<(), AllocError>
+fn add_name(alloc: Global, name: &str, hint: &mut Vec<u8>) -> Result<(), AllocError>
     ensures { OnOk result (hint.new.items ≡ hint.old.items ++ file_name name.now) }
 {
+    let shown = shown_name(alloc, name)?;
     add("multiscalar: ", hint)?;
-    add(name, hint)?;
+    add(shown.as_str(), hint)?;
     add(": ", hint)
 }
 
 // Adds the command that says more.
-fn add_command(name: &str, hint: &mut Vec<u8>) -> Result<(), AllocError>
+fn add_command(alloc: Global, name: &str, hint: &mut Vec<u8>) -> Result<(), AllocError>
     ensures { OnOk result (hint.new.items ≡ hint.old.items ++ command_words name.now) }
 {
+    let word = shell_word(alloc, name)?;
     add("; multiscalar explain ", hint)?;
-    add(name, hint)?;
+    add(word.as_str(), hint)?;
     add(" says more\n", hint)
 }
 

@@ -18,6 +18,7 @@ pub mod program;
 mod reader;
 pub mod refusal;
 mod reports;
+mod shown;
 mod streams;
 pub mod summary;
 pub mod texts;

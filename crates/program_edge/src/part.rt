@@ -12,6 +12,8 @@ use crate::summary::{ProgramVerdict, judged_by};
 use crate::texts::{MOST_PROGRAM, read_file};
 use crate::unread::UnreadReason;
 use jobs::job::{Job, Texts};
+use shown_names::name::shown_name;
+use shown_names::shell::shell_word;
 use std::alloc::{AllocError, Global};
 use std::marker::Sync;
 use std::sync::Wait;
@@ -153,11 +155,12 @@ fn among_others(alloc: Global, job: &Job, name: &str, text: Vec<u8>) -> Result<V
 fn named_lines(alloc: Global, name: &str, text: &[u8]) -> Result<Vec<u8>, AllocError>
     ensures { IfOk result (λ said. said.items ≡ named_lines name.now text.now) }
 {
+    let shown = shown_name(alloc, name)?;
     let mut said = Vec::new(alloc);
     let mut starts = true;
     for byte in text {
         if starts {
-            add(name, &mut said)?;
+            add(shown.as_str(), &mut said)?;
             add(": ", &mut said)?;
         }
         said.push(*byte)?;
@@ -173,7 +176,8 @@ fn unread_part(alloc: Global, name: &str, reason: UnreadReason) -> Result<Part, 
 {
     match reason {
         UnreadReason::IsDirectory => {
-            let why = format!(in alloc; "is a directory; name its files, as in {name}/*.s")?;
+            let shown = shown_name(alloc, name)?;
+            let why = format!(in alloc; "is a directory; name its files, as in {shown}/*.s")?;
             unjudged_part(alloc, name, why.as_str())
         }
         _ => unjudged_part(alloc, name, reason.words()),
@@ -185,8 +189,9 @@ fn certificate_part(alloc: Global, name: &str) -> Result<Part, AllocError>
     ensures { IfOk result (λ part. record { output = part.output.items; errors = part.errors.items; judged = part.judged }
         ≡ unjudged name.now (certificate_reason name.now)) }
 {
+    let word = shell_word(alloc, name)?;
     let why = format!(in alloc;
-        "is a certificate; explain PROGRAM --certificate {name} explains it"
+        "is a certificate; explain PROGRAM --certificate {word} explains it"
     )?;
     unjudged_part(alloc, name, why.as_str())
 }
@@ -196,7 +201,8 @@ fn unjudged_part(alloc: Global, name: &str, why: &str) -> Result<Part, AllocErro
     ensures { IfOk result (λ part. record { output = part.output.items; errors = part.errors.items; judged = part.judged }
         ≡ unjudged name.now why.now) }
 {
-    let line = format!(in alloc; "multiscalar: file {name}: {why}\n")?;
+    let shown = shown_name(alloc, name)?;
+    let line = format!(in alloc; "multiscalar: file {shown}: {why}\n")?;
     Ok(Part {
         output: Vec::new(alloc),
         errors: line.into_bytes(),

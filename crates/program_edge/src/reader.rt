@@ -8,6 +8,7 @@ use crate::reports::{Hinted, Written, report_of};
 use explain_report::left::LeftOver;
 use explain_report::proposal::left_over;
 use jobs::job::{Job, Texts};
+use shown_names::name::shown_name;
 use std::alloc::{AllocError, Global};
 use std::marker::Model;
 use std::sync::Wait;
@@ -98,9 +99,9 @@ fn rest_of(
         return Ok(Vec::new(alloc));
     }
     let program = texts.program.as_slice();
-    let name = reader.name.as_str();
+    let name = shown_name(alloc, reader.name.as_str())?;
     let bytes = report.bytes.as_slice();
-    let left = left_over(alloc, job, program, name, report.status, bytes)?;
+    let left = left_over(alloc, job, program, name.as_str(), report.status, bytes)?;
     Ok(rest_said(alloc, reader.wants_rest, left))
 }
 

@@ -3,10 +3,12 @@ ghost use Rattle.std.specs.Prelude.{◌≡◌, ◌≢◌, Err, IfOk, OnErr};
 ghost use Rattle.verdict_report.specs.CurveProgress.{IsProgress, progress_lines};
 ghost use Rattle.verdict_report.specs.JobTexts.{IsReportOf};
 ghost use Rattle.verdict_report.specs.Writing.{Begins};
+ghost use Rattle.shown_names.specs.Shown.{shown};
 ghost use Rattle.program_edge.specs.Hints.{hint_for};
 
 use crate::hint::hint_for;
 use jobs::job::{Job, Texts};
+use shown_names::name::shown_name;
 use std::alloc::Global;
 use std::io::Write;
 use std::sync::Wait;
@@ -76,7 +78,7 @@ pub(crate) struct ToldWritten {
     pub is_told: bool,
 }
 
-// What a job with its texts writes; on the way `errors` hears how far it is.
+// What a job with its texts writes; on the way `errors` hears how far it is, of the program of this name.
 pub(crate) fn written_told<E: Write, R: Threads + Wait + Sync>(
     rt: &R,
     alloc: Global,
@@ -87,12 +89,13 @@ pub(crate) fn written_told<E: Write, R: Threads + Wait + Sync>(
 ) -> Result<ToldWritten, ServeFault>
     ensures report { IfOk result (λ told. IsReportOf job.now texts.now
         record { bytes = told.written.bytes.items; status = told.written.status }) }
-    ensures said { IfOk result (λ told. IsProgress job.now texts.now name.now told.is_told
+    ensures said { IfOk result (λ told. IsProgress job.now texts.now (shown name.now) told.is_told
         (E.contents errors.old) (E.contents errors.new)) }
-    ensures begun { Begins (E.contents errors.old) (E.contents errors.new) (progress_lines job.now name.now) }
+    ensures begun { Begins (E.contents errors.old) (E.contents errors.new) (progress_lines job.now (shown name.now)) }
     ensures memory { OnErr result (result ≡ Err ServeFault.OutOfMemory) }
 {
-    let told = report_told(rt, alloc, job, texts, name, errors)?;
+    let name = shown_name(alloc, name)?;
+    let told = report_told(rt, alloc, job, texts, name.as_str(), errors)?;
     let mut bytes = Vec::new(alloc);
     bytes.extend_from_slice(told.report.bytes())?;
     let status = told.report.status();

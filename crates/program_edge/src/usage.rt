@@ -4,8 +4,14 @@ ghost use Rattle.std.specs.String.{string_bytes};
 ghost use Rattle.clap.specs.Values.{kind_of};
 ghost use Rattle.program_edge.specs.Usage.{is_shown};
 
+use command_line::words::{UsageFault, request_of};
+use shown_names::letters::is_printable;
+use shown_names::name::shown_name;
 use std::alloc::{AllocError, Global};
 use std::fmt::Display;
+
+// What is said where the words, as they are shown, have no fault of their own.
+const UNPRINTABLE: &str = "error: a word of the command line is no printable text\n";
 
 /// What `clap` says of one of its faults. It is made of the fault itself, so no other text is one.
 #[derive(Debug, Drop)]
@@ -15,15 +21,15 @@ pub struct UsageText {
 }
 
 impl UsageText {
-    /// The text of this fault.
+    /// The text of this fault of these words; it has the words as they are shown.
     ///
     /// # Errors
     ///
     /// Memory ran out.
-    pub fn new(alloc: Global, error: clap::Error) -> Result<UsageText, AllocError>
+    pub fn new(alloc: Global, words: &[String], error: clap::Error) -> Result<UsageText, AllocError>
         ensures { IfOk result (λ usage. usage.error ≡ error) }
     {
-        let text = text_of(alloc, &error)?;
+        let text = shown_text(alloc, words, &error)?;
         Ok(UsageText { error, text })
     }
 
@@ -40,6 +46,31 @@ impl UsageText {
     {
         !self.error.use_stderr()
     }
+}
+
+// What `clap` says of its fault of these words. It quotes words as they stand; so where one of them is no printable text,
+// it is asked again, of the words as they are shown.
+fn shown_text(alloc: Global, words: &[String], error: &clap::Error) -> Result<String, AllocError> {
+    if words
+        .iter()
+        .all(|word| is_printable(word.as_str().as_bytes()))
+    {
+        return text_of(alloc, error);
+    }
+    let shown = shown_words(alloc, words)?;
+    match request_of(alloc, shown.as_slice()) {
+        Err(UsageFault::Words(told)) => text_of(alloc, &told),
+        _ => String::from_str(alloc, UNPRINTABLE),
+    }
+}
+
+// The words as they are shown.
+fn shown_words(alloc: Global, words: &[String]) -> Result<Vec<String>, AllocError> {
+    let mut shown = Vec::new(alloc);
+    for word in words {
+        shown.push(shown_name(alloc, word.as_str())?)?;
+    }
+    Ok(shown)
 }
 
 // What a value says of itself.

@@ -13,6 +13,8 @@ use diagnostics::words::Words;
 use input_diagnostics::certificate::certificate_errors;
 use input_diagnostics::program_lines::ProgramLines;
 use input_diagnostics::script::script_errors;
+use shown_names::name::shown_name;
+use shown_names::shell::shell_word;
 use std::alloc::{AllocError, Global};
 use test_programs::certificates::COUNT_CERTIFICATE_LACKING;
 use test_programs::programs::COUNT;
@@ -42,11 +44,20 @@ fn said(alloc: Global) -> Result<String, AllocError> {
         help: None,
     };
     let list = vec![in alloc; diagnostic]?;
-    let files = Files::new(
-        TextFile::new("p.s", &ROWS),
-        TextFile::new("p.cert2", &[]),
-        TextFile::new("p.events", &[]),
-    );
+    let files = Files {
+        program: TextFile {
+            name: "p.s",
+            rows: &ROWS,
+        },
+        certificate: TextFile {
+            name: "p.cert2",
+            rows: &[],
+        },
+        script: TextFile {
+            name: "p.events",
+            rows: &[],
+        },
+    };
     text_of(alloc, &files, list.as_slice(), Colour::Never)
 }
 
@@ -56,6 +67,18 @@ fn bytes_are_shown(rt: HostRuntime) {
     assert!(rt; said.expect(&rt, "room").as_str() == SAID);
     let words = quoted(rt.alloc(), b"a\x1bb").ok();
     assert!(rt; words.expect(&rt, "room").as_str() == "`a\\x1bb`");
+}
+
+#[test]
+fn names_are_shown(rt: HostRuntime) {
+    let plain = shown_name(rt.alloc(), "\u{e4} b.s").ok();
+    assert!(rt; plain.expect(&rt, "room").as_str() == "\u{e4} b.s");
+    let steering = shown_name(rt.alloc(), "a\r\n\u{feff}.s").ok();
+    assert!(rt; steering.expect(&rt, "room").as_str() == "a\\x0d\\x0a\\xef\\xbb\\xbf.s");
+    let word = shell_word(rt.alloc(), "a/b.s").ok();
+    assert!(rt; word.expect(&rt, "room").as_str() == "a/b.s");
+    let word = shell_word(rt.alloc(), "it's b.s").ok();
+    assert!(rt; word.expect(&rt, "room").as_str() == "'it'\\''s b.s'");
 }
 
 #[test]

@@ -22,7 +22,7 @@ mod ranges;
 #[cfg(test)]
 mod replay;
 #[cfg(test)]
-mod result_files;
+mod results_in_files;
 #[cfg(test)]
 mod run;
 #[cfg(test)]

@@ -7,13 +7,14 @@ use mips_instructions::number::Place;
 use sequencer::predict::{First, Last, Predict, Script};
 use std::alloc::Global;
 use std::process::Abort;
+use std::sync::atomic::{AtomicU32, Ordering};
 use test_programs::acceptance::accepted;
 use test_programs::certificates::{
     COUNT_CERTIFICATE, PRODUCT_CERTIFICATE, RELEASE_CERTIFICATE, SPIN_CERTIFICATE,
     UNLISTED_JUMP_CERTIFICATE,
 };
 use test_programs::programs::{COUNT, PRODUCT, RELEASE, SPIN, UNLISTED_JUMP};
-use threaded_runner::gate::Open;
+use threaded_runner::gate::{Open, RunGate};
 use threaded_runner::report::{How, Report, RunFault};
 use threaded_runner::runner::{run_threads, run_workers};
 
@@ -156,6 +157,39 @@ fn expect_spun(rt: &impl Bench, alloc: Global, accepted: &Accepted, units: u32) 
     assert!(rt; report.machine.outcome() == Standing::Running);
     assert!(rt; report.machine.length() == 100);
     expect_counts(rt, &report, units);
+}
+
+/// Counts the calls after a burst, and notes the most instructions of one.
+#[derive(Drop)]
+struct Longest {
+    calls: AtomicU32,
+    steps: AtomicU32,
+}
+
+impl RunGate for Longest {
+    fn before(&self, _worker: u32) {}
+
+    fn after(&self, _worker: u32, steps: u32) {
+        self.calls.fetch_add(1, Ordering::SeqCst);
+        self.steps.fetch_max(steps, Ordering::SeqCst);
+    }
+}
+
+// A single worker executes 1,024 instructions in place. The task has filled that, so the next bursts are leased: of 128
+// instructions, then of twice as many each time up to 4,096, and of the last 911. (That none holds the lock meanwhile,
+// its type says.)
+#[test]
+fn one_worker_leases_bursts(rt: HostRuntime) {
+    let accepted = accepted(rt.alloc(), SPIN, SPIN_CERTIFICATE).expect(&rt, "accepted");
+    let gate = Longest {
+        calls: AtomicU32::new(0),
+        steps: AtomicU32::new(0),
+    };
+    let report = run_threads(&rt, rt.alloc(), &accepted, 1, 10_000, First, &gate);
+    let report = report.ok().expect(&rt, "a report");
+    assert!(rt; report.machine.length() == 10_000);
+    assert!(rt; gate.calls.load(Ordering::SeqCst) == 8);
+    assert!(rt; gate.steps.load(Ordering::SeqCst) == 4_096);
 }
 
 /// The numbers of a run, and what is wrong with them.

@@ -10,7 +10,7 @@ use Rattle.program_tokens.specs.declared.span.TokenSpan.{TokenSpan}
 use Rattle.program_statements.specs.Operands.{base_at, operand_at, after_one, after_two, operands_of}
 use Rattle.program_statements.specs.Rows.{three, imm, branch_two, nop, halt}
 use Rattle.program_statements.specs.declared.statement.Section.TheVariants.{Text, Data}
-use Rattle.diagnostics.specs.Excerpt.{is_readable}
+use Rattle.shown_names.specs.Shown.{is_readable}
 use Rattle.diagnostics.specs.Quotations.{as_shown}
 use Rattle.syntax_tree.specs.declared.item.LineFaultKind.TheVariants as kind
 use Rattle.operand_forms.specs.Shapes.{shape_of}

@@ -9,3 +9,4 @@ pub mod Late
 pub mod HoldTurning
 pub mod Filling
 pub mod Rousing
+pub mod RoundByRound

@@ -1,6 +1,6 @@
 -- What a worker does in a hold of the lock, and at which pace it goes on: one turn after another, each of the first of
 -- its units that does not wait. Everywhere `was_asked` says that a machine was asked for an event and answered this.
-use Rattle.std.specs.Prelude.{◌≡◌, ℕ, zero, suc, ◌<◌, ◌≤◌, ◌⊎◌, length, true, false, Result, Err, Option, Some, None}
+use Rattle.std.specs.Prelude.{◌≡◌, ℕ, zero, suc, ◌+◌, ◌<◌, ◌≤◌, ◌⊎◌, length, true, false, Result, Err, Option, Some, None}
 use Rattle.machine_model.specs.declared.event.Event.{Event}
 use Rattle.machine_model.specs.declared.event.Event.TheVariants.{Exec}
 use Rattle.machine_model.specs.declared.event.Refused.{Refused}
@@ -85,3 +85,28 @@ Holds was_asked w old w' new = (turns : ℕ) × HoldsFor was_asked turns w old w
 abbrev pub IsTurnTaken : (MachineView → Event → Result (Unit {0}) Refused → Type 0) → WorkerView → (old : DeskView) → WorkerView → (new : DeskView) → Option Then → Type 0
 IsTurnTaken was_asked w old w' new None = TakesTurns w.share 1 old new × TakesTurn was_asked w old w' new
 IsTurnTaken was_asked w old w' new (Some next) = (w' ≡ w) × (new ≡ old) × IsNext w' new next × (next ≡ GoOn → ⊥)
+
+-- In place, where one worker serves all units.
+
+-- the turn of the head's unit names an event, which is applied, or given up
+abbrev pub AppliesAtHead : (MachineView → Event → Result (Unit {0}) Refused → Type 0) → WorkerView → (old : DeskView) → WorkerView → (new : DeskView) → Type 0
+AppliesAtHead was_asked w old w' new =
+    (e : Event) × (turn_of old.machine (unit_for old.machine (Exec 0)) ≡ Apply e) × (length old.machine.history < w.budget)
+    × (DoesEvent w (unit_for old.machine (Exec 0)) e old w' new ⊎ GaveUp was_asked w (unit_for old.machine (Exec 0)) e old w' new)
+
+-- the head executes this many instructions
+abbrev pub ExecutesAtHead : (steps : ℕ) → (old new : DeskView) → Type 0
+ExecutesAtHead steps old new = RunsHead old.machine steps new.machine × SameNotes old new
+
+-- this often: instructions of the head, together this many, and then an event that its unit's turn names
+abbrev pub GoesInPlaceFor : (MachineView → Event → Result (Unit {0}) Refused → Type 0) → (events : ℕ) → WorkerView → (steps : ℕ) → (old : DeskView) → WorkerView → (new : DeskView) → Type 0
+GoesInPlaceFor was_asked zero w steps old w' new = (steps ≡ 0) × (w' ≡ w) × (new ≡ old)
+GoesInPlaceFor was_asked (suc n) w steps old w' new =
+    (mid : WorkerView) × (desk : DeskView) × (ran : DeskView) × (before : ℕ) × (more : ℕ) × (steps ≡ before + more)
+    × GoesInPlaceFor was_asked n w before old mid desk × ExecutesAtHead more desk ran × AppliesAtHead was_asked mid ran w' new
+
+-- so often, and then instructions of the head: together this many
+abbrev pub GoesInPlace : (MachineView → Event → Result (Unit {0}) Refused → Type 0) → WorkerView → (steps : ℕ) → (old : DeskView) → WorkerView → (new : DeskView) → Type 0
+GoesInPlace was_asked w steps old w' new =
+    (events : ℕ) × (desk : DeskView) × (before : ℕ) × (more : ℕ) × (steps ≡ before + more)
+    × GoesInPlaceFor was_asked events w before old w' desk × ExecutesAtHead more desk new

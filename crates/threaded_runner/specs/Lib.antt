@@ -7,6 +7,7 @@ pub mod Paces
 pub mod Holds
 pub mod Lending
 pub mod Away
+pub mod Serving
 pub mod Workers
 pub mod HoldTurns
 pub mod Stations

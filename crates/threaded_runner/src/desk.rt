@@ -1,6 +1,7 @@
 //! What the lock holds: the machine, the predictor, how many events each worker applied, and the note that
 //! the run must stop for want of memory.
 
+use crate::choosing::Choose;
 use crate::counts::{add, zeros};
 use crate::deeds::Deeds;
 use crate::machine_laws::law_replay;
@@ -10,7 +11,6 @@ use crate::share::Share;
 use crate::slots::put;
 use machine_model::event::{Event, Refused, Standing};
 use sequencer::machine::Machine;
-use sequencer::predict::Predict;
 use std::alloc::{AllocError, Global};
 use std::marker::{Model, PhantomData};
 use unit_core::burst::Burst;
@@ -335,7 +335,7 @@ impl<'a, P: Drop, J: Naming + Deeds> Desk<'a, P, J> {
     }
 }
 
-impl<'a, P: Predict, J: Naming + Deeds> Desk<'a, P, J> {
+impl<'a, P: Choose, J: Naming + Deeds> Desk<'a, P, J> {
     ghost use Rattle.std.specs.Prelude.{◌≡◌, ℕ, ◌<◌, length, Some};
     ghost use Rattle.sequencer.specs.Machines.{state, SameRing, Applies};
     ghost use Rattle.sequencer.specs.Choices.{choice_of};
@@ -352,8 +352,7 @@ impl<'a, P: Predict, J: Naming + Deeds> Desk<'a, P, J> {
         ensures kept { SameRing self.old.machine self.new.machine }
         ensures notes { SameNotes self.old self.new }
     {
-        let targets = self.machine.choices();
-        let answer = self.predictor.choose(targets);
+        let answer = self.predictor.answer(&self.machine, unit);
         self.assign(unit, answer);
     }
 }

@@ -12,17 +12,18 @@ use crate::deeds::Deeds;
 use crate::desk::Desk;
 use crate::hold::{Idle, Worker};
 use crate::naming::Naming;
+use crate::patience::Patience;
 use crate::share::Share;
 use std::sync::{Mutex, MutexGuard, Wait};
 use std::{hint, thread};
 use unit_turns::bell::{Bell, Ring};
 use unit_turns::called::Called;
 
-/// How often a worker tries for the lock before it leaves its core to another thread for a moment.
-const TRIES: u32 = 5;
+/// How often a patient worker tries for the lock before it leaves its core to another thread for a moment.
+const TRIES: u32 = 50;
 
 /// How often it does so before it waits asleep.
-const ROUNDS: u32 = 100;
+const ROUNDS: u32 = 10;
 
 /// The lock, while a worker holds it. It has no `Drop`: so a worker lets go of it by the functions of this file
 /// alone, which ring for those that have something to do, or sleep.
@@ -30,21 +31,32 @@ pub(crate) struct Held<'l, 'a, P: Drop, J: Naming + Deeds> {
     pub(crate) desk: MutexGuard<'l, Desk<'a, P, J>>,
 }
 
-/// Takes the lock. A hold is short and waking a thread is slow, so a worker tries for a while before it
+/// Takes the lock. A hold is short and waking a thread is slow, so a patient worker tries for a while before it
 /// sleeps.
 pub(crate) fn take<'l, 'a, P: Drop, J: Naming + Deeds, R: Wait>(
     rt: &R,
     shared: &'l Mutex<Desk<'a, P, J>>,
+    patience: Patience,
 ) -> Held<'l, 'a, P, J> {
-    for _ in 0..ROUNDS {
-        if let Some(desk) = try_soon(shared) {
+    if patience.looks() {
+        if let Some(desk) = try_often(shared) {
             return Held { desk };
         }
-        thread::yield_now();
     }
     Held {
         desk: shared.lock(rt),
     }
+}
+
+/// The lock, if it is free within many looks.
+fn try_often<T>(shared: &Mutex<T>) -> Option<MutexGuard<'_, T>> {
+    for _ in 0..ROUNDS {
+        if let Some(guard) = try_soon(shared) {
+            return Some(guard);
+        }
+        thread::yield_now();
+    }
+    None
 }
 
 /// The lock, if it is free within a few looks.

@@ -1,5 +1,6 @@
 //! What a worker does while it holds the lock.
 
+use crate::choosing::Choose;
 use crate::deeds::Deeds;
 use crate::desk::Desk;
 use crate::machine_laws::law_drop;
@@ -10,7 +11,6 @@ use crate::share::Share;
 use crate::slots::put;
 use machine_model::event::{Event, Refused, Spot};
 use sequencer::machine::Machine;
-use sequencer::predict::Predict;
 use std::marker::{Model, PhantomData};
 use unit_core::burst::{Burst, MOST_STEPS};
 use unit_turns::deciding::turn_at_head;
@@ -59,7 +59,7 @@ impl<J: Naming + Deeds> Worker<J> {
     ghost use Rattle.threaded_runner.specs.Desks.{DeskView, SameNotes};
     ghost use Rattle.threaded_runner.specs.Holds.{IsStoppedAt, RunsHead, TakesTurns};
     ghost use Rattle.threaded_runner.specs.Workers.{DoesEvent, FollowsUp, GivesUp, IsHandedIn, IsNext, IsSameWorker, IsThenOf, StopsRun, WorkerView, with_pace};
-    ghost use Rattle.threaded_runner.specs.HoldTurns.{Executes, ExecutesSingly, GaveUp, Holds, HoldsLong, IsTurnTaken};
+    ghost use Rattle.threaded_runner.specs.HoldTurns.{AppliesAtHead, Executes, ExecutesAtHead, ExecutesSingly, GaveUp, GoesInPlace, Holds, HoldsLong, IsTurnTaken};
 
     /// A worker that has done nothing.
     pub(crate) fn new(share: Share, budget: u32) -> Worker<J>
@@ -92,7 +92,7 @@ impl<J: Naming + Deeds> Worker<J> {
     }
 
     /// Takes turns of the worker's units, at most 64. What they did is what `turn` names.
-    pub(crate) fn hold<P: Predict>(&mut self, desk: &mut Desk<'_, P, J>) -> Then
+    pub(crate) fn hold<P: Choose>(&mut self, desk: &mut Desk<'_, P, J>) -> Then
         ensures next { IsNext self.new desk.new result }
         ensures turns { TakesTurns self.old.share 0 desk.old desk.new }
         ensures many { result ≡ Then.GoOn → TakesTurns self.old.share 64 desk.old desk.new }
@@ -116,7 +116,7 @@ impl<J: Naming + Deeds> Worker<J> {
     }
 
     /// Takes a turn of a unit; or changes nothing, and answers what the worker does without the lock.
-    fn take_turn<P: Predict>(
+    fn take_turn<P: Choose>(
         &mut self,
         desk: &mut Desk<'_, P, J>,
         unit: u32,
@@ -184,7 +184,7 @@ impl<J: Naming + Deeds> Worker<J> {
     }
 
     /// Assigns the task that the predictor chooses to a unit, unless it has to wait.
-    fn choose<P: Predict>(&mut self, desk: &mut Desk<'_, P, J>, unit: u32) -> Option<Then>
+    fn choose<P: Choose>(&mut self, desk: &mut Desk<'_, P, J>, unit: u32) -> Option<Then>
         requires first { IsFirst desk.old.machine self.old.share unit }
         requires turn { Turn.Choose ≡ turn_of desk.old.machine unit }
         requires own { MayChoose desk.old.machine unit }
@@ -345,7 +345,8 @@ impl<J: Naming + Deeds> Worker<J> {
         ensures turns { TakesTurns self.old.share 0 desk.old desk.new }
         ensures few { length desk.new.machine.history ≤ length desk.old.machine.history + next.now.most }
         ensures steps { result ≤ next.now.most }
-        ensures paced { (mid : WorkerView) × (self.new ≡ with_pace mid next.now.unit (after_in_place next.now.most result (pace_of mid.paces next.now.unit))) }
+        ensures paced { (mid : WorkerView) × GoesInPlace J.was_asked self.old result desk.old mid desk.new
+            × (self.new ≡ with_pace mid next.now.unit (after_in_place next.now.most result (pace_of mid.paces next.now.unit))) }
         ensures stays { IsSameWorker self.old self.new }
     {
         let mut steps: u32 = 0;
@@ -372,8 +373,7 @@ impl<J: Naming + Deeds> Worker<J> {
         requires { self.now.share.workers ≡ 1 }
         ensures few { result ≤ most }
         ensures history { length desk.new.machine.history ≡ length desk.old.machine.history + result }
-        ensures runs { RunsHead desk.old.machine result desk.new.machine }
-        ensures notes { SameNotes desk.old desk.new }
+        ensures runs { ExecutesAtHead result desk.old desk.new }
         ensures turns { TakesTurns self.now.share 0 desk.old desk.new }
     {
         // Reading the share gives what is known of it.
@@ -389,6 +389,8 @@ impl<J: Naming + Deeds> Worker<J> {
     fn apply_at_head<P: Drop>(&mut self, desk: &mut Desk<'_, P, J>) -> bool
         requires { self.old.share.workers ≡ 1 }
         ensures turns { TakesTurns self.old.share 0 desk.old desk.new }
+        ensures applied { result ≡ true → AppliesAtHead J.was_asked self.old desk.old self.new desk.new }
+        ensures none { result ≡ false → (self.new ≡ self.old) × (desk.new ≡ desk.old) }
         ensures few { length desk.new.machine.history ≤ length desk.old.machine.history + 1 }
         ensures stays { IsSameWorker self.old self.new }
     {

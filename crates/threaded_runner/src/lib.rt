@@ -2,6 +2,7 @@
 #![tactic(auto)]
 
 mod away;
+mod choosing;
 mod counts;
 mod deeds;
 mod desk;
@@ -13,8 +14,10 @@ mod machine_laws;
 mod naming;
 mod next;
 mod pace;
+mod patience;
 pub mod report;
 pub mod runner;
+mod serving;
 mod share;
 mod slots;
 mod station;

@@ -10,6 +10,7 @@ use crate::gate::RunGate;
 use crate::held::{Ended, Stopped, let_go_stopped, take};
 use crate::hold::Worker;
 use crate::naming::Naming;
+use crate::patience::Patience;
 use crate::report::{Report, RunFault};
 use crate::share::Share;
 use crate::worker::serve;
@@ -21,7 +22,7 @@ use std::alloc::{AllocError, Global};
 use std::marker::Brand;
 use std::sync::{Mutex, Wait};
 use std::thread;
-use std::thread::Threads;
+use std::thread::{JoinHandle, Scope, Threads};
 use unit_turns::bell::Bell;
 
 /// Runs the accepted program on a machine with the given number of units, 1 to 16, with one thread for each unit, until
@@ -192,27 +193,83 @@ fn work<'a, 't, P: Predict, J: Naming + Deeds + Send + Sync, G: RunGate, R: Thre
         |scope|
             requires { (units ≡ J.units) × (workers ≤ 16) × (workers ≡ J.workers) × (budget ≡ J.budget) × (workers ≤ length bells.now) }
         {
-            for number in 0..workers {
-                let share = Share {
-                    units,
-                    workers,
-                    worker: number,
-                };
-                let worker = Worker::new(share, budget);
-                let bell = &bells[number as usize];
-                if scope
-                    .spawn(
-                        move || -> Ended
-                            requires { J.workers ≤ length bells.now }
-                        { serve(rt, shared, bells, bell, gate, worker) },
-                    )
-                    .is_err()
-                {
-                    give_up(rt, shared, bells, share, budget);
-                }
-            }
+            start_all(scope, rt, shared, bells, gate, units, workers, budget);
         },
     );
+}
+
+/// Makes the thread of each worker.
+fn start_all<
+    'a,
+    's,
+    't: 's,
+    P: Predict,
+    J: Naming + Deeds + Send + Sync,
+    G: RunGate,
+    R: Threads + Wait + Sync,
+>(
+    scope: &Scope<'s, &'t ()>,
+    rt: &'t R,
+    shared: &'t Mutex<Desk<'a, P, J>>,
+    bells: &'t [Bell],
+    gate: &'t G,
+    units: u32,
+    workers: u32,
+    budget: u32,
+)
+    requires units { units ≡ J.units }
+    requires workers { (workers ≤ 16) × (workers ≡ J.workers) }
+    requires budget { budget ≡ J.budget }
+    requires bells { workers ≤ length bells.now }
+{
+    let patience = Patience::of(rt, workers);
+    for worker in 0..workers {
+        let share = Share {
+            units,
+            workers,
+            worker,
+        };
+        let _ = start(scope, rt, shared, bells, gate, patience, share, budget);
+    }
+}
+
+/// Makes the thread of a worker. Where it cannot be made, the run is stopped.
+///
+/// # Errors
+///
+/// That the run was stopped.
+fn start<
+    'a,
+    's,
+    't: 's,
+    P: Predict,
+    J: Naming + Deeds + Send + Sync,
+    G: RunGate,
+    R: Threads + Wait + Sync,
+>(
+    scope: &Scope<'s, &'t ()>,
+    rt: &'t R,
+    shared: &'t Mutex<Desk<'a, P, J>>,
+    bells: &'t [Bell],
+    gate: &'t G,
+    patience: Patience,
+    share: Share,
+    budget: u32,
+) -> Result<JoinHandle<Ended>, Stopped>
+    requires share { IsShareOf J.units J.workers share }
+    requires budget { budget ≡ J.budget }
+    requires bells { J.workers ≤ length bells.now }
+{
+    let worker = Worker::new(share, budget);
+    let bell = &bells[share.worker as usize];
+    match scope.spawn(
+        move || -> Ended
+            requires { J.workers ≤ length bells.now }
+        { serve(rt, shared, bells, bell, gate, patience, worker) },
+    ) {
+        Ok(thread) => Ok(thread),
+        Err(_) => Err(give_up(rt, shared, bells, patience, share, budget)),
+    }
 }
 
 /// Notes that the thread of a worker could not be made, and rings for all others.
@@ -220,6 +277,7 @@ fn give_up<P: Predict, J: Naming + Deeds, R: Wait>(
     rt: &R,
     shared: &Mutex<Desk<'_, P, J>>,
     bells: &[Bell],
+    patience: Patience,
     share: Share,
     budget: u32,
 ) -> Stopped
@@ -227,7 +285,7 @@ fn give_up<P: Predict, J: Naming + Deeds, R: Wait>(
     requires budget { budget ≡ J.budget }
     requires bells { J.workers ≤ length bells.now }
 {
-    let mut held = take(rt, shared);
+    let mut held = take(rt, shared, patience);
     held.desk.stop();
     let_go_stopped(held, bells, share, budget)
 }

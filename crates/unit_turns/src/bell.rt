@@ -6,10 +6,10 @@ use std::{hint, thread};
 
 /// How often a worker looks whether its bell has rung before it leaves its core to another thread for a
 /// moment.
-const LOOKS: u32 = 30;
+const LOOKS: u32 = 200;
 
 /// How often it does so before it sleeps.
-const ROUNDS: u32 = 2_000;
+const ROUNDS: u32 = 50;
 
 /// What can be rung. Nothing is known of `is_rung` but that `ring` establishes it, so a contract that states it, of code
 /// that is proved for each implementation, says that this bell was rung.

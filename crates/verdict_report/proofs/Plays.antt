@@ -1,5 +1,4 @@
--- A machine in the middle of a script: it is what `play` says of the events so far, and its history is
--- what was allowed of them. An event more is one step of the fold.
+-- A machine in the middle of a script: it is what `play` says of the events so far. An event more is one step of the fold.
 use Rattle.std.proofs.Common.{◌≡◌, ℕ, suc, ◌+◌, ◌<◌, List, [], ◌∷◌, ◌++◌, inl, inr, length, take, get_or, Option, Some, None, Result, Ok, Err, OnOk, OnErr, refl, sym, ap, ◌∙◌, arith, add-one, length-append, length-take-le}
 use Rattle.std.specs.List.{enumerate_from}
 use Rattle.std.specs.Prelude.{flat_map}
@@ -15,7 +14,7 @@ use Rattle.machine_model.specs.declared.event.Refused.{Refused}
 use Rattle.machine_model.specs.declared.event.Refused.TheVariants as refused
 use Rattle.sequencer.specs.Machines.{MachineView, Applies, IsAnswered, SameRing, state, units_of}
 use Rattle.verdict_report.specs.Playing.{played_so_far}
-use Rattle.verdict_report.specs.ReplayText.{allowed, answer_line, answers_text}
+use Rattle.verdict_report.specs.ReplayText.{answer_line, answers_text}
 
 -- an answer as `answered` takes it: what it leaves where the event is allowed, and else what was before
 pub answered_by : (result : Result (Unit {0}) Refused) (refusal : Option Refused) (taken old new : State) (count more : ℕ) (answers : List (Result (Unit {0}) Refused))
@@ -57,23 +56,6 @@ pub answers_more : (before : List ℕ) (answers : List (Result (Unit {0}) Refuse
 answers_more before answers said number is =
     flat_map_more answer_line before (enumerate_from 1 answers) (number, said)
     ∙ ap (λ lines. before ++ flat_map answer_line lines) (enumerated_more 1 number answers said (omega (arith, is)))
-
--- one more event with its answer
-allowed_more : (events : List Event) (answers : List (Result (Unit {0}) Refused)) (e : Event) (said : Result (Unit {0}) Refused)
-    → length answers ≡ length events → allowed (events ++ e ∷ []) (answers ++ said ∷ []) ≡ allowed events answers ++ allowed (e ∷ []) (said ∷ [])
-allowed_more [] [] e said h = refl
-allowed_more [] (a ∷ answers) e said h = absurd (omega (arith, h))
-allowed_more (x ∷ events) [] e said h = absurd (omega (arith, h))
-allowed_more (x ∷ events) (Ok done ∷ answers) e said h = ap (λ t. x ∷ t) (allowed_more events answers e said (omega (arith, h)))
-allowed_more (x ∷ events) (Err why ∷ answers) e said h = allowed_more events answers e said (omega (arith, h))
-
-pub allowed_so_far : (events : List Event) (i : ℕ) (d : Event) (answers : List (Result (Unit {0}) Refused)) (said : Result (Unit {0}) Refused)
-    → i < length events → length answers ≡ i
-    → allowed (take (i + 1) events) (answers ++ said ∷ []) ≡ allowed (take i events) answers ++ allowed (get_or events i d ∷ []) (said ∷ [])
-allowed_so_far events i d answers said within counted =
-    let taken : length (take i events) ≡ i = length-take-le i events (omega (arith, within)) in
-    ap (λ (es : List Event). allowed es (answers ++ said ∷ [])) (take_more events i d within)
-    ∙ allowed_more (take i events) answers (get_or events i d) said (counted ∙ sym taken)
 
 -- the step of an event from a machine with the program and the units of the one at the start
 pub steps_on : (start m : MachineView) (answers : List (Result (Unit {0}) Refused)) (played : Played) (e : Event) → SameRing start m → played_so_far m answers ≡ played

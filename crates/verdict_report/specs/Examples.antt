@@ -1,22 +1,21 @@
 -- Worked examples of `seq` and `replay`, computed by the checker: from the texts to the bytes and the
 -- status.
-use Rattle.std.specs.Prelude.{◌≡◌, ℕ, List, [], ◌∷◌, ◌++◌, None, Some, Result, codes, flat_map}
+use Rattle.std.specs.Prelude.{◌≡◌, ℕ, List, [], ◌∷◌, ◌++◌, Err, codes, flat_map}
 use Rattle.std.specs.Fmt.{digits}
 use Rattle.std.proofs.Common.{refl, ap}
 use Rattle.mips_instructions.specs.Words.{address, index_of}
 use Rattle.mips_plain.specs.MemoryMap.{region, effective}
 use Rattle.mips_plain.specs.PlainMachine.{plain, reads, fetch}
 use Rattle.task_descriptor.specs.Listing.{Listing}
-use Rattle.annotated_asm.specs.declared.fault.AsmFault.{AsmFault}
-use Rattle.annotated_asm.specs.Examples.{count_text, count_is, unknown_word}
-use Rattle.mark_checker.specs.Rules.{each}
+use Rattle.annotated_asm.specs.Examples.{count, count_text, count_is, unknown_word}
 use Rattle.machine_model.specs.Answer.{least}
+use Rattle.machine_model.specs.declared.event.Event.TheVariants.{Assign, Exec, Transfer}
+use Rattle.event_script.specs.EventScript.{script_of}
+use Rattle.event_script.specs.declared.fault.ScriptFault.TheVariants.{Line, TaskName}
 use Rattle.machine_model.specs.Examples.{unlisted_jump, jump_unlisted}
-use Rattle.jobs.specs.declared.job.ReplayEmit.TheVariants as emit
 use Rattle.report_texts.specs.OutputTexts.{Report}
-use Rattle.report_texts.specs.JudgedTexts.{goes_on, program_judged}
 use Rattle.report_texts.specs.SeqText.{seq_read, seq_text}
-use Rattle.verdict_report.specs.ReplayText.{events_report, script_report, replay_text}
+use Rattle.verdict_report.specs.ReplayText.{answers_report, script_refused}
 
 -- lines, each with its LF
 abbrev lines : List (List ℕ) → List ℕ
@@ -38,65 +37,29 @@ pub no_program : seq_text 20 (codes "foo $8") ≡ report (codes "program refused
 unfolding digits
 no_program = ap (seq_read 20) unknown_word
 
--- the certificate of the program that counts to four
-abbrev count_certificate : List ℕ
-count_certificate = lines (
-    codes "cert 1"
-    ∷ codes "task A" ∷ codes "0 00000700" ∷ codes "1 00000600" ∷ codes "2 00000400" ∷ codes "3 00000000"
-    ∷ codes "task B" ∷ codes "4 00000000" ∷ codes "5 00000000"
-    ∷ [])
-
--- that program and its certificate, with a script
-abbrev replayed : ℕ → List (List ℕ) → Report
-replayed units script = replay_text emit.Answers units None (codes "count.s") count_text count_certificate (lines script)
-
--- what is left to be computed once the program text is read
-abbrev counting : ℕ → List (List ℕ) → Result Listing AsmFault → Report
-counting units script read = goes_on (script_report emit.Answers units None (codes "count.s") count_text (lines script)) (program_judged read count_certificate)
-
--- the second unit waits for register 8 until it has been transferred
-abbrev waiting : List (List ℕ)
-waiting = codes "assign A" ∷ codes "assign A" ∷ codes "exec 1" ∷ codes "exec 0" ∷ codes "transfer 1 $8" ∷ codes "exec 1" ∷ []
-
-pub count_waits : replayed 2 waiting
+-- The answers to a script: that the second unit waits for register 8 until it has been transferred.
+pub count_waits : answers_report 2 count (Assign 0 ∷ Assign 0 ∷ Exec 1 ∷ Exec 0 ∷ Transfer 1 8 ∷ Exec 1 ∷ [])
     ≡ report (codes "1 ok" ∷ codes "2 ok" ∷ codes "3 refused 6 Waiting $8" ∷ codes "4 ok" ∷ codes "5 ok" ∷ codes "6 ok" ∷ codes "retired 0 c 0 h 1" ∷ codes "running" ∷ []) 0
-unfolding digits each address index_of region effective least
-count_waits = ap (counting 2 waiting) count_is
+unfolding digits address index_of region effective least
+count_waits = refl
 
--- the first three of these events
-pub count_until : replay_text emit.Answers 2 (Some 3) [] count_text count_certificate (lines waiting)
-    ≡ report (codes "1 ok" ∷ codes "2 ok" ∷ codes "3 refused 6 Waiting $8" ∷ codes "retired 0 c 0 h 0" ∷ codes "running" ∷ []) 0
-unfolding digits each address index_of region effective least
-count_until = ap (λ (r : Result Listing AsmFault). goes_on (script_report emit.Answers 2 (Some 3) [] count_text (lines waiting)) (program_judged r count_certificate)) count_is
+pub no_events : answers_report 2 count [] ≡ report (codes "retired 0 c 0 h 0" ∷ codes "running" ∷ []) 0
+unfolding digits address index_of region effective least
+no_events = refl
 
-pub no_events : replayed 2 [] ≡ report (codes "retired 0 c 0 h 0" ∷ codes "running" ∷ []) 0
-unfolding digits each address index_of region effective least
-no_events = ap (counting 2 []) count_is
+-- a script is refused for the first line that spells no event, or for a name that no task has
+pub no_position : script_of count (lines (codes "exec" ∷ [])) ≡ Err (Line 1)
+no_position = refl
 
-pub no_position : replayed 2 (codes "exec" ∷ []) ≡ report (codes "script refused: 1 Line 1" ∷ []) 1
-unfolding digits each
-no_position = ap (counting 2 (codes "exec" ∷ [])) count_is
+pub no_task : script_of count (lines (codes "assign C" ∷ [])) ≡ Err (TaskName 1)
+no_task = refl
 
-pub no_task : replayed 2 (codes "assign C" ∷ []) ≡ report (codes "script refused: 2 TaskName 1" ∷ []) 1
-unfolding digits each
-no_task = ap (counting 2 (codes "assign C" ∷ [])) count_is
-
--- without register 9 in the mask of the instruction that writes it
-abbrev lacking_certificate : List ℕ
-lacking_certificate = lines (
-    codes "cert 1"
-    ∷ codes "task A" ∷ codes "0 00000700" ∷ codes "1 00000400" ∷ codes "2 00000400" ∷ codes "3 00000000"
-    ∷ codes "task B" ∷ codes "4 00000000" ∷ codes "5 00000000"
-    ∷ [])
-
--- what the rules find comes before the script
-pub findings_first : replay_text emit.Answers 2 None [] count_text lacking_certificate (codes "exec")
-    ≡ report (codes "A 1 rule 3 $9" ∷ codes "refused 1" ∷ []) 1
-unfolding digits each
-findings_first = ap (λ (r : Result Listing AsmFault). goes_on (script_report emit.Answers 2 None [] count_text (codes "exec")) (program_judged r lacking_certificate)) count_is
+pub line_refused : script_refused (Line 1) ≡ report (codes "script refused: 1 Line 1" ∷ []) 1
+unfolding digits
+line_refused = refl
 
 -- a run that ends at an address that no task lists
-pub jump_is_unlisted : events_report emit.Answers 1 [] [] unlisted_jump jump_unlisted
+pub jump_is_unlisted : answers_report 1 unlisted_jump jump_unlisted
     ≡ report (codes "1 ok" ∷ codes "2 ok" ∷ codes "3 ok" ∷ codes "4 ok" ∷ codes "5 refused 12 Unfinished $31" ∷ codes "6 ok" ∷ codes "7 refused 14 NotListed" ∷ codes "8 ok" ∷ codes "9 refused 1 Ended" ∷ codes "retired 0 c 0 h 3" ∷ codes "unlisted 00400010" ∷ []) 1
 unfolding digits address index_of region effective least
 jump_is_unlisted = refl

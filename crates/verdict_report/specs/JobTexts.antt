@@ -7,9 +7,9 @@ use Rattle.report_texts.specs.OutputTexts.{Report}
 use Rattle.report_texts.specs.SeqText.{seq_text}
 use Rattle.report_texts.specs.PrintText.{print_text}
 use Rattle.report_texts.specs.CheckText.{check_text}
-use Rattle.verdict_report.specs.ReplayText.{replay_text}
+use Rattle.verdict_report.specs.ReplayText.{IsReplayText}
 use Rattle.verdict_report.specs.RunText.{IsRunText}
-use Rattle.verdict_report.specs.CurveText.{IsNamedCurveText}
+use Rattle.verdict_report.specs.CurveText.{IsCurveText}
 use Rattle.verdict_report.specs.Writing.{Begins}
 use Rattle.report_texts.specs.AnnotateText.{IsAnnotateReport}
 use Rattle.report_texts.specs.CertificateTexts.{OfCertificate}
@@ -20,8 +20,8 @@ use Rattle.jobs.specs.declared.job.Job.{Job}
 use Rattle.jobs.specs.declared.job.Job.TheVariants.{Seq, Print, Annotate, Explain, Check, Replay, ReplayStrictly, Run, Curve, Demonstrate}
 use Rattle.jobs.specs.declared.job.Texts.{Texts}
 
--- what a job may write for its texts; how many threads there are does not matter. With the least certificate
--- it is what the job writes with the text of `annotate --emit keep` in its place
+-- what a job may write for its texts, and the status; how many threads there are does not matter. Where the form is this
+-- program's own, the status and what is written of is known, and not its bytes. With the least certificate it is what the job writes with the text of `annotate --emit keep` in its place
 abbrev pub IsReportOf : Job → Texts → Report → Type 0
 IsReportOf (Seq budget) texts report = report ≡ seq_text budget texts.program.items
 IsReportOf Print texts report = report ≡ print_text texts.program.items
@@ -32,15 +32,15 @@ IsReportOf (Explain name certificate script warnings format colors) texts report
 IsReportOf (Check source workers) texts report =
     OfCertificate source texts.program.items texts.certificate (λ certificate. report ≡ check_text texts.program.items certificate)
 IsReportOf (Replay source units emit until) texts report =
-    OfCertificate source texts.program.items texts.certificate (λ certificate. report ≡ replay_text emit units until (string_bytes texts.name) texts.program.items certificate texts.script.items)
+    OfCertificate source texts.program.items texts.certificate (λ certificate. IsReplayText emit units until texts.program.items certificate texts.script.items report)
 IsReportOf (ReplayStrictly source units) texts report =
     OfCertificate source texts.program.items texts.certificate (λ certificate. report ≡ strict_text units texts.program.items certificate texts.script.items)
 IsReportOf (Run source schedule units workers budget predict emit) texts report =
     OfCertificate source texts.program.items texts.certificate (λ certificate.
-    IsRunText schedule units budget predict emit (string_bytes texts.name) texts.program.items certificate report)
+    IsRunText schedule units budget predict emit texts.program.items certificate report)
 IsReportOf (Curve source units budget predict emit) texts report =
     OfCertificate source texts.program.items texts.certificate (λ certificate.
-    IsNamedCurveText units budget predict emit (string_bytes texts.name) texts.program.items certificate report)
+    IsCurveText units budget predict texts.program.items certificate report)
 IsReportOf (Demonstrate units steps emit) texts report = IsDemonstrateReport units steps emit texts.program.items report
 
 -- a job is done: a report of it was added to what the writer holds, and the status is its

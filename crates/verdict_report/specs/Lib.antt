@@ -3,7 +3,6 @@ pub mod Writing
 pub mod MachineText
 pub mod ReplayText
 pub mod RunText
-pub mod CurveCaption
 pub mod CurveText
 pub mod CurveProgress
 pub mod JobTexts

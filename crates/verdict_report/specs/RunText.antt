@@ -1,32 +1,14 @@
--- The text of `run`: the result of a run by threads or in steps. Which run by threads it is depends on the threads;
--- each is a list of allowed events. A run in steps is that of the schedule.
+-- What `run` writes: the result of a run by threads or in steps. Which run by threads it is depends on the threads;
+-- each is a list of allowed events. A run in steps is that of the schedule. In another form than the report and the
+-- script only the run and the status are known.
 use Rattle.std.specs.Prelude.{◌≡◌, ◌↔◌, ◌≤◌, ℕ, List, [], ◌∷◌, ◌++◌, Option, Some, None, Ok, length, codes}
-use Rattle.std.specs.Fmt.{decimal}
 use Rattle.task_descriptor.specs.Listing.{Listing}
 use Rattle.machine_model.specs.Machine.{State}
 use Rattle.machine_model.specs.Replay.{Replays}
-use Rattle.machine_model.specs.Claims.{count_c}
 use Rattle.machine_model.specs.declared.event.Event.{Event}
 use Rattle.machine_model.specs.declared.event.Standing.TheVariants.{Running}
 use Rattle.event_script.specs.EventScript.{script_of}
 use Rattle.event_script.specs.ScriptText.{script_text}
-use Rattle.task_lives.specs.Lives.{lives_of}
-use Rattle.task_lives.specs.SummaryText.{summary_text}
-use Rattle.run_picture.specs.Picture.{ended_picture_text}
-use Rattle.step_picture.specs.StepPicture.{step_picture_text}
-use Rattle.step_picture.specs.PredictorText.{predictor_text}
-use Rattle.event_json.specs.Timeline.{timeline_text}
-use Rattle.event_json.specs.declared.clock.Clock.{Clock}
-use Rattle.event_json.specs.declared.clock.Clock.TheVariants as clock
-use Rattle.event_trace.specs.Entries.{places_of}
-use Rattle.event_trace.specs.Trace.{trace_text}
-use Rattle.wait_table.specs.TableText.{waits_text}
-use Rattle.unit_waits.specs.Waveform.{waveform_text}
-use Rattle.event_json.specs.declared.source.EventSource.{EventSource}
-use Rattle.event_json.specs.declared.source.EventSource.TheVariants as source
-use Rattle.event_json.specs.Json.{json_text}
-use Rattle.event_json.specs.declared.last_line.LastLine.{LastLine}
-use Rattle.event_json.specs.declared.last_line.LastLine.TheVariants as last_line
 use Rattle.threaded_runner.specs.Reports.{AreLate}
 use Rattle.threaded_runner.specs.declared.report.How.{How}
 use Rattle.threaded_runner.specs.declared.report.How.TheVariants.{Ended, OutOfBudget}
@@ -41,7 +23,6 @@ use Rattle.jobs.specs.declared.job.RunEmit.{RunEmit}
 use Rattle.jobs.specs.declared.job.RunEmit.TheVariants as emit
 use Rattle.report_texts.specs.OutputTexts.{Report, words_text}
 use Rattle.report_texts.specs.JudgedTexts.{Judgement, refused, accepted, judgement}
-use Rattle.strict_replay.specs.ValuedScript.{valued_script}
 use Rattle.verdict_report.specs.MachineText.{machine_text, standing_status}
 
 -- a run: the events that were applied, what they left, how it ended, and in how many steps, if it went in
@@ -86,60 +67,21 @@ abbrev pub ending_status : How → State → ℕ
 ending_status Ended s = standing_status s.outcome
 ending_status OutOfBudget s = 3
 
--- how many steps a run took, if it went in steps, and how many instructions retired in them
-abbrev pub steps_text : Option ℕ → State → List ℕ
-steps_text None s = []
-steps_text (Some count) s = codes "steps " ++ (decimal count ++ (codes ", retired instructions " ++ (decimal (count_c s) ++ 10 ∷ [])))
-
--- the clock of a run: its steps, if it went in steps, or else its events
-abbrev pub clock_of : Option ℕ → Clock
-clock_of None = clock.Events
-clock_of (Some count) = clock.Steps
-
--- who chose its events: its units, in steps, or else each with a thread
-abbrev pub source_of : Option ℕ → EventSource
-source_of None = source.Threads
-source_of (Some count) = source.Steps
-
--- what the last line in JSON states: how a run that has ended stands, or that it was out of budget
-abbrev pub last_line_of : How → LastLine
-last_line_of Ended = last_line.AsItStands
-last_line_of OutOfBudget = last_line.OutOfBudget
-
--- what a picture by events says of the predictor
-abbrev pub predicted_by : Prediction → List ℕ
-predicted_by predict = codes "predictor: " ++ predictor_text predict
-
--- what is written for a run: its end; its history as a script, which is read as that history; or the summary of
--- the tasks that it assigned, and its steps; or a picture of its history, by events or by steps; or the trace of
--- its history, by the lines of the program text, or as lines of JSON; or the table of its waits, its waveform or
--- its timeline
-abbrev pub IsWrittenOf : RunEmit → (units : ℕ) → Prediction → (name text : List ℕ) → Listing → Run → List ℕ → Type 0
-IsWrittenOf emit.Report units predict name text p run bytes = bytes ≡ ending_text run.how run.state
-IsWrittenOf emit.Script units predict name text p run bytes = (bytes ≡ script_text p run.history) × (script_of p bytes ≡ Ok run.history)
-IsWrittenOf emit.ScriptWithValues units predict name text p run bytes = bytes ≡ valued_script p units run.history
-IsWrittenOf emit.Summary units predict name text p run bytes = bytes ≡ summary_text p (lives_of units run.history) ++ steps_text run.steps run.state
-IsWrittenOf emit.Picture units predict name text p run bytes = bytes ≡ ended_picture_text name (predicted_by predict) p units (Some run.state.outcome) run.history
-IsWrittenOf emit.StepPicture units predict name text p run bytes = bytes ≡ step_picture_text name p units predict run.state.outcome run.history
-IsWrittenOf emit.Trace units predict name text p run bytes = bytes ≡ trace_text p (places_of text) units run.history
-IsWrittenOf emit.Json units predict name text p run bytes = bytes ≡ json_text name (source_of run.steps) p (places_of text) units run.history (last_line_of run.how)
-IsWrittenOf emit.Waits units predict name text p run bytes = bytes ≡ waits_text p (places_of text) units run.history
-IsWrittenOf emit.Waveform units predict name text p run bytes = bytes ≡ waveform_text p units run.history
-IsWrittenOf emit.Timeline units predict name text p run bytes = bytes ≡ timeline_text p units (clock_of run.steps) run.history
-
--- the report of some run of a program of this name in which nothing is found, and which this text spells
-pub record IsRunReport (schedule : Schedule) (units budget : ℕ) (predict : Prediction) (emitted : RunEmit) (name text : List ℕ) (p : Listing) (report : Report) : Type 0 where
+-- the report of some run of a program in which nothing is found: how it ended, if the report is asked for; its events, if
+-- the script is asked for, which is read as these events
+pub record IsRunReport (schedule : Schedule) (units budget : ℕ) (predict : Prediction) (emitted : RunEmit) (p : Listing) (report : Report) : Type 0 where
   pub run : Run
   pub right : IsRunOf p units budget run
   pub scheduled : IsScheduled schedule p units budget predict run
-  pub written : IsWrittenOf emitted units predict name text p run report.bytes
+  pub ended : emitted ≡ emit.Report → report.bytes ≡ ending_text run.how run.state
+  pub script : emitted ≡ emit.Script → (report.bytes ≡ script_text p run.history) × (script_of p report.bytes ≡ Ok run.history)
   pub answered : report.status ≡ ending_status run.how run.state
 
-abbrev pub IsRunJudged : Schedule → (units budget : ℕ) → Prediction → RunEmit → (name text : List ℕ) → Judgement → Report → Type 0
-IsRunJudged schedule units budget predict emitted name text (refused said) report = report ≡ said
-IsRunJudged schedule units budget predict emitted name text (accepted p) report = IsRunReport schedule units budget predict emitted name text p report
+abbrev pub IsRunJudged : Schedule → (units budget : ℕ) → Prediction → RunEmit → Judgement → Report → Type 0
+IsRunJudged schedule units budget predict emitted (refused said) report = report ≡ said
+IsRunJudged schedule units budget predict emitted (accepted p) report = IsRunReport schedule units budget predict emitted p report
 
--- what `run` may write for a program text, the name of the program and the text of its certificate
-abbrev pub IsRunText : Schedule → (units budget : ℕ) → Prediction → RunEmit → (name program certificate : List ℕ) → Report → Type 0
-IsRunText schedule units budget predict emitted name program certificate report =
-    IsRunJudged schedule units budget predict emitted name program (judgement program certificate) report
+-- what `run` may write for a program text and the text of its certificate
+abbrev pub IsRunText : Schedule → (units budget : ℕ) → Prediction → RunEmit → (program certificate : List ℕ) → Report → Type 0
+IsRunText schedule units budget predict emitted program certificate report =
+    IsRunJudged schedule units budget predict emitted (judgement program certificate) report

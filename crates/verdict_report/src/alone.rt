@@ -1,6 +1,5 @@
 //! The jobs that may take threads, done on the caller's: they need no runtime.
 ghost use Rattle.std.specs.Prelude.{◌≡◌, IfOk};
-ghost use Rattle.std.specs.String.{string_bytes};
 ghost use Rattle.jobs.specs.declared.job.Schedule.TheVariants.{Steps};
 ghost use Rattle.report_texts.specs.CertificateTexts.{OfCertificate};
 ghost use Rattle.report_texts.specs.CheckText.{check_text};
@@ -60,7 +59,7 @@ pub fn run_alone(
     texts: &Texts,
 ) -> Result<JobReport, AllocError>
     ensures { IfOk result (λ report. OfCertificate source texts.now.program.items texts.now.certificate (λ certificate.
-        IsRunText Steps steps.now.units steps.now.budget steps.now.predict.now steps.now.emit (string_bytes texts.now.name) texts.now.program.items certificate report)) }
+        IsRunText Steps steps.now.units steps.now.budget steps.now.predict.now steps.now.emit texts.now.program.items certificate report)) }
 {
     match judge(alloc, source, texts)? {
         Judged::Refused(report) => Ok(report),
@@ -79,7 +78,7 @@ fn run_accepted(
     text: &[u8],
     accepted: &Accepted,
 ) -> Result<JobReport, AllocError>
-    ensures { IfOk result (λ report. IsRunReport Steps steps.now.units steps.now.budget steps.now.predict.now steps.now.emit name.now text.now accepted.now.program report) }
+    ensures { IfOk result (λ report. IsRunReport Steps steps.now.units steps.now.budget steps.now.predict.now steps.now.emit accepted.now.program report) }
 {
     let ran = run_in_steps(alloc, steps.units, steps.budget, steps.predict, accepted)?;
     report_of_run(

@@ -1,12 +1,9 @@
 //! The job `curve`.
 ghost use Rattle.std.specs.Prelude.{◌≡◌, ◌≤◌, IfOk, true, false};
 ghost use Rattle.std.specs.Io.KnownBytes.{Appends, Keeps};
-ghost use Rattle.std.specs.String.{string_bytes};
 ghost use Rattle.speed_curve.specs.Curve.{AreRows};
-ghost use Rattle.speed_curve.specs.CurvePicture.{curve_text};
 ghost use Rattle.verdict_report.specs.RunText.{predictor_of as predictor_by};
-ghost use Rattle.verdict_report.specs.CurveCaption.{caption_text};
-ghost use Rattle.verdict_report.specs.CurveText.{IsCurveReport, IsNamedCurveText, end_status as end_status_of, rows_status as rows_status_of, rows_text as rows_text_of};
+ghost use Rattle.verdict_report.specs.CurveText.{IsCurveReport, IsCurveText, end_status as end_status_of, rows_status as rows_status_of};
 ghost use Rattle.verdict_report.specs.CurveProgress.{IsSaidIf, curve_lines, run_lines};
 ghost use Rattle.verdict_report.specs.Writing.{Begins};
 ghost use Rattle.report_texts.specs.CertificateTexts.{OfCertificate};
@@ -39,7 +36,7 @@ pub fn curve(
     texts: &Texts,
 ) -> Result<JobReport, AllocError>
     ensures { IfOk result (λ report. OfCertificate source texts.now.program.items texts.now.certificate (λ certificate.
-        IsNamedCurveText units budget predict.now emit (string_bytes texts.now.name) texts.now.program.items certificate report)) }
+        IsCurveText units budget predict.now texts.now.program.items certificate report)) }
 {
     let mut nobody = Vec::new(alloc);
     let told = curve_heard(
@@ -80,7 +77,7 @@ pub fn curve_told<E: Write>(
     errors: &mut E,
 ) -> Result<ToldReport, AllocError>
     ensures report { IfOk result (λ told. OfCertificate source texts.now.program.items texts.now.certificate (λ certificate.
-        IsNamedCurveText units budget predict.now emit (string_bytes texts.now.name) texts.now.program.items certificate told.report)) }
+        IsCurveText units budget predict.now texts.now.program.items certificate told.report)) }
     ensures said { IfOk result (λ told. OfCertificate source texts.now.program.items texts.now.certificate (λ certificate.
         told.is_told ≡ true → Appends (E.contents errors.old) (E.contents errors.new)
         (curve_lines name.now units (judgement texts.now.program.items certificate)))) }
@@ -105,7 +102,7 @@ fn curve_heard<E: Write>(
     errors: &mut E,
 ) -> Result<ToldReport, AllocError>
     ensures report { IfOk result (λ told. OfCertificate source texts.now.program.items texts.now.certificate (λ certificate.
-        IsNamedCurveText units budget predict.now emit (string_bytes texts.now.name) texts.now.program.items certificate told.report)) }
+        IsCurveText units budget predict.now texts.now.program.items certificate told.report)) }
     ensures said { IfOk result (λ told. OfCertificate source texts.now.program.items texts.now.certificate (λ certificate.
         told.is_told ≡ true → Appends (E.contents errors.old) (E.contents errors.new)
         (curve_lines name.now units (judgement texts.now.program.items certificate)))) }
@@ -138,7 +135,7 @@ fn curve_of_accepted<E: Write>(
     name: &str,
     errors: &mut E,
 ) -> Result<ToldReport, AllocError>
-    ensures report { IfOk result (λ told. IsCurveReport units budget predict.now emit title.now accepted.now.program told.report) }
+    ensures report { IfOk result (λ told. IsCurveReport units budget predict.now accepted.now.program told.report) }
     ensures told { IfOk result (λ told. IsSaidIf asked told.is_told (run_lines name.now units units)
         (E.contents errors.old) (E.contents errors.new)) }
     ensures begun { asked ≡ true → Begins (E.contents errors.old) (E.contents errors.new) (run_lines name.now units units) }
@@ -159,29 +156,16 @@ fn rows_text(
     predict: &Prediction,
     emit: CurveEmit,
     rows: &[Row],
-) -> Result<Vec<u8>, AllocError>
-    ensures { IfOk result (λ bytes. bytes.items ≡ rows_text_of (caption_text title.now budget predict.now) emit rows.now) }
-{
+) -> Result<Vec<u8>, AllocError> {
     match emit {
         CurveEmit::Table => write(alloc, rows),
-        CurveEmit::Picture => picture(alloc, title, budget, predict, rows),
+        CurveEmit::Picture => {
+            let mut caption = String::new(alloc);
+            write_caption(&mut caption, title, budget.get(), predict)?;
+            let picture = draw(alloc, caption.as_str(), rows)?;
+            Ok(picture.into_bytes())
+        }
     }
-}
-
-// The rows as a picture, with a line above it.
-fn picture(
-    alloc: Global,
-    title: &str,
-    budget: Budget,
-    predict: &Prediction,
-    rows: &[Row],
-) -> Result<Vec<u8>, AllocError>
-    ensures { IfOk result (λ bytes. bytes.items ≡ curve_text (caption_text title.now budget predict.now) rows.now) }
-{
-    let mut caption = String::new(alloc);
-    write_caption(&mut caption, title, budget.get(), predict)?;
-    let picture = draw(alloc, caption.as_str(), rows)?;
-    Ok(picture.into_bytes())
 }
 
 // Rows, and whether all lines about their runs were written.

@@ -1,25 +1,13 @@
 //! The text of how a machine of units stands.
-ghost use Rattle.std.specs.Prelude.{◌≡◌, ◌++◌, ◌<◌, ◌^◌, length, IfOk, OnOk, Some};
+ghost use Rattle.std.specs.Prelude.{◌≡◌, ◌++◌, OnOk};
 ghost use Rattle.std.specs.String.{string_bytes};
 ghost use Rattle.sequencer.specs.Machines.{state, units_of};
-ghost use Rattle.task_lives.specs.Lives.{lives_of};
-ghost use Rattle.task_lives.specs.SummaryText.{summary_text};
-ghost use Rattle.run_picture.specs.Picture.{ended_picture_text};
-ghost use Rattle.event_json.specs.Timeline.{timeline_text};
-ghost use Rattle.event_trace.specs.Entries.{places_of};
-ghost use Rattle.event_trace.specs.Trace.{trace_text};
-ghost use Rattle.event_json.specs.Json.{json_text};
 ghost use Rattle.verdict_report.specs.MachineText.{machine_text, retired_text, standing_status, standing_text};
 
 use event_json::clock::Clock;
-use event_json::last_line::LastLine;
-use event_json::lines::lines;
-use event_json::source::EventSource;
 use event_json::timeline::timeline;
-use event_trace::trace::trace;
 use limits::ranges::Units;
-use machine_model::event::{Event, Standing};
-use mark_checker::accept::Accepted;
+use machine_model::event::Standing;
 use report_texts::plain_text::write_words;
 use run_picture::drawing::draw_ended;
 use sequencer::machine::Machine;
@@ -69,7 +57,6 @@ pub fn summary_of(
 ) -> Result<Vec<u8>, AllocError>
     requires over { machine.now.accepted.program ≡ program.now }
     requires units { units_of machine.now ≡ units }
-    ensures { IfOk result (λ bytes. bytes.items ≡ summary_text program.now (lives_of units machine.now.history)) }
 {
     histories_fit();
     let lives = lives_of_runs(alloc, machine.history(), units.get())?;
@@ -88,8 +75,6 @@ pub fn picture_of(
 ) -> Result<Vec<u8>, AllocError>
     requires over { machine.now.accepted.program ≡ program.now }
     requires units { units_of machine.now ≡ units }
-    ensures { IfOk result (λ bytes. bytes.items
-        ≡ ended_picture_text name.now said.now program.now units (Some (state machine.now).outcome) machine.now.history) }
 {
     histories_fit();
     let picture = draw_ended(
@@ -114,55 +99,10 @@ pub fn timeline_of(
 ) -> Result<Vec<u8>, AllocError>
     requires over { machine.now.accepted.program ≡ program.now }
     requires units { units_of machine.now ≡ units }
-    ensures { IfOk result (λ bytes. bytes.items ≡ timeline_text program.now units clock machine.now.history) }
 {
     histories_fit();
     let timeline = timeline(alloc, program, units.get(), clock, machine.history())?;
     Ok(timeline.into_bytes())
-}
-
-/// The trace of some events on a machine of `units` units at the start of an accepted program with this text.
-pub fn trace_of(
-    alloc: Global,
-    units: Units,
-    accepted: &Accepted,
-    program_text: &[u8],
-    events: &[Event],
-) -> Result<Vec<u8>, AllocError>
-    ensures { IfOk result (λ bytes. bytes.items
-        ≡ trace_text accepted.now.program (places_of program_text.now) units events.now) }
-{
-    let text = trace(alloc, accepted, units.get(), program_text, events)?;
-    Ok(text.into_bytes())
-}
-
-/// The trace of some events in JSON: an object on each line, of which the first gives the program this name, and the
-/// last states this about the end. The events of a run in steps are fewer than 2^31.
-pub fn lines_of(
-    alloc: Global,
-    units: Units,
-    name: &str,
-    source: EventSource,
-    accepted: &Accepted,
-    program_text: &[u8],
-    events: &[Event],
-    last: LastLine,
-) -> Result<Vec<u8>, AllocError>
-    requires room { source ≡ EventSource.Steps → length events.now < 2 ^ 31 }
-    ensures { IfOk result (λ bytes. bytes.items
-        ≡ json_text name.now source accepted.now.program (places_of program_text.now) units events.now last) }
-{
-    let text = lines(
-        alloc,
-        accepted,
-        name,
-        source,
-        units.get(),
-        program_text,
-        events,
-        last,
-    )?;
-    Ok(text.into_bytes())
 }
 
 /// The status of a run with this standing.

@@ -1,18 +1,14 @@
 //! The job `replay`.
 ghost use Rattle.std.specs.Prelude.{◌≡◌, ◌++◌, List, [], ◌∷◌, Result, IfOk, take};
-ghost use Rattle.std.specs.String.{string_bytes};
+ghost use Rattle.event_script.specs.EventScript.{script_of};
 ghost use Rattle.machine_model.specs.Answer.{play, play_event};
-ghost use Rattle.machine_model.specs.declared.event.Event.{Event};
 ghost use Rattle.machine_model.specs.declared.event.Refused.{Refused};
 ghost use Rattle.jobs.specs.declared.job.ReplayEmit.TheVariants as emit;
 ghost use Rattle.sequencer.specs.Machines.{SameRing, state, units_of};
-ghost use Rattle.event_trace.specs.Entries.{places_of};
 ghost use Rattle.report_texts.specs.CertificateTexts.{OfCertificate};
-ghost use Rattle.event_trace.specs.Ring.{ring_in};
-ghost use Rattle.strict_replay.specs.StandText.{stand_text};
 ghost use Rattle.verdict_report.specs.MachineText.{machine_text};
 ghost use Rattle.verdict_report.specs.Playing.{machine_emit, played_so_far};
-ghost use Rattle.verdict_report.specs.ReplayText.{allowed, answers_text, events_report, first_events, played_text, replay_text, script_report};
+ghost use Rattle.verdict_report.specs.ReplayText.{IsEventsReport, IsReplayText, IsScriptReport, answers_text, first_events};
 
 use crate::event_text::{refused_script, write_answers};
 use crate::machine_text::{picture_of, standing_status_of, summary_of, timeline_of, write_machine};
@@ -47,7 +43,7 @@ pub fn replay(
     texts: &Texts,
 ) -> Result<JobReport, AllocError>
     ensures { IfOk result (λ report. OfCertificate source texts.now.program.items texts.now.certificate (λ certificate.
-        report ≡ replay_text emit units until (string_bytes texts.now.name) texts.now.program.items certificate texts.now.script.items)) }
+        IsReplayText emit units until texts.now.program.items certificate texts.now.script.items report)) }
 {
     match judge(alloc, source, texts)? {
         Judged::Refused(report) => Ok(report),
@@ -79,7 +75,7 @@ fn replay_script(
     accepted: &Accepted,
     script: &[u8],
 ) -> Result<JobReport, AllocError>
-    ensures { IfOk result (λ report. report ≡ script_report emit units until name.now text.now script.now accepted.now.program) }
+    ensures { IfOk result (λ report. IsScriptReport emit units until accepted.now.program (script_of accepted.now.program script.now) report) }
 {
     match read(alloc, script, accepted.program()) {
         Ok(events) => {
@@ -118,7 +114,7 @@ fn replay_events(
     accepted: &Accepted,
     events: &[Event],
 ) -> Result<JobReport, AllocError>
-    ensures { IfOk result (λ report. report ≡ events_report emit units name.now text.now accepted.now.program events.now) }
+    ensures { IfOk result (λ report. IsEventsReport emit units accepted.now.program events.now report) }
 {
     match form_of(emit) {
         ReplayForm::Trace => trace_report(alloc, units, text, accepted, events),
@@ -137,7 +133,7 @@ fn trace_report(
     accepted: &Accepted,
     events: &[Event],
 ) -> Result<JobReport, AllocError>
-    ensures { IfOk result (λ report. report ≡ events_report emit.Trace units [] text.now accepted.now.program events.now) }
+    ensures { IfOk result (λ report. IsEventsReport emit.Trace units accepted.now.program events.now report) }
 {
     let (trace, standing) = trace_and_standing(alloc, accepted, units.get(), text, events)?;
     Ok(JobReport::new(trace.into_bytes(), standing_status_of(standing)))
@@ -152,7 +148,7 @@ fn lines_report(
     accepted: &Accepted,
     events: &[Event],
 ) -> Result<JobReport, AllocError>
-    ensures { IfOk result (λ report. report ≡ events_report emit.Json units name.now text.now accepted.now.program events.now) }
+    ensures { IfOk result (λ report. IsEventsReport emit.Json units accepted.now.program events.now report) }
 {
     let last = LastLine::AsItStands;
     let (lines, standing) = lines_and_standing(
@@ -178,7 +174,7 @@ fn machine_report(
     accepted: &Accepted,
     events: &[Event],
 ) -> Result<JobReport, AllocError>
-    ensures { IfOk result (λ report. report ≡ events_report (machine_emit form) units name.now text.now accepted.now.program events.now) }
+    ensures { IfOk result (λ report. IsEventsReport (machine_emit form) units accepted.now.program events.now report) }
 {
     let mut machine = Machine::with_units(alloc, accepted, units)?;
     let answers = play_events(alloc, &mut machine, events)?;
@@ -199,8 +195,7 @@ fn bytes_of(
 ) -> Result<Vec<u8>, AllocError>
     requires over { machine.now.accepted.program ≡ accepted.now.program }
     requires units { units_of machine.now ≡ units }
-    ensures { IfOk result (λ bytes. (events : List Event) → machine.now.history ≡ allowed events answers.now
-        → bytes.items ≡ played_text (machine_emit form) units name.now text.now accepted.now.program events (played_so_far machine.now answers.now)) }
+    ensures { IfOk result (λ bytes. machine_emit form ≡ emit.Answers → bytes.items ≡ answers_text answers.now ++ machine_text (state machine.now)) }
 {
     let program = accepted.program();
     match form {
@@ -233,10 +228,7 @@ fn state_of(
     text: &[u8],
     accepted: &Accepted,
     machine: &Machine<'_>,
-) -> Result<Vec<u8>, AllocError>
-    ensures { IfOk result (λ bytes. bytes.items ≡ machine_text (state machine.now)
-        ++ stand_text accepted.now.program (places_of text.now) (ring_in units (state machine.now)) (state machine.now)) }
-{
+) -> Result<Vec<u8>, AllocError> {
     let mut told = String::new(alloc);
     write_machine(&mut told, machine)?;
     let ring = Ring::of(machine, units.get());
@@ -252,10 +244,8 @@ fn play_events(
     events: &[Event],
 ) -> Result<Vec<Result<(), Refused>>, AllocError>
     requires start { played_so_far machine.old [] ≡ play machine.old.accepted.program (units_of machine.old) [] }
-    requires history { machine.old.history ≡ [] }
     ensures answers { IfOk result (λ answers.
         played_so_far machine.new answers.items ≡ play machine.old.accepted.program (units_of machine.old) events.now) }
-    ensures history { IfOk result (λ answers. machine.new.history ≡ allowed events.now answers.items) }
     ensures kept { SameRing machine.old machine.new }
 {
     let mut answers = Vec::with_capacity(alloc, events.len())?;
@@ -270,7 +260,6 @@ fn play_event_of(machine: &mut Machine<'_>, event: Event) -> Result<Result<(), R
     ensures answer { IfOk result (λ said. (answers : List (Result (Unit {0}) Refused)) →
         played_so_far machine.new (answers ++ said ∷ [])
         ≡ play_event machine.old.accepted.program (units_of machine.old) (played_so_far machine.old answers) event) }
-    ensures history { IfOk result (λ said. machine.new.history ≡ machine.old.history ++ allowed (event ∷ []) (said ∷ [])) }
     ensures kept { SameRing machine.old machine.new }
 {
     next_is_after();

@@ -1,29 +1,30 @@
 -- One text after the other.
 use Rattle.std.proofs.Common.{codes, ◌++◌}
+use Rattle.shown_names.specs.Shown.{shown}
 use Rattle.verdict_report.proofs.BeginsLemmas.{first, next}
 use Rattle.program_edge.proofs.told.write_folder.Goals as goal
 
 pub returns-in_err-write_path-clause-part : goal.returns-in_err-write_path-clause-part
 returns-in_err-write_path-clause-part g c =
-    first _ _ (codes "file " ++ c.args.path.now) (codes ": is a directory; name its files, as in " ++ (c.args.path.now ++ codes "/*.s"))
+    first _ _ (codes "file " ++ shown c.args.path.now) (codes ": is a directory; name its files, as in " ++ (shown c.args.path.now ++ codes "/*.s"))
     c.write_path.ensures.part
 
 pub returns-in_err-write_text-clause-part : goal.returns-in_err-write_text-clause-part
 returns-in_err-write_text-clause-part g c =
-    next _ _ _ (codes "file " ++ c.args.path.now) (codes ": is a directory; name its files, as in " ++ (c.args.path.now ++ codes "/*.s"))
+    next _ _ _ (codes "file " ++ shown c.args.path.now) (codes ": is a directory; name its files, as in " ++ (shown c.args.path.now ++ codes "/*.s"))
     c.in_ok-write_path.ensures.whole
-    (first _ _ (codes ": is a directory; name its files, as in ") (c.args.path.now ++ codes "/*.s") c.write_text.ensures.part)
+    (first _ _ (codes ": is a directory; name its files, as in ") (shown c.args.path.now ++ codes "/*.s") c.write_text.ensures.part)
 
-pub returns-in_err-write_text-2-clause-part : goal.returns-in_err-write_text-2-clause-part
-returns-in_err-write_text-2-clause-part g c =
-    next _ _ _ (codes "file " ++ c.args.path.now) (codes ": is a directory; name its files, as in " ++ (c.args.path.now ++ codes "/*.s"))
+pub returns-in_err-write_shown-clause-part : goal.returns-in_err-write_shown-clause-part
+returns-in_err-write_shown-clause-part g c =
+    next _ _ _ (codes "file " ++ shown c.args.path.now) (codes ": is a directory; name its files, as in " ++ (shown c.args.path.now ++ codes "/*.s"))
     c.in_ok-write_path.ensures.whole
-    (next _ _ _ (codes ": is a directory; name its files, as in ") (c.args.path.now ++ codes "/*.s") c.in_ok-write_text.ensures.whole
-    (first _ _ c.args.path.now (codes "/*.s") c.write_text-2.ensures.part))
+    (next _ _ _ (codes ": is a directory; name its files, as in ") (shown c.args.path.now ++ codes "/*.s") c.in_ok-write_text.ensures.whole
+    (first _ _ (shown c.args.path.now) (codes "/*.s") c.write_shown.ensures.part))
 
 pub returns-clause-part : goal.returns-clause-part
 returns-clause-part g c =
-    next _ _ _ (codes "file " ++ c.args.path.now) (codes ": is a directory; name its files, as in " ++ (c.args.path.now ++ codes "/*.s"))
+    next _ _ _ (codes "file " ++ shown c.args.path.now) (codes ": is a directory; name its files, as in " ++ (shown c.args.path.now ++ codes "/*.s"))
     c.in_ok-write_path.ensures.whole
-    (next _ _ _ (codes ": is a directory; name its files, as in ") (c.args.path.now ++ codes "/*.s") c.in_ok-write_text.ensures.whole
-    (next _ _ _ c.args.path.now (codes "/*.s") c.in_ok-write_text-2.ensures.whole c.write_text-3.ensures.part))
+    (next _ _ _ (codes ": is a directory; name its files, as in ") (shown c.args.path.now ++ codes "/*.s") c.in_ok-write_text.ensures.whole
+    (next _ _ _ (shown c.args.path.now) (codes "/*.s") c.in_ok-write_shown.ensures.whole c.write_text-2.ensures.part))

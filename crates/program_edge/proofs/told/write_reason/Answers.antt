@@ -2,26 +2,27 @@
 use Rattle.std.proofs.Common.{codes, ◌++◌}
 use Rattle.std.proofs.KnownBytes.{Appends-trans}
 use Rattle.std.proofs.lemmas.Result.{on_ok_weaker}
+use Rattle.shown_names.specs.Shown.{shown}
 use Rattle.verdict_report.proofs.BeginsLemmas.{first, next}
 use Rattle.program_edge.proofs.told.write_reason.Goals as goal
 
 pub returns-in_err-write_path-clause-part : goal.returns-in_err-write_path-clause-part
 returns-in_err-write_path-clause-part g c =
-    first _ _ (codes "file " ++ c.args.path.now) (codes ": " ++ c.args.reason.now) c.write_path.ensures.part
+    first _ _ (codes "file " ++ shown c.args.path.now) (codes ": " ++ c.args.reason.now) c.write_path.ensures.part
 
 pub returns-in_err-write_text-clause-part : goal.returns-in_err-write_text-clause-part
 returns-in_err-write_text-clause-part g c =
-    next _ _ _ (codes "file " ++ c.args.path.now) (codes ": " ++ c.args.reason.now) c.in_ok-write_path.ensures.whole
+    next _ _ _ (codes "file " ++ shown c.args.path.now) (codes ": " ++ c.args.reason.now) c.in_ok-write_path.ensures.whole
     (first _ _ (codes ": ") c.args.reason.now c.write_text.ensures.part)
 
 pub returns-clause-whole : goal.returns-clause-whole
 returns-clause-whole g c =
     on_ok_weaker c.write_text-2.result
-    (λ h. Appends-trans _ _ _ (codes "file " ++ c.args.path.now) (codes ": " ++ c.args.reason.now) c.in_ok-write_path.ensures.whole
+    (λ h. Appends-trans _ _ _ (codes "file " ++ shown c.args.path.now) (codes ": " ++ c.args.reason.now) c.in_ok-write_path.ensures.whole
     (Appends-trans _ _ _ (codes ": ") c.args.reason.now c.in_ok-write_text.ensures.whole h))
     c.write_text-2.ensures.whole
 
 pub returns-clause-part : goal.returns-clause-part
 returns-clause-part g c =
-    next _ _ _ (codes "file " ++ c.args.path.now) (codes ": " ++ c.args.reason.now) c.in_ok-write_path.ensures.whole
+    next _ _ _ (codes "file " ++ shown c.args.path.now) (codes ": " ++ c.args.reason.now) c.in_ok-write_path.ensures.whole
     (next _ _ _ (codes ": ") c.args.reason.now c.in_ok-write_text.ensures.whole c.write_text-2.ensures.part)

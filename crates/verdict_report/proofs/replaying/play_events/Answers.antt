@@ -1,12 +1,11 @@
--- One more event is one step of the fold, and one event more of the history if it is allowed.
-use Rattle.std.proofs.Common.{◌+◌, ◌<◌, ◌++◌, ◌∷◌, List, [], Result, ◌∙◌, sym, ap, take, length, length-append, arith}
+-- One more event is one step of the fold.
+use Rattle.std.proofs.Common.{◌+◌, ◌<◌, ◌++◌, ◌∷◌, List, [], Result, ◌∙◌, sym, ap, take, length, arith}
 use Rattle.machine_model.specs.declared.event.Event.{Event}
 use Rattle.machine_model.specs.declared.event.Refused.{Refused}
 use Rattle.machine_model.specs.Answer.{play, play_event}
 use Rattle.sequencer.specs.Machines.{units_of}
 use Rattle.verdict_report.specs.Playing.{played_so_far}
-use Rattle.verdict_report.specs.ReplayText.{allowed}
-use Rattle.verdict_report.proofs.Plays.{play_more, steps_on, allowed_so_far}
+use Rattle.verdict_report.proofs.Plays.{play_more, steps_on}
 use Rattle.verdict_report.proofs.replaying.play_events.Goals as goal
 
 pub loop-event-preserved : goal.loop-event-preserved
@@ -18,20 +17,12 @@ loop-event-preserved c =
     let i = c.loop-event.event-index in
     let e = c.event-item.result in
     let answers = c.loop-event.answers.items in
-    let said = c.in_ok-play_event_of.field-0 in
     let there : i < length events = omega arith in
     let pushed = c.in_ok-push.ensures.items in
     let step = c.in_ok-play_event_of.ensures.answer answers
     ∙ steps_on start c.loop-event.machine answers (play p units (take i events)) e c.loop-event.invariant.1 c.loop-event.invariant.0
     ∙ ap (λ (x : Event). play_event p units (play p units (take i events)) x) c.event-item.is
-    ∙ sym (play_more p units events i e there) in
-    let history = c.in_ok-play_event_of.ensures.history
-    ∙ ap (λ (h : List Event). h ++ allowed (e ∷ []) (said ∷ [])) c.loop-event.invariant.2
-    ∙ ap (λ (x : Event). allowed (take i events) answers ++ allowed (x ∷ []) (said ∷ [])) c.event-item.is
-    ∙ sym (allowed_so_far events i e answers said there c.loop-event.invariant.3)
-    ∙ ap (λ (told : List (Result (Unit {0}) Refused)). allowed (take (i + 1) events) told) (sym pushed) in (
+    ∙ sym (play_more p units events i e there) in (
       ap (λ (told : List (Result (Unit {0}) Refused)). played_so_far c.play_event_of.new.machine told) pushed ∙ step,
       record { accepted = c.play_event_of.ensures.kept.accepted ∙ c.loop-event.invariant.1.accepted; units = c.play_event_of.ensures.kept.units ∙ c.loop-event.invariant.1.units },
-      history,
-      ap length pushed ∙ length-append answers (said ∷ []) ∙ ap (λ n. n + 1) c.loop-event.invariant.3,
     )

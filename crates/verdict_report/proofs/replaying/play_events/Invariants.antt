@@ -1,16 +1,12 @@
--- The machine is what the events so far leave, with their answers, and its history is what was allowed.
-use Rattle.std.proofs.Common.{◌≡◌, take, length}
+-- The machine is what the events so far leave, with their answers.
+use Rattle.std.proofs.Common.{◌≡◌, take}
 use Rattle.machine_model.specs.Answer.{play}
 use Rattle.sequencer.specs.Machines.{SameRing, units_of}
 use Rattle.verdict_report.specs.Playing.{played_so_far}
-use Rattle.verdict_report.specs.ReplayText.{allowed}
 use Rattle.verdict_report.proofs.replaying.play_events.Given as goal
 
 abbrev pub invariant-loop-event : goal.invariant-loop-event
 invariant-loop-event l =
     let start = l.initial.machine in
-    let so_far = take l.event-index l.events in
-    (played_so_far l.machine l.answers.items ≡ play start.accepted.program (units_of start) so_far)
+    (played_so_far l.machine l.answers.items ≡ play start.accepted.program (units_of start) (take l.event-index l.events))
     × SameRing start l.machine
-    × (l.machine.history ≡ allowed so_far l.answers.items)
-    × (length l.answers.items ≡ l.event-index)

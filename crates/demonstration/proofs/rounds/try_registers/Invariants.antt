@@ -1,0 +1,9 @@
+-- the registers so far
+use Rattle.std.specs.Prelude.{◌≡◌, flat_map}
+use Rattle.std.specs.List.{range_with_len}
+use Rattle.demonstration.specs.Rounds.{each_tried, of_register}
+use Rattle.demonstration.proofs.rounds.try_registers.Given as goal
+
+abbrev pub invariant-loop-number : goal.invariant-loop-number
+invariant-loop-number l =
+    l.driven ≡ record l.initial.driven { run = each_tried l.initial.driven.program l.initial.driven.units l.initial.driven.run (flat_map (of_register l.position) (range_with_len 0 l.number)) }

@@ -1,6 +1,0 @@
--- Byte by byte.
-use Rattle.diagnostics.proofs.ShownBytes.{harmless}
-use Rattle.diagnostics.proofs.laws.excerpts_are_harmless.Goals as goal
-
-pub returns : goal.returns
-returns c = harmless

@@ -1,0 +1,3 @@
+mod Limits
+mod NewNames
+mod Written
