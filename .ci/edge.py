@@ -46,8 +46,9 @@ SOURCE = r"""
 #include <sys/sysmacros.h>
 #include <unistd.h>
 // INTERRUPTED: of the first so many reads and the first so many writes each is interrupted; SHORT: then each takes at most
-// so many bytes; CALLS: the file that takes a line for each call; FAILS: the call that fails, and its error; PLANTED: in
-// which way the calls are wrong.
+// so many bytes; CALLS: the file that takes a line for each call; FAILS: the call that fails, and its error; PROCESS: the
+// number of the process; STRANGER: the file that belongs to the user and the group 12345; PLANTED: in which way the calls
+// are wrong.
 static int is_planted(const char *name) { return getenv("PLANTED") && !strcmp(getenv("PLANTED"), name); }
 static long number(const char *name) { return getenv(name) ? strtol(getenv(name), NULL, 10) : 0; }
 static void note(const char *format, ...) {
@@ -79,7 +80,8 @@ int open(const char *path, int flags, ...) {
     char name[4097];
     snprintf(name, sizeof name, "%s", path);
     if (is_planted("spaces") && strchr(name, ' ')) *strchr(name, ' ') = 0;
-    int file = (int)syscall(SYS_openat, AT_FDCWD, name, flags, mode);
+    int file = (int)syscall(SYS_openat, AT_FDCWD, name, flags, is_planted("readable") ? 0666 : mode);
+    if (file < 0 && errno == EEXIST && is_planted("taken")) errno = EACCES;
     struct stat about;
     if (file >= 0 && flags & O_CREAT && !fstat(file, &about)) note("create %s %o\n", name, about.st_mode & 07777);
     else note("open %s\n", name);
@@ -99,15 +101,26 @@ ssize_t write(int file, const void *from, size_t n) {
 }
 int fsync(int file) { if (is_planted("sync")) return 0; note("sync\n"); return fails("fsync") ? -1 : (int)syscall(SYS_fsync, file); }
 int fdatasync(int file) { note("sync\n"); return (int)syscall(SYS_fdatasync, file); }
-int fchmod(int file, mode_t mode) { if (is_planted("mode")) return 0; note("mode %o\n", mode); return fails("fchmod") ? -1 : (int)syscall(SYS_fchmod, file, mode); }
+int fchmod(int file, mode_t mode) { if (is_planted("mode")) return 0; if (is_planted("special")) mode |= 07000; note("mode %o\n", mode); return fails("fchmod") ? -1 : (int)syscall(SYS_fchmod, file, mode); }
 int isatty(int file) { struct stat about; return is_planted("colours") || (!fstat(file, &about) && S_ISCHR(about.st_mode) && major(about.st_rdev) == 136); }
 int __libc_start_main(int (*program)(int, char **, char **), int count, char **words, void (*first)(void), void (*last)(void), void (*end)(void), void *stack) {
     int (*real)(int (*)(int, char **, char **), int, char **, void (*)(void), void (*)(void), void (*)(void), void *) = dlsym(RTLD_NEXT, "__libc_start_main");
     if (is_planted("words") && count > 9) words[count = 9] = NULL;
     return real(program, count, words, first, last, end, stack);
 }
-int fchown(int file, uid_t owner, gid_t group) { note("owner\n"); return fails("fchown") ? -1 : (int)syscall(SYS_fchown, file, owner, group); }
+int fchown(int file, uid_t owner, gid_t group) { if (is_planted("owner")) return 0; note("owner\n"); return fails("fchown") ? -1 : (int)syscall(SYS_fchown, file, owner, group); }
 int rename(const char *from, const char *to) { note("rename %s %s\n", from, to); return fails("rename") ? -1 : (int)syscall(SYS_renameat, AT_FDCWD, from, AT_FDCWD, to); }
+pid_t getpid(void) { return number("PROCESS") ? (pid_t)number("PROCESS") : (pid_t)syscall(SYS_getpid); }
+int statx(int file, const char *restrict path, int flags, unsigned mask, struct statx *restrict into) {
+    int done = (int)syscall(SYS_statx, file, path, is_planted("links") ? flags & ~AT_SYMLINK_NOFOLLOW : flags, mask, into);
+    if (!done && getenv("STRANGER") && !strcmp(path, getenv("STRANGER"))) into->stx_uid = into->stx_gid = 12345;
+    return done;
+}
+int getrlimit(__rlimit_resource_t of, struct rlimit *into) {
+    int done = (int)syscall(SYS_prlimit64, 0, of, NULL, into);
+    if (is_planted("limit")) into->rlim_cur = RLIM_INFINITY;
+    return done;
+}
 int unlink(const char *path) { note("remove %s\n", path); return (int)syscall(SYS_unlinkat, AT_FDCWD, path, 0); }
 """
 
@@ -305,13 +318,97 @@ def result_file(bench):
     bench.expect("all files", bench.files(), ["a.s", "c.s"])
 
 
-CHECKS = [long_certificate, forty_programs, names_with_spaces, interrupted_calls, colours, predicted, result_file]
+def rights(bench):
+    """A result gets who may read, write and run the old file, and no more: a program that runs as its owner is not made anew."""
+    bench.write("a.s", COUNT)
+    for mode in (0o4755, 0o2755, 0o6777, 0o1644):
+        for words in (["print", "-o", "b.s", "a.s"], ["annotate", "--in-place", "b.s"]):
+            out = bench.write("b.s", COUNT, mode)
+            bench.expect_run(words, 0, b"")
+            bench.expect(f"{mode:o} after {' '.join(words)}", f"{mode_of(out):o}", f"{mode & 0o777:o}")
+
+
+def hidden_until_whole(bench):
+    """Until it is whole and synced, a file that takes the place of another is for its owner alone."""
+    bench.write("a.s", COUNT)
+    for mode in (0o600, 0o640, 0o644):
+        bench.write("b.s", b"old", mode)
+        noted = bench.expect_run(["print", "-o", "b.s", "a.s"], 0, b"", before=lambda: os.umask(0), PROCESS=77)
+        calls = [it for it in noted if it.split()[0] in ("create", "write", "sync", "mode", "rename")]
+        wanted = ["create b.s.77.new 600", "write", "sync", f"mode {mode:o}", "rename b.s.77.new b.s"]
+        bench.expect(f"the calls for mode {mode:o}", list(dict.fromkeys(calls)), wanted)
+
+
+def owners(bench):
+    """A file of another keeps its owner and group, or is refused before anything is written."""
+    bench.write("a.s", COUNT)
+    out = bench.write("b.s", b"old", 0o666)
+    noted = bench.expect_run(["print", "-o", "b.s", "a.s"], 2, b"", b"multiscalar: file b.s: its owner and group cannot be kept\n", STRANGER="b.s", FAILS="fchown 1")
+    bench.expect("b.s", (out.read_bytes(), mode_of(out)), (b"old", 0o666))
+    bench.expect("what is written", [it for it in noted if it.split()[0] in ("write", "rename")], [])
+    bench.expect("all files", bench.files(), ["a.s", "b.s"])
+    if os.geteuid() == 0:
+        bench.expect_run(["print", "-o", "b.s", "a.s"], 0, b"", STRANGER="b.s")
+        about = out.stat()
+        bench.expect("its owner and group", (about.st_uid, about.st_gid, out.read_bytes(), mode_of(out)), (12345, 12345, PRINTED, 0o666))
+
+
+def left_overs(bench):
+    """A file that an ended process left beside the result is not in the way, and stays; sixty-four are."""
+    bench.write("a.s", COUNT)
+    out = bench.write("b.s", b"old")
+    bench.write("b.s.77.new", b"left")
+    bench.write("b.s.78.new", b"left, too")
+    noted = bench.expect_run(["print", "-o", "b.s", "a.s"], 0, b"", PROCESS=77)
+    bench.expect("the new file", [it for it in noted if it.startswith("rename")], ["rename b.s.79.new b.s"])
+    bench.expect("b.s", out.read_bytes(), PRINTED)
+    bench.expect("all files", bench.files(), ["a.s", "b.s", "b.s.77.new", "b.s.78.new"])
+    for number in range(79, 77 + 64):
+        bench.write(f"b.s.{number}.new", b"left")
+    bench.expect_run(["seq", "-o", "b.s", "a.s"], 2, b"", b"multiscalar: file b.s: the new file's name is taken\n", PROCESS=77)
+    bench.expect("b.s", out.read_bytes(), PRINTED)
+    bench.expect("the files left", len(bench.files()), 2 + 64)
+
+
+def links(bench):
+    """A link takes no result; the message says which file to name."""
+    (bench.folder / "to").mkdir()
+    file = bench.write("to/a.s", COUNT)
+    for name, leads in (("b.s", "to/a.s"), ("c.s", "b.s"), ("d.s", "missing"), ("e.s", "to")):
+        (bench.folder / name).symlink_to(leads)
+    told = f"is a link; name the file itself, {os.path.realpath(file)}\n".encode()
+    for words in (["annotate", "--in-place", "b.s"], ["annotate", "--in-place", "c.s"], ["print", "-o", "c.s", "to/a.s"]):
+        name = words[2].encode()
+        bench.expect_run(words, 2, b"", b"multiscalar: file " + name + b": " + told)
+    for name in (b"d.s", b"e.s"):
+        bench.expect_run(["print", "-o", name.decode(), "to/a.s"], 2, b"", b"multiscalar: file " + name + b": is no plain file\n")
+    bench.expect("a.s", file.read_bytes(), COUNT)
+    bench.expect("all files", bench.files(), ["b.s", "c.s", "d.s", "e.s", "to"])
+
+
+def size_limit(bench):
+    """A result that is longer than a file may be is refused, and not cut."""
+    text = b".task A create=- targets=-\nA:\n" + b"nop\n" * 3000 + b"halt\n"
+    bench.write("a.s", text)
+    printed = bench.run("print", "a.s")[1]
+    out = bench.write("b.s", b"old")
+    for most, status in ((len(printed) - 1, 2), (5000, 2), (len(printed), 0)):
+        limited = lambda: resource.setrlimit(resource.RLIMIT_FSIZE, (most, most))
+        told = b"multiscalar: file b.s: longer than the limit on the size of files (ulimit -f)\n" if status else b""
+        bench.expect_run(["print", "-o", "b.s", "a.s"], status, b"", told, before=limited)
+        bench.expect(f"b.s for {most} bytes", out.read_bytes(), b"old" if status else printed)
+        bench.expect("all files", bench.files(), ["a.s", "b.s"])
+
+
+CHECKS = [long_certificate, forty_programs, names_with_spaces, interrupted_calls, colours, predicted, result_file, rights, hidden_until_whole, owners, left_overs, links,
+          size_limit]
 
 
 # A fault of the program, and the check that is to see it.
 PLANTED = {
     "offsets": long_certificate, "words": forty_programs, "spaces": names_with_spaces, "interrupted": interrupted_calls, "colours": colours,
-    "mode": result_file, "sync": result_file,
+    "mode": result_file, "sync": result_file, "special": rights, "readable": hidden_until_whole, "owner": owners, "taken": left_overs, "links": links,
+    "limit": size_limit,
 }
 
 

@@ -25,9 +25,11 @@ use Rattle.machine_model.specs.declared.event.Refused.TheVariants as refused
 use Rattle.open_machine.specs.Machines.{OpenView, state, units_of, answer_to, IsAnswered}
 use Rattle.demonstration.specs.declared.judge.Evidence.{Evidence}
 use Rattle.demonstration.specs.declared.judge.Harm.{Harm}
+use Rattle.demonstration.specs.declared.judge.Harm.TheVariants as harm
+use Rattle.demonstration.specs.declared.judge.WrongWord.{WrongWord}
 use Rattle.demonstration.specs.declared.judge.Judgement.TheVariants as judged
-use Rattle.demonstration.specs.Shown.{AreRight, DoesHarm, IsShown, harmed_task, plain_read, seen}
-use Rattle.demonstration.specs.Judging.{IsRefusedAt, reads_agree}
+use Rattle.demonstration.specs.Shown.{DoesHarm, DoesNoHarm, IsShown, ReadsRight, Shows, harmed_task, plain_read, seen}
+use Rattle.demonstration.specs.Judging.{IsRefusedAt, IsRight, reads_agree}
 use Rattle.demonstration.proofs.PlainReads.{reads_next}
 
 pub one_more_event : ReplayCut → (p : Listing) (units : ℕ) (events : List Event) (index : ℕ) (e : Event) (s s' : State) → index < length events → e ≡ get_or events index e → Replays p units (take index events) s → Next p units s e s' → Replays p units (take (index + 1) events) s'
@@ -166,16 +168,19 @@ pub not_so : (b : Bool) → IsTrue (not b) → b ≡ false
 not_so true so = absurd (cc)
 not_so false so = refl
 
--- a harm that was found, and the judgement that says so
-pub shown_so : (p : Listing) (units : ℕ) (events : List Event) (s : State) (it : Harm) (told said : Evidence) → Replays p units events s → DoesHarm p s it → told.harm ≡ it → told.task ≡ harmed_task s it → judged.Shown told ≡ judged.Shown said → IsShown p units events said
-shown_so p units events s it told said replay does same_harm same_task same =
-    let is : told ≡ said = cc in
-    subst (IsShown p units events) is (record {
-      after = s;
-      allowed = replay;
-      harms = subst (DoesHarm p s) (sym same_harm) does;
-      task = same_task ∙ ap (harmed_task s) (sym same_harm);
-    })
+-- a harm that was found, with its task
+pub shows_so : (p : Listing) (s : State) (it : Harm) (told : Evidence) → DoesHarm p s it → ((held : WrongWord) → it ≡ harm.Held held → ReadsRight p s) → told.harm ≡ it → told.task ≡ harmed_task s it → Shows p s told
+shows_so p s it told does alone same_harm same_task = record {
+  harms = subst (DoesHarm p s) (sym same_harm) does;
+  task = same_task ∙ ap (harmed_task s) (sym same_harm);
+  alone = λ held is. alone held (sym same_harm ∙ is);
+}
 
-pub right_so : (p : Listing) (units : ℕ) (events : List Event) (s : State) → Replays p units events s → AreRight p (seen s) → (after : State) × Replays p units events after × AreRight p (seen after)
-right_so p units events s replay right = (s, replay, right)
+-- and the judgement that says so
+pub shown_so : (p : Listing) (units : ℕ) (events : List Event) (s : State) (told said : Evidence) → Replays p units events s → Shows p s told → judged.Shown told ≡ judged.Shown said → IsShown p units events said
+shown_so p units events s told said replay shows same =
+    let is : told ≡ said = cc in
+    subst (IsShown p units events) is (record { after = s; allowed = replay; harms = shows.harms; task = shows.task })
+
+pub right_so : (p : Listing) (units : ℕ) (events : List Event) (s : State) → Replays p units events s → DoesNoHarm p s → IsRight p units events
+right_so p units events s replay right = record { after = s; allowed = replay; right = right }

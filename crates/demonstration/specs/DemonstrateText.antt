@@ -1,6 +1,6 @@
 -- What `demonstrate` may write of a program text: a run that shows what a wrong annotation does, in words or as a
 -- picture; that there is none, since the annotations are sound; or that none was found.
-use Rattle.std.specs.Prelude.{◌≡◌, ◌⊎◌, ℕ, List, [], ◌∷◌, ◌++◌, flat_map, Result, Ok, Err, codes}
+use Rattle.std.specs.Prelude.{◌≡◌, ◌≤◌, ◌⊎◌, ℕ, List, [], ◌∷◌, ◌++◌, flat_map, Result, Ok, Err, codes}
 use Rattle.std.specs.Fmt.{decimal}
 use Rattle.task_descriptor.specs.Listing.{Listing}
 use Rattle.annotated_asm.specs.declared.fault.AsmFault.{AsmFault}
@@ -19,6 +19,7 @@ use Rattle.demonstration.specs.Shown.{IsShown}
 use Rattle.demonstration.specs.declared.judge.Evidence.{Evidence}
 use Rattle.finding_paths.specs.declared.shown.ShownFinding.{ShownFinding}
 use Rattle.finding_paths.specs.Shown.{AreShown}
+use Rattle.demonstration.specs.Found.{IsNoneFound}
 use Rattle.demonstration.specs.HarmText.{harm_text}
 use Rattle.demonstration.specs.FindingText.{finding_text}
 
@@ -34,6 +35,7 @@ nothing_found_text units steps =
 
 -- none of the runs that were tried shows anything: the report names the checker's first finding
 pub record FindsNothing (units steps : ℕ) (p : Listing) (places : List Position) (report : Report) : Type 0 where
+  pub none : IsNoneFound p units steps
   pub first : List ShownFinding
   pub more : ℕ
   pub shown : AreShown p 1 first more
@@ -54,9 +56,10 @@ abbrev pub run_text : DemonstrateEmit → Listing → List Position → (units :
 run_text Events p places units events it = shown_text p places units events it
 run_text Picture p places units events it = picture_text [] p units events
 
--- the report has events that show something
-pub record TellsOfRun (emit : DemonstrateEmit) (p : Listing) (places : List Position) (report : Report) : Type 0 where
+-- the report has events, on at most so many units, that show something
+pub record TellsOfRun (most_units : ℕ) (emit : DemonstrateEmit) (p : Listing) (places : List Position) (report : Report) : Type 0 where
   pub units : ℕ
+  pub few : units ≤ most_units
   pub events : List Event
   pub it : Evidence
   pub shown : IsShown p units events it
@@ -67,7 +70,7 @@ pub record TellsOfRun (emit : DemonstrateEmit) (p : Listing) (places : List Posi
 abbrev pub IsDemonstrated : (units steps : ℕ) → DemonstrateEmit → List Position → Listing → Report → Type 0
 IsDemonstrated units steps emit places p report =
     (Sound p × (report ≡ nothing_to_show))
-    ⊎ ((Sound p → ⊥) × (TellsOfRun emit p places report ⊎ FindsNothing units steps p places report))
+    ⊎ ((Sound p → ⊥) × (TellsOfRun units emit p places report ⊎ FindsNothing units steps p places report))
 
 abbrev pub IsDemonstratedOf : (units steps : ℕ) → DemonstrateEmit → List Position → Result Listing AsmFault → Report → Type 0
 IsDemonstratedOf units steps emit places (Ok p) report = IsDemonstrated units steps emit places p report

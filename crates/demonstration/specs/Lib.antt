@@ -1,4 +1,6 @@
 pub mod Shown
+pub mod Rounds
+pub mod Driven
 pub mod Found
 pub mod Laws
 pub mod Judging

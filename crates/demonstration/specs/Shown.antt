@@ -1,6 +1,6 @@
 -- What shows that the marks of a program do harm: a list of events that its machine allows, and after them
 -- something that the sequential program never does.
-use Rattle.std.specs.Prelude.{◌≡◌, ℕ, suc, List, [], ◌∷◌, ◌++◌, ◌-◌, false, nat_lt, if◌then◌else◌, length, take, slice_get, Option, Some}
+use Rattle.std.specs.Prelude.{◌≡◌, ℕ, ◌<◌, suc, List, [], ◌∷◌, ◌++◌, ◌-◌, false, nat_lt, if◌then◌else◌, length, take, slice_get, Option, Some}
 use Rattle.mips_instructions.specs.declared.instruction.Op.{Op}
 use Rattle.mips_plain.specs.PlainMachine.{State as PlainState, fetch}
 use Rattle.mips_plain.specs.declared.outcome.Outcome.TheVariants as outcome
@@ -17,6 +17,7 @@ use Rattle.machine_model.specs.declared.event.Standing.TheVariants as standing
 use Rattle.demonstration.specs.declared.judge.Evidence.{Evidence}
 use Rattle.demonstration.specs.declared.judge.Harm.{Harm}
 use Rattle.demonstration.specs.declared.judge.Harm.TheVariants as harm
+use Rattle.demonstration.specs.declared.judge.WrongWord.{WrongWord}
 
 -- what the head has read
 abbrev pub read_by_head : List Active → List Read
@@ -74,6 +75,27 @@ pub record HoldsWrong (s : State) (plain : PlainState) (r word right : ℕ) : Ty
   pub is_right : plain.regs r ≡ right
   pub differs : word ≡ right → ⊥
 
+-- all that was read is right, and the run is not cut off
+pub record ReadsRight (p : Listing) (s : State) : Type 0 where
+  pub right : AreRight p (seen s)
+  pub whole : (from at : ℕ) → IsCutAt p s.outcome (seen s) (plain_of p (length (seen s))) from at → ⊥
+
+-- a register of the head has a word that is not the plain machine's after as many steps
+pub record HasWrongWord (p : Listing) (s : State) : Type 0 where
+  pub register : ℕ
+  pub below : register < 34
+  pub word : ℕ
+  pub right : ℕ
+  pub holds : HoldsWrong s (plain_of p (length (seen s))) register word right
+
+abbrev pub WordsRight : Listing → State → Type 0
+WordsRight p s = HasWrongWord p s → ⊥
+
+-- a state that shows no departure from the sequential program
+pub record DoesNoHarm (p : Listing) (s : State) : Type 0 where
+  pub reads : ReadsRight p s
+  pub words : WordsRight p s
+
 -- the `number` reads so far are right, and the head has a wrong word, compared with the plain machine after `number`
 -- steps
 pub record HasStale (p : Listing) (s : State) (number r word right : ℕ) : Type 0 where
@@ -102,6 +124,12 @@ abbrev pub harmed_task : State → Harm → ℕ
 harmed_task s (harm.Stale stale) = reading_task s.commits (head_task s.queue) stale.number
 harmed_task s (harm.CutOff cut) = head_task s.queue
 harmed_task s (harm.Held held) = head_task s.queue
+
+-- a state shows this, and a wrong word alone only where all else is right
+pub record Shows (p : Listing) (s : State) (it : Evidence) : Type 0 where
+  pub harms : DoesHarm p s it.harm
+  pub task : it.task ≡ harmed_task s it.harm
+  pub alone : (held : WrongWord) → it.harm ≡ harm.Held held → ReadsRight p s
 
 -- the events are allowed, each where it comes, and after them there is this harm
 pub record IsShown (p : Listing) (units : ℕ) (events : List Event) (it : Evidence) : Type 0 where

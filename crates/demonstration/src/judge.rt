@@ -7,16 +7,19 @@ ghost use Rattle.mips_plain.specs.PlainView.{machine_state};
 ghost use Rattle.task_descriptor.specs.Listing.{input};
 ghost use Rattle.machine_model.specs.Answer.{most_events};
 ghost use Rattle.machine_model.specs.Replay.{Replays};
-ghost use Rattle.machine_model.specs.Machine.{State};
 ghost use Rattle.open_machine.specs.Machines.{state};
 ghost use Rattle.mips_plain.specs.PlainView.{IsAfter};
 ghost use Rattle.task_graph.specs.Edges.{is_indirect as is_indirect_of};
-ghost use Rattle.demonstration.specs.Shown.{AreRight, IsFirstStale, IsCutAt, HoldsWrong, NamesItsPlace, DoesHarm, IsShown, harmed_task, head_task, reading_task, seen as seen_in};
+ghost use Rattle.demonstration.specs.Shown.{AreRight, IsFirstStale, IsCutAt, HoldsWrong, NamesItsPlace, ReadsRight, DoesHarm, DoesNoHarm, Shows, IsShown, harmed_task, head_task, reading_task, seen as seen_in};
+ghost use Rattle.unit_core.specs.Units.{active_of};
+ghost use Rattle.machine_model.specs.Machine.{value};
 ghost use Rattle.machine_model.specs.declared.event.Refused.TheVariants as refused;
 ghost use Rattle.mips_plain.specs.declared.outcome.Outcome.TheVariants as outcome;
-ghost use Rattle.demonstration.specs.Judging.{IsRefusedAt, reads_agree};
+ghost use Rattle.demonstration.specs.Judging.{IsRefusedAt, IsRight, reads_agree, wrong_word as wrong_word_of};
 ghost use Rattle.demonstration.specs.declared.judge.Evidence.{Evidence};
 ghost use Rattle.demonstration.specs.declared.judge.Judgement.TheVariants as judged;
+ghost use Rattle.demonstration.specs.declared.judge.Harm.TheVariants as harms;
+ghost use Rattle.demonstration.specs.declared.judge.WrongWord.{WrongWord};
 
 use machine_model::event::{Commit, Event, Refused, Standing};
 use machine_model::laws::{answer_is_next, next_is_after, replays_join};
@@ -86,7 +89,8 @@ pub struct Evidence {
 pub enum Judgement {
     /// The event at this index is not allowed.
     Refused(usize),
-    /// All events are allowed, and what was read is what the plain machine reads.
+    /// All events are allowed. What was read is what the plain machine reads, the run is not cut off, and no register of
+    /// the head has a wrong word.
     Right,
     /// All events are allowed, and this is what they show.
     Shown(Evidence),
@@ -224,7 +228,7 @@ fn is_indirect(op: &Op) -> bool
 
 /// Whether the instruction at an address names the place to which it goes.
 fn names_its_place(program: &Program, pc: u32) -> bool
-    ensures { IsTrue result → NamesItsPlace program.now pc }
+    ensures { IsTrue result ↔ NamesItsPlace program.now pc }
 {
     match program.index(pc) {
         Some(index) => !is_indirect(&program.code()[index as usize].op),
@@ -232,9 +236,24 @@ fn names_its_place(program: &Program, pc: u32) -> bool
     }
 }
 
+/// Whether the plain machine goes on at an address, to which the instruction at `from` names the way.
+fn leads_on(program: &Program, from: u32, at: u32, plain: &Plain) -> bool
+    ensures { IsTrue result ↔ (((machine_state plain.now).outcome ≡ outcome.Running) × ((machine_state plain.now).pc ≡ at) × NamesItsPlace program.now from) }
+{
+    if !goes_on(plain) {
+        return false;
+    }
+    if plain.pc() != at {
+        return false;
+    }
+    names_its_place(program, from)
+}
+
 /// Whether a run with this outcome after these reads ended too early, given the plain machine's state.
+#[tactic(auto, using(crate::proofs::Harmless::not_cut))]
 fn cut_off(program: &Program, standing: Standing, reads: &[Read], plain: &Plain) -> Option<CutOff>
-    ensures { IfSome result (λ cut. IsCutAt program.now standing reads.now (machine_state plain.now) cut.from cut.at) }
+    ensures some { IfSome result (λ cut. IsCutAt program.now standing reads.now (machine_state plain.now) cut.from cut.at) }
+    ensures none { IfNone result ((from at : ℕ) → IsCutAt program.now standing reads.now (machine_state plain.now) from at → ⊥) }
 {
     let Standing::Unlisted(at) = standing else {
         return None;
@@ -243,25 +262,38 @@ fn cut_off(program: &Program, standing: Standing, reads: &[Read], plain: &Plain)
         return None;
     }
     let from = reads[reads.len() - 1].pc;
-    if goes_on(plain) && plain.pc() == at && names_its_place(program, from) {
+    if leads_on(program, from, at, plain) {
         Some(CutOff { from, at })
     } else {
         None
     }
 }
 
+/// The word, if there is one and it is not the right one.
+fn unless_right(right: u32, word: Option<u32>) -> Option<u32>
+    ensures { result ≡ wrong_word_of right word }
+{
+    match word {
+        Some(word) if word != right => Some(word),
+        _ => None,
+    }
+}
+
 /// The least register in which the head has not the word of the plain machine after `made` steps.
-fn wrong_word(machine: &OpenMachine<'_>, plain: &Plain, made: usize) -> Option<WrongWord>
+#[tactic(auto, using(crate::proofs::Harmless::one_more_right, crate::proofs::Harmless::no_head, crate::proofs::Harmless::holds_so))]
+pub(crate) fn wrong_word(machine: &OpenMachine<'_>, plain: &Plain, made: usize) -> Option<WrongWord>
     ensures number { IfSome result (λ held. held.number ≡ made) }
     ensures wrong { IfSome result (λ held. HoldsWrong (state machine.now) (machine_state plain.now) held.register held.word held.right) }
+    ensures register { IfSome result (λ held. held.register < 34) }
+    ensures none { IfNone result ((r word right : ℕ) → r < 34 → HoldsWrong (state machine.now) (machine_state plain.now) r word right → ⊥) }
 {
     let head = machine.unit(0)?;
     for number in 0..34u8 {
-        let register = Reg::new(number)?;
+        let Some(register) = Reg::new(number) else {
+            unreachable!();
+        };
         let right = plain.reg(register);
-        if let Some(word) = head.value(register)
-            && word != right
-        {
+        if let Some(word) = unless_right(right, head.value(register)) {
             return Some(WrongWord {
                 number: made,
                 register,
@@ -275,6 +307,7 @@ fn wrong_word(machine: &OpenMachine<'_>, plain: &Plain, made: usize) -> Option<W
 
 /// What the machine shows after events that it allowed, where all reads are the plain machine's, which has made as
 /// many steps.
+#[tactic(auto, using(crate::proofs::Harmless::reads_right_so, crate::proofs::Harmless::no_harm_so))]
 fn harm_after(
     program: &Program,
     machine: &OpenMachine<'_>,
@@ -284,7 +317,9 @@ fn harm_after(
     requires right { AreRight program.now reads.now }
     requires reads { reads.now ≡ seen_in (state machine.now) }
     requires plain { IsAfter (input program.now) (length reads.now) plain.now }
-    ensures { IfSome result (λ harm. DoesHarm program.now (state machine.now) harm) }
+    ensures some { IfSome result (λ harm. DoesHarm program.now (state machine.now) harm) }
+    ensures held { IfSome result (λ harm. (held : WrongWord) → harm ≡ harms.Held held → ReadsRight program.now (state machine.now)) }
+    ensures none { IfNone result (DoesNoHarm program.now (state machine.now)) }
 {
     match cut_off(program, machine.outcome(), reads, plain) {
         Some(cut) => Some(Harm::CutOff(cut)),
@@ -292,22 +327,6 @@ fn harm_after(
             Some(held) => Some(Harm::Held(held)),
             None => None,
         },
-    }
-}
-
-/// What the machine shows of a program after events that it allowed.
-fn harm_on(
-    alloc: Global,
-    program: &Program,
-    machine: &OpenMachine<'_>,
-) -> Result<Option<Harm>, OutOfMemory>
-    ensures some { IfOk result (λ found. IfSome found (λ harm. DoesHarm program.now (state machine.now) harm)) }
-    ensures none { IfOk result (λ found. IfNone found (AreRight program.now (seen_in (state machine.now)))) }
-{
-    let reads = seen(alloc, machine)?;
-    match compare(alloc, program, &reads)? {
-        Ok(plain) => Ok(harm_after(program, machine, &reads, &plain)),
-        Err(stale) => Ok(Some(Harm::Stale(stale))),
     }
 }
 
@@ -348,6 +367,39 @@ fn with_task(machine: &OpenMachine<'_>, harm: Harm) -> Evidence
     Evidence { harm, task }
 }
 
+/// What the machine shows of a program after events that it allowed.
+fn harm_on(
+    alloc: Global,
+    program: &Program,
+    machine: &OpenMachine<'_>,
+) -> Result<Option<Harm>, OutOfMemory>
+    ensures some { IfOk result (λ found. IfSome found (λ harm. DoesHarm program.now (state machine.now) harm)) }
+    ensures held { IfOk result (λ found. IfSome found (λ harm. (held : WrongWord) → harm ≡ harms.Held held → ReadsRight program.now (state machine.now))) }
+    ensures none { IfOk result (λ found. IfNone found (DoesNoHarm program.now (state machine.now))) }
+{
+    let reads = seen(alloc, machine)?;
+    match compare(alloc, program, &reads)? {
+        Ok(plain) => Ok(harm_after(program, machine, &reads, &plain)),
+        Err(stale) => Ok(Some(Harm::Stale(stale))),
+    }
+}
+
+/// What the machine shows of a program, and to which task; `None` where it shows no departure.
+#[tactic(auto, using(crate::proofs::Judging::shows_so))]
+pub(crate) fn shows(
+    alloc: Global,
+    program: &Program,
+    machine: &OpenMachine<'_>,
+) -> Result<Option<Evidence>, OutOfMemory>
+    ensures some { IfOk result (λ found. IfSome found (λ it. Shows program.now (state machine.now) it)) }
+    ensures none { IfOk result (λ found. IfNone found (DoesNoHarm program.now (state machine.now))) }
+{
+    match harm_on(alloc, program, machine)? {
+        Some(harm) => Ok(Some(with_task(machine, harm))),
+        None => Ok(None),
+    }
+}
+
 /// What the machine shows of a program after these events, which it allowed.
 #[tactic(auto, using(crate::proofs::Judging::shown_so, crate::proofs::Judging::right_so))]
 fn judge_allowed(
@@ -359,11 +411,11 @@ fn judge_allowed(
 ) -> Result<Judgement, OutOfMemory>
     requires { Replays program.now units events.now (state machine.now) }
     ensures refused { IfOk result (λ judgement. (index : ℕ) → judgement ≡ judged.Refused index → ⊥) }
-    ensures right { IfOk result (λ judgement. judgement ≡ judged.Right → (after : State) × Replays program.now units events.now after × AreRight program.now (seen_in after)) }
+    ensures right { IfOk result (λ judgement. judgement ≡ judged.Right → IsRight program.now units events.now) }
     ensures shown { IfOk result (λ judgement. (it : Evidence) → judgement ≡ judged.Shown it → IsShown program.now units events.now it) }
 {
-    match harm_on(alloc, program, machine)? {
-        Some(harm) => Ok(Judgement::Shown(with_task(machine, harm))),
+    match shows(alloc, program, machine)? {
+        Some(evidence) => Ok(Judgement::Shown(evidence)),
         None => Ok(Judgement::Right),
     }
 }
@@ -382,7 +434,7 @@ pub fn judge(
 ) -> Result<Judgement, OutOfMemory>
     requires { units ≤ 16 }
     ensures refused { IfOk result (λ judgement. (index : ℕ) → judgement ≡ judged.Refused index → IsRefusedAt program.now units events.now index) }
-    ensures right { IfOk result (λ judgement. judgement ≡ judged.Right → (after : State) × Replays program.now units events.now after × AreRight program.now (seen_in after)) }
+    ensures right { IfOk result (λ judgement. judgement ≡ judged.Right → IsRight program.now units events.now) }
     ensures shown { IfOk result (λ judgement. (it : Evidence) → judgement ≡ judged.Shown it → IsShown program.now units events.now it) }
     ensures few { IfOk result (λ judgement. (it : Evidence) → judgement ≡ judged.Shown it → length events.now ≤ most_events) }
 {

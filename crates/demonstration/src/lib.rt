@@ -3,6 +3,7 @@
 //! none; and the report that `demonstrate` writes.
 #![tactic(auto)]
 
+mod driven;
 mod first_finding;
 mod harm_text;
 pub mod judge;
@@ -10,4 +11,5 @@ mod last_writer;
 pub mod laws;
 mod picture;
 pub mod report;
+mod rounds;
 pub mod search;

@@ -1,11 +1,11 @@
 //! The job `demonstrate`.
 
-ghost use Rattle.std.specs.Prelude.{◌≡◌, ◌≢◌, ◌++◌, IfOk, IfSome, OnOk, flat_map};
+ghost use Rattle.std.specs.Prelude.{◌≡◌, ◌≤◌, ◌≢◌, ◌++◌, IfOk, IfSome, OnOk, flat_map};
 ghost use Rattle.std.specs.String.{string_bytes};
 ghost use Rattle.task_graph.specs.Soundness.{Sound};
 ghost use Rattle.event_script.specs.ScriptText.{line_text, script_text};
 ghost use Rattle.event_trace.specs.Entries.{places_of};
-ghost use Rattle.demonstration.specs.Found.{IsDemonstration};
+ghost use Rattle.demonstration.specs.Found.{IsDemonstration, IsNoneFound};
 ghost use Rattle.demonstration.specs.DemonstrateText.{IsDemonstrateReport, FindsNothing, IsDemonstrated, TellsOfRun, nothing_found_text, nothing_to_show as nothing_to_show_report, run_text as run_text_of, shown_text, units_text};
 ghost use Rattle.demonstration.specs.FindingText.{finding_text};
 
@@ -75,7 +75,7 @@ fn demonstrate_program(
         |_: OutOfMemory| AllocError,
     )?;
     match found {
-        Some(found) => tell_of_run(alloc, emit, places, program, &found),
+        Some(found) => tell_of_run(alloc, units, emit, places, program, &found),
         None => nothing_found(alloc, units, steps, places, program),
     }
 }
@@ -97,6 +97,7 @@ fn nothing_found(
     places: &[Position],
     program: &Program,
 ) -> Result<JobReport, AllocError>
+    requires { IsNoneFound program.now units steps }
     ensures { IfOk result (FindsNothing units steps program.now places.now) }
 {
     let first = first_finding(alloc, program)?;
@@ -138,14 +139,18 @@ fn write_nothing_found(text: &mut String, units: u32, steps: u32) -> Result<(), 
 /// What is written of a run that shows something.
 fn tell_of_run(
     alloc: Global,
+    units: Units,
     emit: DemonstrateEmit,
     places: &[Position],
     program: &Program,
     found: &Demonstration,
 ) -> Result<JobReport, AllocError>
-    requires { IsDemonstration program.now found.now }
-    ensures { IfOk result (TellsOfRun emit program.now places.now) }
+    requires shown { IsDemonstration program.now found.now }
+    requires few { found.now.units ≤ units }
+    ensures { IfOk result (TellsOfRun units emit program.now places.now) }
 {
+    // Only the contract needs how many units there may be.
+    let _ = units;
     let text = run_text(alloc, emit, places, program, found)?;
     Ok(JobReport::new(text.into_bytes(), 1))
 }

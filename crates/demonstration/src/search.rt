@@ -1,12 +1,18 @@
-//! A search for a list of events that shows the harm of a wrong mark. Nothing is claimed of it but that what it
-//! answers is shown: the judge says so.
+//! A search for a list of events that shows the harm of a wrong mark. What it answers is shown: the judge says so. Where
+//! it answers none, each of its runs was judged right.
 
-ghost use Rattle.std.specs.Prelude.{◌≡◌, ◌<◌, ◌≤◌, IfSome, IfOk};
-ghost use Rattle.demonstration.specs.Found.{IsDemonstration};
+ghost use Rattle.std.specs.Prelude.{◌≡◌, ◌<◌, ◌≤◌, ℕ, [], min, take, IfSome, IfNone, IfOk, OnOk, length};
+ghost use Rattle.mips_plain.specs.PlainView.{IsAfter};
+ghost use Rattle.task_descriptor.specs.Listing.{input};
+ghost use Rattle.open_machine.specs.Machines.{state};
+ghost use Rattle.demonstration.specs.Found.{IsDemonstration, IsRightAlone, IsSearched};
+ghost use Rattle.demonstration.specs.Rounds.{each_tried, opened, run_of};
+ghost use Rattle.demonstration.specs.Shown.{DoesNoHarm, HasWrongWord, ReadsRight, Shows, WordsRight, seen};
 
-use crate::judge::{Evidence, Harm, Judgement, judge};
-use machine_model::event::{Event, Refused, Spot};
-use mips_instructions::number::Reg;
+use crate::driven::Driven;
+use crate::judge::{Evidence, Harm, Judgement, judge, shows, wrong_word};
+use crate::rounds::{drive, known_tasks};
+use machine_model::event::Event;
 use mips_plain::outcome::OutOfMemory;
 use mips_plain::plain::Plain;
 use open_machine::machine::OpenMachine;
@@ -24,24 +30,17 @@ pub struct Demonstration {
     pub evidence: Evidence,
 }
 
-/// Which task is assigned after a tail that has not stopped.
-#[derive(Clone, Copy)]
-enum Guess<'a> {
-    /// None: a task begins only once it is known.
-    Wait,
-    /// The task that follows in the run that waits, whose tasks these are.
-    Known(&'a [u32]),
-}
-
 /// From this many events on a list is not made shorter event by event, which takes a run for each.
 const MOST_TRIED: usize = 2_000;
 
 /// Looks for events that show the harm of a wrong mark, on 2 to `most_units` units, and on one unit for a wrong word
-/// that no instruction reads; in runs of about `steps` events. What it finds has at most 1,000,000 of them.
+/// that no instruction reads; in runs of about `steps` events. What it finds has at most 1,000,000 of them. `None`
+/// where all these runs are right.
 ///
 /// # Errors
 ///
 /// `OutOfMemory` where a growth was refused.
+#[tactic(auto, using(crate::proofs::Searching::searched_so))]
 pub fn demonstrate(
     alloc: Global,
     program: &Program,
@@ -50,50 +49,116 @@ pub fn demonstrate(
 ) -> Result<Option<Demonstration>, OutOfMemory>
     requires some { 0 < most_units }
     requires few { most_units ≤ 16 }
-    ensures { IfOk result (λ found. IfSome found (λ d. IsDemonstration program.now d)) }
+    ensures { IfOk result (IsSearched program.now most_units steps) }
 {
-    let tasks = tasks_in_order(alloc, program, steps)?;
+    let tasks = known_tasks(alloc, program, steps)?;
+    match shown_on_any(alloc, program, most_units, &tasks, steps)? {
+        Some(found) => Ok(Some(found)),
+        None => word_shown(alloc, program, steps),
+    }
+}
+
+/// A wrong read or end, on 2 units, on 3, and so on, with these guesses.
+fn shown_on_any(
+    alloc: Global,
+    program: &Program,
+    most_units: u32,
+    guesses: &[u32],
+    steps: u32,
+) -> Result<Option<Demonstration>, OutOfMemory>
+    requires some { 0 < most_units }
+    requires few { most_units ≤ 16 }
+    ensures some { IfOk result (λ found. IfSome found (λ d. IsDemonstration program.now d × d.units ≤ most_units)) }
+    ensures none { IfOk result (λ found. IfNone found ((units : ℕ) → min most_units 2 ≤ units → units ≤ most_units
+        → ReadsRight program.now (run_of program.now units guesses.now steps).state)) }
+{
     for units in most_units.min(2)..most_units + 1 {
-        if let Some(found) = shown_on(alloc, program, units, Guess::Known(&tasks), steps)? {
+        if let Some(found) = shown_on(alloc, program, units, guesses, steps)? {
             return Ok(Some(found));
         }
     }
-    word_shown(alloc, program, steps)
+    Ok(None)
 }
 
-/// A wrong read or end, on `units` units, with guesses of one kind.
+/// A wrong read or end, on `units` units, with these guesses.
 fn shown_on(
     alloc: Global,
     program: &Program,
     units: u32,
-    guess: Guess<'_>,
+    guesses: &[u32],
     steps: u32,
 ) -> Result<Option<Demonstration>, OutOfMemory>
     requires some { 0 < units }
     requires few { units ≤ 16 }
-    ensures { IfOk result (λ found. IfSome found (λ d. IsDemonstration program.now d)) }
+    ensures some { IfOk result (λ found. IfSome found (λ d. IsDemonstration program.now d × d.units ≡ units)) }
+    ensures none { IfOk result (λ found. IfNone found (ReadsRight program.now (run_of program.now units guesses.now steps).state)) }
 {
-    let events = drive(alloc, program, units, guess, steps)?;
-    match of_events(alloc, program, units, events, false)? {
-        Some(found) => Ok(Some(shortened(alloc, program, found)?)),
-        None => Ok(None),
+    let driven = drive(alloc, program, units, guesses, steps)?;
+    let Some(evidence) = shows(alloc, program, driven.machine())? else {
+        return Ok(None);
+    };
+    match evidence.harm {
+        Harm::Held(_) => Ok(None),
+        Harm::Stale(_) | Harm::CutOff(_) => {
+            let found = of_driven(program, driven, evidence);
+            Ok(Some(shortened(alloc, program, found)?))
+        }
     }
 }
 
 /// A wrong word with which a task begins, on one unit: where no unit executes ahead, no task can have put the right
-/// word over it before it is the head.
+/// word over it before it is the head. Where there is none, a wrong read or end.
 fn word_shown(
     alloc: Global,
     program: &Program,
     steps: u32,
 ) -> Result<Option<Demonstration>, OutOfMemory>
-    ensures { IfOk result (λ found. IfSome found (λ d. IsDemonstration program.now d)) }
+    ensures some { IfOk result (λ found. IfSome found (λ d. IsDemonstration program.now d × d.units ≡ 1)) }
+    ensures none { IfOk result (λ found. IfNone found (IsRightAlone program.now (run_of program.now 1 [] steps))) }
 {
-    let events = drive(alloc, program, 1, Guess::Wait, steps)?;
-    let few = until_held(alloc, program, 1, &events)?;
-    match of_events(alloc, program, 1, few, true)? {
-        Some(found) => Ok(Some(shortened(alloc, program, found)?)),
+    let driven = drive(alloc, program, 1, &[], steps)?;
+    match until_held(alloc, program, driven.events())? {
+        Some(few) => shown_by(alloc, program, few),
+        None => shown_by(alloc, program, driven),
+    }
+}
+
+/// What a run shows, if anything.
+fn shown_by(
+    alloc: Global,
+    program: &Program,
+    driven: Driven<'_>,
+) -> Result<Option<Demonstration>, OutOfMemory>
+    requires program { driven.program ≡ program.now }
+    requires some { 0 < driven.units }
+    requires few { driven.units ≤ 16 }
+    ensures some { IfOk result (λ found. IfSome found (λ d. IsDemonstration program.now d × d.units ≡ driven.entry.units)) }
+    ensures none { IfOk result (λ found. IfNone found (DoesNoHarm program.now driven.entry.run.state)) }
+{
+    match shows(alloc, program, driven.machine())? {
+        Some(evidence) => {
+            let found = of_driven(program, driven, evidence);
+            Ok(Some(shortened(alloc, program, found)?))
+        }
         None => Ok(None),
+    }
+}
+
+/// A demonstration by the events of a machine, which show this.
+#[tactic(auto, using(crate::proofs::Searching::shown_of))]
+fn of_driven(program: &Program, driven: Driven<'_>, evidence: Evidence) -> Demonstration
+    requires program { driven.program ≡ program.now }
+    requires some { 0 < driven.units }
+    requires shows { Shows program.now driven.run.state evidence }
+    ensures shown { IsDemonstration program.now result }
+    ensures units { result.units ≡ driven.entry.units }
+{
+    let _ = program.start();
+    let units = driven.machine().capacity();
+    Demonstration {
+        units,
+        events: driven.into_events(),
+        evidence,
     }
 }
 
@@ -130,7 +195,8 @@ fn shortened(
 ) -> Result<Demonstration, OutOfMemory>
     requires units { found.units ≤ 16 }
     requires shown { IsDemonstration program.now found }
-    ensures { IfOk result (λ d. IsDemonstration program.now d) }
+    ensures units { IfOk result (λ d. d.units ≡ found.units) }
+    ensures shown { IfOk result (λ d. IsDemonstration program.now d) }
 {
     let found = without_rest(alloc, program, found)?;
     let found = without_each(alloc, program, found, 64)?;
@@ -219,24 +285,14 @@ fn until_harm(
 ) -> Result<Vec<Event>, OutOfMemory>
     requires { found.now.units ≤ 16 }
 {
-    let mut machine = OpenMachine::new(alloc, program, found.units)?;
-    let mut few = Vec::new(alloc);
+    let mut few = Driven::new(alloc, program, found.units)?;
     for event in &found.events {
-        try_event(&mut machine, &mut few, *event)?;
-        if is_read(&machine, found.evidence.harm) {
+        few.try_event(*event)?;
+        if is_read(few.machine(), found.evidence.harm) {
             break;
         }
     }
-    Ok(few)
-}
-
-/// How many instructions the retired tasks and the head have executed.
-fn executed(machine: &OpenMachine<'_>) -> usize {
-    let by_head = match machine.unit(0) {
-        Some(head) => head.reads().len(),
-        None => 0,
-    };
-    machine.reads().len().saturating_add(by_head)
+    Ok(few.into_events())
 }
 
 /// Whether the stale read of a harm has been made.
@@ -247,185 +303,60 @@ fn is_read(machine: &OpenMachine<'_>, harm: Harm) -> bool {
     }
 }
 
-/// The first of these events, up to the one after which the head has a wrong word.
-fn until_held(
+/// How many instructions the retired tasks and the head have executed.
+fn executed(machine: &OpenMachine<'_>) -> usize
+    ensures { result ≡ length (seen (state machine.now)) }
+{
+    let by_head = match machine.unit(0) {
+        Some(head) => head.reads().len(),
+        None => 0,
+    };
+    machine.reads().len().saturating_add(by_head)
+}
+
+/// A machine with one unit after the first of these events after which the head has a wrong word.
+#[tactic(auto, using(crate::proofs::Searching::words_at_first, crate::proofs::Searching::words_so, crate::proofs::Searching::has_wrong_so, crate::proofs::Searching::words_more, crate::proofs::Driving::tried_more))]
+fn until_held<'a>(
     alloc: Global,
-    program: &Program,
-    units: u32,
+    program: &'a Program,
     events: &[Event],
-) -> Result<Vec<Event>, OutOfMemory>
-    requires { units ≤ 16 }
+) -> Result<Option<Driven<'a>>, OutOfMemory>
+    ensures some { IfOk result (λ few. IfSome few (λ few. (few.program ≡ program.now) × (few.units ≡ 1) × HasWrongWord program.now few.run.state)) }
+    ensures none { IfOk result (λ few. IfNone few ((count : ℕ) → count ≤ length events.now
+        → WordsRight program.now (each_tried program.now 1 (opened program.now) (take count events.now)).state)) }
 {
-    let mut machine = OpenMachine::new(alloc, program, units)?;
+    let mut few = Driven::new(alloc, program, 1)?;
     let mut plain = program.plain(alloc)?;
-    let mut few = Vec::new(alloc);
+    let mut made = 0;
     for event in events {
-        try_event(&mut machine, &mut few, *event)?;
-        catch_up(&mut plain, executed(&machine) as u64)?;
-        if has_wrong_word(&machine, &plain) {
-            break;
+        few.try_event(*event)?;
+        let count = executed(few.machine());
+        catch_up(alloc, program, &mut plain, made, count)?;
+        made = count;
+        if wrong_word(few.machine(), &plain, made).is_some() {
+            return Ok(Some(few));
         }
     }
-    Ok(few)
+    Ok(None)
 }
 
-/// Makes steps until `count` were made.
-fn catch_up(plain: &mut Plain, count: u64) -> Result<(), OutOfMemory> {
-    if plain.count() < count {
-        plain.run(count - plain.count())?;
-    }
-    Ok(())
-}
-
-/// Whether the head has a word that the plain machine has not.
-fn has_wrong_word(machine: &OpenMachine<'_>, plain: &Plain) -> bool {
-    let Some(head) = machine.unit(0) else {
-        return false;
-    };
-    (0u8..34).filter_map(Reg::new).any(|register| head
-        .value(register)
-        .is_some_and(|word| word != plain.reg(register)))
-}
-
-/// The tasks of a run of at most `steps` events in which each begins only once it is known.
-fn tasks_in_order(alloc: Global, program: &Program, steps: u32) -> Result<Vec<u32>, OutOfMemory> {
-    let mut machine = OpenMachine::new(alloc, program, 2)?;
-    let mut events = Vec::new(alloc);
-    go_on(&mut machine, &mut events, Guess::Wait, steps)?;
-    let mut tasks = Vec::new(alloc);
-    for commit in machine.commits() {
-        tasks.push(commit.task)?;
-    }
-    Ok(tasks)
-}
-
-/// The events of a run on `units` units.
-fn drive(
+/// Makes steps of the plain machine, which has made `made`, until it has made `count`.
+#[tactic(auto, using(crate::proofs::Searching::room_to_run, crate::proofs::Searching::caught_up))]
+fn catch_up(
     alloc: Global,
     program: &Program,
-    units: u32,
-    guess: Guess<'_>,
-    steps: u32,
-) -> Result<Vec<Event>, OutOfMemory>
-    requires { units ≤ 16 }
+    plain: &mut Plain,
+    made: usize,
+    count: usize,
+) -> Result<(), OutOfMemory>
+    requires { IsAfter (input program.now) made plain.old }
+    ensures { OnOk result (IsAfter (input program.now) count plain.new) }
 {
-    let mut machine = OpenMachine::new(alloc, program, units)?;
-    let mut events = Vec::new(alloc);
-    go_on(&mut machine, &mut events, guess, steps)?;
-    Ok(events)
-}
-
-/// Goes on in rounds, until at least `steps` events were applied, or a round applies none.
-fn go_on(
-    machine: &mut OpenMachine<'_>,
-    events: &mut Vec<Event>,
-    guess: Guess<'_>,
-    steps: u32,
-) -> Result<(), OutOfMemory> {
-    for _ in 0..steps {
-        let before = events.len();
-        round(machine, events, guess)?;
-        if events.len() == before || events.len() >= steps as usize {
-            break;
+    match count.checked_sub(made) {
+        Some(missing) => plain.run(missing as u64),
+        None => {
+            *plain = program.plain(alloc)?;
+            plain.run(count as u64)
         }
     }
-    Ok(())
-}
-
-/// One round: the head retires if it may, each unit takes what it can and executes one instruction, and a unit
-/// that is free begins with a task.
-fn round(
-    machine: &mut OpenMachine<'_>,
-    events: &mut Vec<Event>,
-    guess: Guess<'_>,
-) -> Result<(), OutOfMemory> {
-    try_event(machine, events, Event::Retire)?;
-    try_event(machine, events, Event::Fault)?;
-    for position in 0..machine.active() {
-        try_event(machine, events, Event::Squash(position))?;
-        try_registers(machine, events, position)?;
-        try_event(machine, events, Event::Exec(position))?;
-    }
-    assign(machine, events, guess)
-}
-
-/// A unit takes each register that it can, and sends each that it may.
-fn try_registers(
-    machine: &mut OpenMachine<'_>,
-    events: &mut Vec<Event>,
-    position: u32,
-) -> Result<(), OutOfMemory> {
-    let has_stopped = match machine.unit(position) {
-        Some(unit) => matches!(unit.spot(), Spot::Stopped(_)),
-        None => return Ok(()),
-    };
-    for number in 0u8..34 {
-        if let Some(register) = Reg::new(number) {
-            if position > 0 {
-                try_event(machine, events, Event::Transfer(position, register))?;
-            }
-            if has_stopped {
-                try_event(machine, events, Event::Drain(position, register))?;
-            }
-        }
-    }
-    Ok(())
-}
-
-/// Applies an event, and puts it after the others, if it is allowed.
-fn try_event(
-    machine: &mut OpenMachine<'_>,
-    events: &mut Vec<Event>,
-    event: Event,
-) -> Result<(), OutOfMemory> {
-    match machine.apply(&event) {
-        Ok(()) => events.push(event)?,
-        Err(Refused::OutOfMemory) => return Err(OutOfMemory),
-        Err(_) => {}
-    }
-    Ok(())
-}
-
-/// Whether there is a tail that has not stopped.
-fn is_guess(machine: &OpenMachine<'_>) -> bool {
-    match machine.unit(machine.active().saturating_sub(1)) {
-        Some(tail) => matches!(tail.spot(), Spot::Inside(_)),
-        None => false,
-    }
-}
-
-/// A unit that is free begins with a task.
-fn assign(
-    machine: &mut OpenMachine<'_>,
-    events: &mut Vec<Event>,
-    guess: Guess<'_>,
-) -> Result<(), OutOfMemory> {
-    if !is_guess(machine) {
-        return assign_any(machine, events);
-    }
-    match guess {
-        Guess::Wait => Ok(()),
-        Guess::Known(tasks) => {
-            let place = machine
-                .commits()
-                .len()
-                .saturating_add(machine.active() as usize);
-            match tasks.get(place) {
-                Some(task) => try_event(machine, events, Event::Assign(*task)),
-                None => Ok(()),
-            }
-        }
-    }
-}
-
-/// A unit that is free begins with the first task that may follow.
-fn assign_any(machine: &mut OpenMachine<'_>, events: &mut Vec<Event>) -> Result<(), OutOfMemory> {
-    let before = events.len();
-    for task in 0..machine.program().tasks().len() as u32 {
-        try_event(machine, events, Event::Assign(task))?;
-        if events.len() > before {
-            break;
-        }
-    }
-    Ok(())
 }

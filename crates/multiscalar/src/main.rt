@@ -4,13 +4,13 @@
 
 use program_edge::coloring::is_colorful;
 use program_edge::program::run;
+use result_files::system::SystemFolder;
 use std::io::IsTerminal;
 use std::process;
 use std::process::ExitCode;
-use text_pieces::system::SystemFolder;
 
 fn main(rt: HostRuntime) -> ExitCode {
-    let mut folder = SystemFolder::new(&rt, process::id(rt.process()));
+    let mut folder = SystemFolder::new(&rt, rt.alloc(), process::id(rt.process()));
     let mut output = rt.stdout();
     let shows_colors = output.is_terminal() && is_colorful(&rt);
     let mut errors = rt.stderr();

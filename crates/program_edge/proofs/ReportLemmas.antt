@@ -9,8 +9,8 @@ use Rattle.verdict_report.specs.JobTexts.{IsDone, IsReportOf}
 use Rattle.std.specs.String.{string_bytes}
 use Rattle.std.specs.declared.alloc.Global.{Global}
 use Rattle.std.specs.declared.string.String.{String}
-use Rattle.text_pieces.specs.Files.{ChangesAt, Same}
-use Rattle.text_pieces.specs.declared.unwritten.Unwritten.{Unwritten}
+use Rattle.result_files.specs.Files.{ChangesAt, Same}
+use Rattle.result_files.specs.declared.unwritten.Unwritten.{Unwritten}
 use Rattle.program_edge.specs.declared.fault.Fault.TheVariants.{NotWritten, Serve}
 use Rattle.program_edge.specs.declared.told.Answered.{Answered}
 use Rattle.program_edge.specs.Telling.{IsTold}

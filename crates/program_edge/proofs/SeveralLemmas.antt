@@ -19,7 +19,7 @@ use Rattle.program_edge.specs.declared.summary.ProgramTally.{ProgramTally}
 use Rattle.program_edge.specs.declared.told.Answered.{Answered}
 use Rattle.program_edge.specs.FileTexts.{Known}
 use Rattle.program_edge.specs.Hints.{IsSaid}
-use Rattle.text_pieces.specs.Files.{Same}
+use Rattle.result_files.specs.Files.{Same}
 use Rattle.verdict_report.specs.declared.fault.ServeFault.{ServeFault}
 use Rattle.verdict_report.specs.declared.fault.ServeFault.TheVariants as serve
 use Rattle.program_edge.specs.declared.fault.Fault.TheVariants.{Serve}

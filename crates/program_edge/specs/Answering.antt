@@ -13,8 +13,8 @@ use Rattle.verdict_report.specs.declared.fault.ServeFault.TheVariants as serve
 use Rattle.verdict_report.specs.CurveProgress.{IsProgress, progress_lines}
 use Rattle.verdict_report.specs.JobTexts.{IsCutOff, IsDone, IsReportOf}
 use Rattle.verdict_report.specs.Writing.{Begins}
-use Rattle.text_pieces.specs.Files.{ChangesAt, Same}
-use Rattle.text_pieces.specs.declared.unwritten.Unwritten.{Unwritten}
+use Rattle.result_files.specs.Files.{ChangesAt, Same}
+use Rattle.result_files.specs.declared.unwritten.Unwritten.{Unwritten}
 use Rattle.program_edge.specs.declared.fault.Fault.{Fault}
 use Rattle.program_edge.specs.declared.fault.Fault.TheVariants.{NotWritten, Serve}
 use Rattle.program_edge.specs.declared.unread.Unread.{Unread}

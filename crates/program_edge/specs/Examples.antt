@@ -16,7 +16,7 @@ use Rattle.jobs.specs.declared.job.Job.TheVariants.{Check, Explain, Print, Seq}
 use Rattle.report_texts.specs.OutputTexts.{Report}
 use Rattle.std.specs.declared.string.String.{String}
 use Rattle.std.specs.declared.alloc.Global.{Global}
-use Rattle.text_pieces.specs.declared.unwritten.Unwritten.TheVariants.{NoSuchFolder}
+use Rattle.result_files.specs.declared.unwritten.Unwritten.TheVariants.{NoSuchFolder}
 use Rattle.explain_report.specs.declared.left.LeftOver.{LeftOver}
 use Rattle.program_edge.specs.Asking.{input_of}
 use Rattle.program_edge.specs.Beside.{rest_said}

@@ -16,7 +16,7 @@ use Rattle.command_line.specs.declared.words.UsageFault.{UsageFault}
 use Rattle.command_line.specs.declared.words.UsageFault.TheVariants as usage
 use Rattle.verdict_report.specs.FaultText.{serve_fault_text}
 use Rattle.verdict_report.specs.Writing.{Begins}
-use Rattle.text_pieces.specs.Refusals.{unwritten_words}
+use Rattle.result_files.specs.Refusals.{unwritten_reason}
 use Rattle.program_edge.specs.Usage.{is_shown}
 
 -- why a file gives no text; the limit is that of a certificate or a script
@@ -66,7 +66,7 @@ name_of (File path) = codes "file " ++ string_bytes path
 name_of (Explained unread) = unread_words unread
 name_of (NoProgram unread) = unread_program_words unread
 name_of (Serve fault) = serve_fault_text fault
-name_of (NotWritten path reason) = file_words (string_bytes path) (unwritten_words reason)
+name_of (NotWritten path reason) = file_words (string_bytes path) (unwritten_reason reason)
 
 -- the text for a fault: as it stands, or one line
 abbrev pub said_of : Fault → List ℕ

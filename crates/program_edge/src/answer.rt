@@ -1,6 +1,6 @@
 //! From what was asked and its files to what is written and the status.
 ghost use Rattle.std.specs.Prelude.{◌≡◌, ◌⊎◌, ◌∷◌, IfOk, false};
-ghost use Rattle.text_pieces.specs.Files.{Files};
+ghost use Rattle.result_files.specs.Files.{Files};
 ghost use Rattle.program_edge.specs.Answering.{IsAnswered, IsAnsweredFor, IsDelivered, IsDeliveredIf, IsDeliveredTold, IsJobDone, IsNotDone, IsPut, IsRead, IsShown, IsTaken, ending_after};
 ghost use Rattle.program_edge.specs.Refusals.{is_refusal};
 ghost use Rattle.program_edge.specs.Several.{IsEach};
@@ -20,12 +20,12 @@ use crate::told::{Answered, tell};
 use crate::unread::Unread;
 use command_line::request::Request;
 use jobs::job::{CertificateSource, Job, Texts};
+use result_files::folder::Folder;
+use result_files::replacing::replace;
 use std::alloc::{AllocError, Global};
 use std::io::Write;
 use std::sync::Wait;
 use std::thread::Threads;
-use text_pieces::folder::Folder;
-use text_pieces::replacing::replace;
 use verdict_report::fault::ServeFault;
 use verdict_report::serve::serve;
 

@@ -1,7 +1,7 @@
 //! The job for several programs, one after another.
 ghost use Rattle.std.specs.Prelude.{◌≡◌, ◌≤◌, ◌+◌, Err, IfErr, IfOk, OnErr, OnOk};
 ghost use Rattle.std.specs.String.{string_bytes};
-ghost use Rattle.text_pieces.specs.Files.{Files};
+ghost use Rattle.result_files.specs.Files.{Files};
 ghost use Rattle.program_edge.specs.Several.{EndsAt, IsEach, IsPartOf, Part as PartOf, Sums};
 ghost use Rattle.program_edge.specs.Streams.{IsCut, IsWritten};
 ghost use Rattle.program_edge.specs.Summaries.{all_of, summary_line};

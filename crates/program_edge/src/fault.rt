@@ -2,7 +2,7 @@
 
 use crate::unread::Unread;
 use crate::usage::UsageText;
-use text_pieces::unwritten::Unwritten;
+use result_files::unwritten::Unwritten;
 use verdict_report::fault::ServeFault;
 
 /// Why the program does no job: it says so, and ends with status 2, or with 0 for help and the version.

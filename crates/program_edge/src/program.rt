@@ -6,11 +6,11 @@ use crate::asked::asked;
 use crate::coloring::settle_asked;
 use crate::named_files::NamedFiles;
 use crate::words::ProcessWords;
+use result_files::folder::Folder;
 use std::io::Write;
 use std::marker::Sync;
 use std::sync::Wait;
 use std::thread::Threads;
-use text_pieces::folder::Folder;
 
 /// Runs the program on the words and the files of a process, and answers its status, 0 to 3. A result may go to a
 /// file of `folder`; `is_terminal` says whether `errors` is a terminal, and `shows_colors` whether `output` is one that

@@ -2,15 +2,15 @@
 ghost use Rattle.std.specs.Prelude.{◌≡◌, ◌∷◌, ◌++◌, [], OnOk, codes};
 ghost use Rattle.std.specs.Io.KnownBytes.{Appends};
 ghost use Rattle.std.specs.String.{string_bytes};
-ghost use Rattle.verdict_report.specs.FaultText.{serve_fault_text};
 ghost use Rattle.verdict_report.specs.Writing.{Begins};
+ghost use Rattle.result_files.specs.Refusals.{link_reason, unwritten_reason};
 ghost use Rattle.program_edge.specs.Telling.{IsTold, file_words, folder_reason, name_of, said_of, unread_program_words, unread_words};
 
 use crate::fault::Fault;
 use crate::unread::{Unread, UnreadReason};
+use result_files::unwritten::Unwritten;
 use std::io;
 use std::io::Write;
-use verdict_report::fault::ServeFault;
 use verdict_report::writing::write_text;
 
 /// How the program ends.
@@ -93,8 +93,8 @@ fn write_name<W: Write>(fault: &Fault, writer: &mut W) -> io::Result<()>
         Fault::File(path) => write_path(path.as_str(), writer),
         Fault::Explained(unread) => write_unread(unread, writer),
         Fault::NoProgram(unread) => write_unread_program(unread, writer),
-        Fault::Serve(fault) => write_text(serve_words(*fault), writer),
-        Fault::NotWritten(path, reason) => write_reason(path.as_str(), reason.words(), writer),
+        Fault::Serve(fault) => write_text(fault.name(), writer),
+        Fault::NotWritten(path, reason) => write_unwritten(path.as_str(), reason, writer),
     }
 }
 
@@ -137,6 +137,27 @@ fn write_folder<W: Write>(path: &str, writer: &mut W) -> io::Result<()>
     write_text("/*.s", writer)
 }
 
+// Writes the name of a file that takes no result, and why: of a link, which file to name.
+fn write_unwritten<W: Write>(path: &str, reason: &Unwritten, writer: &mut W) -> io::Result<()>
+    ensures whole { OnOk result (Appends (W.contents writer.old) (W.contents writer.new) (file_words path.now (unwritten_reason reason.now))) }
+    ensures part { Begins (W.contents writer.old) (W.contents writer.new) (file_words path.now (unwritten_reason reason.now)) }
+{
+    match reason {
+        Unwritten::Link(file) => write_link(path, file.as_str(), writer),
+        _ => write_reason(path, reason.words(), writer),
+    }
+}
+
+// Writes that the file of this name is a link, and to which file it leads.
+fn write_link<W: Write>(path: &str, file: &str, writer: &mut W) -> io::Result<()>
+    ensures whole { OnOk result (Appends (W.contents writer.old) (W.contents writer.new) (file_words path.now (link_reason file.now))) }
+    ensures part { Begins (W.contents writer.old) (W.contents writer.new) (file_words path.now (link_reason file.now)) }
+{
+    write_path(path, writer)?;
+    write_text(": is a link; name the file itself, ", writer)?;
+    write_text(file, writer)
+}
+
 // Writes the name of a file, and a reason.
 fn write_reason<W: Write>(path: &str, reason: &str, writer: &mut W) -> io::Result<()>
     ensures whole { OnOk result (Appends (W.contents writer.old) (W.contents writer.new) (file_words path.now reason.now)) }
@@ -145,15 +166,4 @@ fn write_reason<W: Write>(path: &str, reason: &str, writer: &mut W) -> io::Resul
     write_path(path, writer)?;
     write_text(": ", writer)?;
     write_text(reason, writer)
-}
-
-// The number and the name of why a job was not done.
-fn serve_words(fault: ServeFault) -> &'static str
-    ensures { result.now ≡ serve_fault_text fault }
-{
-    match fault {
-        ServeFault::OutOfMemory => "1 OutOfMemory",
-        ServeFault::Write => "2 Write",
-        ServeFault::Foreign => "3 Foreign",
-    }
 }

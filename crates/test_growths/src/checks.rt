@@ -2,6 +2,7 @@
 
 use crate::given::{Given, Runtime, TRIES};
 use crate::notes::Notes;
+use crate::watch::Watch;
 use mark_checker::check::{check_task, verdict};
 use mask_certificate::certificate::Cert;
 use mask_certificate::fault::CertFault;
@@ -92,9 +93,13 @@ pub(crate) fn checks_shared(given: &Given<'_>, rt: &impl Runtime) -> Option<()> 
     let (program, cert) = given.pair()?;
     let (alloc, workers) = (given.alloc(), given.workers);
     for _ in 0..TRIES {
+        let gate = Watch::new(workers);
         given.begins();
-        let answer = verdict_shared(rt, alloc, &program, &cert, workers, &OpenCheck);
+        let answer = verdict_shared(rt, alloc, &program, &cert, workers, &gate);
         given.ends();
+        if !gate.is_right() {
+            given.refused(false, true);
+        }
         match answer {
             Ok(verdict) => {
                 let mut notes = Notes::new(alloc);

@@ -17,6 +17,7 @@ mod plain;
 mod programs;
 mod runs;
 mod units;
+mod watch;
 
 use crate::checks::{OfPair, of_pair};
 use crate::given::{Given, Runtime};

@@ -7,12 +7,12 @@ use program_edge::answer::answer;
 use program_edge::asked::asked_by;
 use program_edge::named_files::NamedFiles;
 use program_edge::unread::UnreadReason;
+use result_files::folder::Folder;
+use result_files::unwritten::Unwritten;
 use std::alloc::Global;
 use std::io;
 use test_programs::programs::COUNT;
-use text_pieces::folder::Folder;
 use text_pieces::serial::FetchFault;
-use text_pieces::unwritten::Unwritten;
 
 // Each file holds this text.
 #[derive(Drop)]
@@ -54,6 +54,10 @@ struct Shelf {
     old: Vec<u8>,
     new: Option<Vec<u8>>,
     fails: Fails,
+    // How many names are taken that a new file may have, the first ones.
+    taken: u32,
+    // How many bytes a file may have.
+    most: u64,
 }
 
 impl Folder for Shelf {
@@ -69,8 +73,16 @@ impl Folder for Shelf {
         7
     }
 
+    fn most_bytes(&self) -> u64 {
+        self.most
+    }
+
     fn create(&mut self, name: &str, place: &str) -> Result<HeldBack, Unwritten> {
-        if self.fails == Fails::AtCreate || name != "b.s.7.new" || place != "b.s" {
+        if self.taken > 0 {
+            self.taken -= 1;
+            return Err(Unwritten::InTheWay);
+        }
+        if self.fails == Fails::AtCreate || !name.starts_with("b.s.") || place != "b.s" {
             return Err(Unwritten::NotPermitted);
         }
         self.new = Some(Vec::new(self.alloc));
@@ -111,6 +123,8 @@ struct Case<'a> {
     words: &'a str,
     text: &'a str,
     fails: Fails,
+    taken: u32,
+    most: u64,
     // What stands in `b.s` in the end, where `old` stood.
     file: &'a str,
     output: &'a str,
@@ -122,6 +136,8 @@ const PRINTED: Case<'static> = Case {
     words: "print -o b.s a.s",
     text: COUNT,
     fails: Fails::Never,
+    taken: 0,
+    most: u64::MAX,
     file: COUNT,
     output: "",
     errors: "",
@@ -144,8 +160,30 @@ const FAILED: Case<'static> = Case {
     ..PRINTED
 };
 
-const CASES: [Case<'static>; 10] = [
+const CASES: [Case<'static>; 15] = [
     PRINTED,
+    // Left-over files of other processes have the first names of a new one, or all that it may have.
+    Case {
+        taken: 63,
+        ..PRINTED
+    },
+    Case {
+        taken: 64,
+        errors: "multiscalar: file b.s: the new file's name is taken\n",
+        ..FAILED
+    },
+    // As long as a file may be, and one byte longer.
+    Case {
+        most: COUNT.len() as u64,
+        ..PRINTED
+    },
+    Case {
+        most: COUNT.len() as u64 - 1,
+        errors: "multiscalar: file b.s: longer than the limit on the size of files (ulimit -f)\n",
+        ..FAILED
+    },
+    // A refused text changes no file, however long one may be.
+    Case { most: 0, ..REFUSED },
     Case {
         words: "seq --budget 17 -o b.s a.s",
         file: "10\nout of budget after 17 instructions\n",
@@ -203,6 +241,8 @@ impl Case<'_> {
             old: b"old".as_slice().to_vec(alloc).ok().expect(rt, "room"),
             new: None,
             fails: self.fails,
+            taken: self.taken,
+            most: self.most,
         };
         let mut output = Vec::new(alloc);
         let mut errors = Vec::new(alloc);

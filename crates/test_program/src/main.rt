@@ -13,17 +13,17 @@ mod tables;
 use crate::rows::{NUMBER, Runtime};
 use crate::tables::run_table;
 use program_edge::program::run;
+use result_files::system::SystemFolder;
 use std::io::Write;
 use std::process::ExitCode;
 use std::{fs, io};
-use text_pieces::system::SystemFolder;
 
 fn main(rt: HostRuntime) -> ExitCode {
     match run_tables(&rt, &rt, &mut rt.stdout()) {
         Ok(true) => {}
         Ok(false) | Err(_) => return ExitCode::FAILURE,
     }
-    let mut folder = SystemFolder::new(&rt, NUMBER);
+    let mut folder = SystemFolder::new(&rt, rt.alloc(), NUMBER);
     let status = run(
         &rt,
         &mut folder,

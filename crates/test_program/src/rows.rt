@@ -4,13 +4,13 @@ use crate::expected::Expected;
 use program_edge::answer::answer_reader;
 use program_edge::asked::asked_by;
 use program_edge::named_files::SystemFiles;
+use result_files::system::SystemFolder;
 use std::alloc::{AllocError, Global};
 use std::io;
 use std::io::Write;
 use std::marker::Sync;
 use std::sync::Wait;
 use std::thread::Threads;
-use text_pieces::system::SystemFolder;
 
 /// What the program may do beside reaching files and taking memory: make threads, and wait.
 pub trait Runtime: Threads + Wait + Sync {}
@@ -110,7 +110,7 @@ impl Command<'_> {
         let alloc = host.alloc();
         let words = words_of(alloc, self.words)?;
         let asked = asked_by(alloc, words.as_slice());
-        let mut folder = SystemFolder::new(host, NUMBER);
+        let mut folder = SystemFolder::new(host, alloc, NUMBER);
         let mut output = Vec::new(alloc);
         let mut errors = Vec::new(alloc);
         let ending = answer_reader(

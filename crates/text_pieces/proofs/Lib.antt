@@ -1,5 +1,3 @@
 pub mod CutLemmas
 pub mod Splits
 pub mod PartLemmas
-mod NewNames
-mod Written

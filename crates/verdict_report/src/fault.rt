@@ -1,37 +1,37 @@
 //! Why a job is not done.
 
 use std::alloc::AllocError;
-use std::error::Error;
-use std::fmt;
+use thiserror::Error;
 
 /// Why a job was not done.
-#[derive(Clone, Copy, Debug, PartialEq, Eq)]
+#[derive(Clone, Copy, Debug, PartialEq, Eq, Error)]
 pub enum ServeFault {
     /// 1: memory ran out, or a thread of `run` could not be made; nothing was written.
+    #[error("1 OutOfMemory")]
     OutOfMemory,
     /// 2: the writer failed; what was written is a prefix of the job's text.
+    #[error("2 Write")]
     Write,
     /// 3: the threads of `run` returned another machine; nothing was written. No job answers this.
+    #[error("3 Foreign")]
     Foreign,
 }
 
-impl fmt::Display for ServeFault {
-    ghost use Rattle.std.specs.Prelude.{Some};
+impl ServeFault {
+    ghost use Rattle.std.specs.Prelude.{◌≡◌};
     ghost use Rattle.verdict_report.specs.FaultText.{serve_fault_text};
 
-    ghost output = { λ fault. Some (serve_fault_text fault) };
-
-    /// The number and the name of the fault.
-    fn fmt<W: fmt::Write>(&self, f: &mut fmt::Formatter<W>) -> fmt::Result {
+    /// The number and the name of the fault, as its `Display` writes them.
+    pub fn name(self) -> &'static str
+        ensures { result.now ≡ serve_fault_text self }
+    {
         match self {
-            ServeFault::OutOfMemory => write!(f, "1 OutOfMemory"),
-            ServeFault::Write => write!(f, "2 Write"),
-            ServeFault::Foreign => write!(f, "3 Foreign"),
+            ServeFault::OutOfMemory => "1 OutOfMemory",
+            ServeFault::Write => "2 Write",
+            ServeFault::Foreign => "3 Foreign",
         }
     }
 }
-
-impl Error for ServeFault {}
 
 impl From<AllocError> for ServeFault {
     ghost use Rattle.std.specs.Prelude.{◌≡◌};

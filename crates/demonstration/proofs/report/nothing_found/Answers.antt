@@ -12,6 +12,7 @@ pub returns : goal.returns
 returns c =
     let told = λ (l : List ShownFinding). nothing_found_text c.args.units c.args.steps ++ flat_map (finding_text c.args.program.now c.args.places.now) l in
     record {
+      none = c.requires;
       first = c.in_ok-first.first.list.items;
       more = c.in_ok-first.first.more;
       shown = c.in_ok-first.ensures;

@@ -1,6 +1,6 @@
 //! Files that can be made and renamed.
 ghost use Rattle.std.specs.Prelude.{◌≡◌, ◌≢◌, ℕ, Bool, true, List, [], Option, Some, IfOk, OnOk, OnErr};
-ghost use Rattle.text_pieces.specs.Files.{ChangesOnly, Same};
+ghost use Rattle.result_files.specs.Files.{ChangesOnly, Same};
 
 use crate::unwritten::Unwritten;
 use std::io::Write;
@@ -20,18 +20,24 @@ pub trait Folder {
     /// A number that no other process has at the time; it goes into the names of the files that this one makes.
     fn number(&self) -> u32;
 
-    /// Makes an empty file, with the rights of the file whose place it is to take, where there is one.
+    /// How many bytes a file may have. Writing more ends the process, or fails.
+    fn most_bytes(&self) -> u64;
+
+    /// Makes an empty file that is to take the place of another. Where there is that other, the new file has its owner
+    /// and group from now on, and is for this process alone until it is finished.
     ///
     /// # Errors
     ///
-    /// What the system reports; `InTheWay` where there is a file of this name, `NoPlainFile` where the other name
-    /// is that of something other than a file. Then everything is as it was.
+    /// What the system reports; `InTheWay` where there is a file of this name, `Link` and `NoPlainFile` where the other
+    /// name is that of something other than a file, `Owner` where the new file can't have the other's owner and group.
+    /// Then everything is as it was.
     fn create(&mut self, name: &str, place: &str) -> Result<Self::File, Unwritten>
         ensures empty { IfOk result (λ file. is_watched ≡ true → Self.File.contents file ≡ Some []) }
         ensures others { ChangesOnly (known self.old) (known self.new) name.now }
         ensures err { OnErr result (Same (known self.old) (known self.new)) };
 
-    /// Ends the writing of a file that was made under this name: what was written is on the disk.
+    /// Ends the writing of a file that was made under this name: what was written is on the disk, and those may read,
+    /// write and run it who may do so with the file whose place it is to take.
     ///
     /// # Errors
     ///

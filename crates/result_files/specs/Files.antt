@@ -18,6 +18,10 @@ Same old new = (name : List ℕ) → new name ≡ old name
 abbrev pub new_name : (path : List ℕ) → (number : ℕ) → List ℕ
 new_name path number = path ++ (codes "." ++ (decimal number ++ codes ".new"))
 
+-- a name that a new file may have beside the file of this path
+abbrev pub IsNewName : (path name : List ℕ) → Type 0
+IsNewName path name = (number : ℕ) × (name ≡ new_name path number)
+
 -- no file changed but the one of this name, and one that was new beside it
 abbrev pub ChangesAt : Files → Files → (path : List ℕ) → Type 0
 ChangesAt old new path =

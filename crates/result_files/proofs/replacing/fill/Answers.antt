@@ -1,7 +1,7 @@
 -- What was written to the empty file is what it holds.
 use Rattle.std.proofs.lemmas.Result.{on_ok_weaker}
-use Rattle.text_pieces.proofs.Written.{from_nothing}
-use Rattle.text_pieces.proofs.replacing.fill.Goals as goal
+use Rattle.result_files.proofs.Written.{from_nothing}
+use Rattle.result_files.proofs.replacing.fill.Goals as goal
 
 pub returns-in-Ok-clause-ok : goal.returns-in-Ok-clause-ok
 returns-in-Ok-clause-ok g c =

@@ -2,7 +2,7 @@
 use Rattle.std.proofs.Common.{◌≡◌, ℕ, List, ◌++◌, length, ap, arith, length-append}
 use Rattle.std.specs.Prelude.{codes}
 use Rattle.std.specs.Fmt.{decimal}
-use Rattle.text_pieces.specs.Files.{new_name}
+use Rattle.result_files.specs.Files.{new_name}
 
 pub new_name-other : (path : List ℕ) (number : ℕ) → new_name path number ≡ path → ⊥
 new_name-other path number e =

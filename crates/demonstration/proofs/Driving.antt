@@ -1,0 +1,89 @@
+-- An event that is tried on a machine is the next of its run exactly where the machine allows it.
+use Rattle.std.specs.Prelude.{◌≡◌, ℕ, ◌+◌, ◌<◌, ◌≤◌, Bool, true, false, nat_lt, Option, Some, None, List, [], ◌∷◌, ◌++◌, length, take, get_or, Result, Ok, Err}
+use Rattle.std.specs.List.{fold}
+use Rattle.std.specs.Option.{option_or}
+use Rattle.std.proofs.Common.{refl, sym, ap, ◌∙◌, subst, arith, inl, inr, length-append, ltb-true}
+use Rattle.std.proofs.lemmas.List.Sums.{fold_more}
+use Rattle.task_descriptor.specs.Listing.{Listing}
+use Rattle.machine_model.specs.Machine.{State, opening}
+use Rattle.machine_model.specs.Refusals.{unless}
+use Rattle.machine_model.specs.Step.{Next}
+use Rattle.machine_model.specs.Answer.{answer, is_running, most_events, ok_unless, refusal}
+use Rattle.machine_model.specs.Replay.{Replays}
+use Rattle.machine_model.specs.Laws.{ReplayCut}
+use Rattle.machine_model.specs.declared.event.Event.{Event}
+use Rattle.machine_model.specs.declared.event.Refused.{Refused}
+use Rattle.machine_model.specs.declared.event.Refused.TheVariants as refused
+use Rattle.open_machine.specs.Machines.{OpenView, Applies, IsAnswered, answer_to, state, units_of}
+use Rattle.demonstration.specs.Driven.{DrivenView, IsDriven, driven_of}
+use Rattle.demonstration.specs.Rounds.{Run, answer_in, each_tried, taken, tried, where_ok}
+
+abbrev run_in : OpenView → List Event → Run
+run_in m events = record { state = state m; events = events }
+
+is_ok : (m : OpenView) (e : Event) (done : Unit {0}) → IsAnswered m e (Ok done) → answer_to m e ≡ Ok done
+is_ok m e done (inl same) = sym same
+is_ok m e done (inr memory) = absurd (let never = memory.0 in cc)
+
+is_err : (m : OpenView) (e : Event) (why : Refused) → (why ≡ refused.OutOfMemory → ⊥) → IsAnswered m e (Err why) → answer_to m e ≡ Err why
+is_err m e why other (inl same) = sym same
+is_err m e why other (inr memory) = absurd (other (let same = memory.0 in cc))
+
+counted_answer : (m : OpenView) (events : List Event) (e : Event) → m.count ≡ length events → answer_in m.program (units_of m) (run_in m events) e ≡ answer_to m e
+counted_answer m events e counted = ap (λ (n : ℕ). answer m.program (units_of m) (state m) n e) (sym counted)
+
+tried_ok : (p : Listing) (units : ℕ) (run : Run) (e : Event) (done : Unit {0}) → answer_in p units run e ≡ Ok done → tried p units run e ≡ taken p run e
+unfolding tried
+tried_ok p units run e done is = ap (λ (a : Result (Unit {0}) Refused). where_ok a (taken p run e) run) is
+
+tried_err : (p : Listing) (units : ℕ) (run : Run) (e : Event) (why : Refused) → answer_in p units run e ≡ Err why → tried p units run e ≡ run
+unfolding tried
+tried_err p units run e why is = ap (λ (a : Result (Unit {0}) Refused). where_ok a (taken p run e) run) is
+
+pub allowed_run : (m m' : OpenView) (events events' : List Event) (e : Event) (done : Unit {0}) → m.count ≡ length events → IsAnswered m e (Ok done) → Applies m e m' → m'.program ≡ m.program → units_of m' ≡ units_of m → events' ≡ events ++ e ∷ [] → driven_of m' events' ≡ record (driven_of m events) { run = tried m.program (units_of m) (run_in m events) e }
+allowed_run m m' events events' e done counted answered applies program units pushed =
+    let next : run_in m' events' ≡ tried m.program (units_of m) (run_in m events) e =
+    (λ j. record { state = applies.leaves j; events = pushed j })
+    ∙ sym (tried_ok m.program (units_of m) (run_in m events) e done (counted_answer m events e counted ∙ is_ok m e done answered)) in
+    λ j. record { program = program j; units = units j; run = next j }
+
+pub refused_run : (m : OpenView) (events : List Event) (e : Event) (why : Refused) → m.count ≡ length events → (why ≡ refused.OutOfMemory → ⊥) → IsAnswered m e (Err why) → driven_of m events ≡ record (driven_of m events) { run = tried m.program (units_of m) (run_in m events) e }
+refused_run m events e why counted other answered =
+    ap (λ (run : Run). record (driven_of m events) { run = run })
+    (sym (tried_err m.program (units_of m) (run_in m events) e why (counted_answer m events e counted ∙ is_err m e why other answered)))
+
+-- the machine stays one of its events
+
+room_if : (runs : Bool) (refusal : Option Refused) (room : Bool) (done : Unit {0}) → ok_unless (unless runs refused.Ended (option_or refusal (unless room refused.Full None))) ≡ Ok done → room ≡ true
+room_if true None true done e = refl
+room_if true None false done e = absurd (cc)
+room_if true (Some why) room done e = absurd (cc)
+room_if false refusal room done e = absurd (cc)
+
+pub stays_driven : ReplayCut → (m m' : OpenView) (events events' : List Event) (e : Event) (done : Unit {0}) → IsDriven (driven_of m events) m.count → IsAnswered m e (Ok done) → Applies m e m' → m'.program ≡ m.program → units_of m' ≡ units_of m → events' ≡ events ++ e ∷ [] → IsDriven (driven_of m' events') m'.count
+stays_driven cut m m' events events' e done h answered applies program units pushed =
+    let room : m.count < most_events =
+    ltb-true m.count most_events (room_if (is_running (state m).outcome) (refusal m.program (units_of m) (state m) e) (nat_lt m.count most_events) done (is_ok m e done answered)) in
+    let longer : length events' ≡ length events + 1 = ap length pushed ∙ length-append events (e ∷ []) in
+    let joined : Replays m.program (units_of m) (events ++ e ∷ []) (state m') =
+    (cut m.program (units_of m) (opening m.program) (state m') events (e ∷ [])).1 (state m, h.replays, (state m', applies.next, refl)) in
+    record {
+      counted = applies.count ∙ ap (λ (n : ℕ). n + 1) h.counted ∙ sym longer;
+      room = (let more = applies.count in omega arith);
+      replays =
+          subst (λ (p : Listing). Replays p (units_of m') events' (state m')) (sym program)
+          (subst (λ (n : ℕ). Replays m.program n events' (state m')) (sym units)
+          (subst (λ (es : List Event). Replays m.program (units_of m) es (state m')) (sym pushed) joined));
+    }
+
+pub opened_driven : (m : OpenView) (p : Listing) → m.program ≡ p → m.count ≡ 0 → state m ≡ opening p → IsDriven (driven_of m []) m.count
+opened_driven m p program count opened = record {
+  counted = count;
+  room = omega arith;
+  replays = opened ∙ ap opening (sym program);
+}
+
+-- a list of events is tried one by one
+pub tried_more : (p : Listing) (units : ℕ) (run : Run) (events : List Event) (index : ℕ) (e : Event) → index < length events → e ≡ get_or events index e → each_tried p units run (take (index + 1) events) ≡ tried p units (each_tried p units run (take index events)) e
+tried_more p units run events index e below is =
+    fold_more (tried p units) run events index e below ∙ ap (tried p units (each_tried p units run (take index events))) (sym is)

@@ -1,0 +1,12 @@
+-- no task so far may begin, so that the first that may is among the others
+use Rattle.std.specs.Prelude.{◌≡◌, ◌-◌, ◌≤◌, length}
+use Rattle.demonstration.specs.Rounds.{first_begins}
+use Rattle.demonstration.proofs.rounds.begin_first.Given as goal
+
+abbrev pub invariant-loop-task : goal.invariant-loop-task
+invariant-loop-task l = record {
+  same : l.driven ≡ l.initial.driven;
+  rest :
+      first_begins l.driven.program l.driven.units l.driven.run l.task (length l.driven.program.tasks - l.task)
+      ≡ first_begins l.driven.program l.driven.units l.driven.run 0 (length l.driven.program.tasks);
+}

@@ -1,0 +1,8 @@
+-- the runs on fewer units are right
+use Rattle.std.specs.Prelude.{◌≤◌, ◌<◌, ℕ, min}
+use Rattle.demonstration.specs.Rounds.{run_of}
+use Rattle.demonstration.specs.Shown.{ReadsRight}
+use Rattle.demonstration.proofs.search.shown_on_any.Given as goal
+
+abbrev pub invariant-loop-units : goal.invariant-loop-units
+invariant-loop-units l = (units : ℕ) → min l.most_units 2 ≤ units → units < l.units → ReadsRight l.program (run_of l.program units l.guesses l.steps).state

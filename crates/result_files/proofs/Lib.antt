@@ -1,0 +1,2 @@
+mod NewNames
+mod Written

@@ -1,0 +1,10 @@
+//! Files that take a result: they are written whole or not at all, and nobody who may not read the old file sees the
+//! new one while it is written.
+#![tactic(auto)]
+
+pub mod folder;
+pub mod replacing;
+pub mod rights;
+pub mod size_limit;
+pub mod system;
+pub mod unwritten;
