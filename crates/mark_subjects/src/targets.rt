@@ -1,17 +1,15 @@
 //! The targets of a task, and those that it lacks if it ends where it goes on into another task.
 
-ghost use Rattle.std.specs.Prelude.{◌≡◌, ◌++◌, ◌==◌, IfOk};
+ghost use Rattle.std.specs.Prelude.{◌≡◌, ◌==◌};
 ghost use Rattle.std.specs.List.{list_any};
-ghost use Rattle.mark_subjects.specs.Targets.{entries_listed, is_target, both, is_new, new_target, new_by, new_targets, lacks_some, may_stop};
+ghost use Rattle.mark_subjects.specs.Targets.{is_target, is_new, new_target, new_by, lacks_some, may_stop};
 
 use crate::subject::{Made, Subject, is_end};
 use mips_instructions::number::Place;
 use std::alloc::Global;
 
 /// The targets of a task where a task begins.
-pub fn entries_listed(subject: &Subject, task: u32) -> Made<Vec<u32>>
-    ensures { IfOk result (λ places. places.items ≡ entries_listed subject.now task) }
-{
+pub fn entries_listed(subject: &Subject, task: u32) -> Made<Vec<u32>> {
     subject
         .targets(task)
         .iter()
@@ -38,20 +36,17 @@ pub fn is_among(targets: &[Place], index: u32) -> bool
 }
 
 /// These places; one that would stand twice stands once.
-pub fn both(alloc: Global, onward: Option<u32>, taken: Option<u32>) -> Made<Vec<u32>>
-    ensures { IfOk result (λ places. places.items ≡ both onward taken) }
-{
-    match (onward, taken) {
-        (Some(index), Some(other)) => {
-            if index == other {
-                return Ok(vec![in alloc; index]?);
-            }
-            Ok(vec![in alloc; index, other]?)
-        }
-        (Some(index), None) => Ok(vec![in alloc; index]?),
-        (None, Some(other)) => Ok(vec![in alloc; other]?),
-        (None, None) => Ok(Vec::new(alloc)),
+pub fn both(alloc: Global, onward: Option<u32>, taken: Option<u32>) -> Made<Vec<u32>> {
+    let mut places = Vec::new(alloc);
+    if let Some(index) = onward {
+        places.push(index)?;
     }
+    if let Some(index) = taken {
+        if !is_end(onward, index) {
+            places.push(index)?;
+        }
+    }
+    Ok(places)
 }
 
 /// Whether a task begins at a place that is no target.
@@ -83,18 +78,14 @@ fn new_by(subject: &Subject, task: u32, index: u32, taken: bool) -> Option<u32>
 }
 
 /// The targets that a task lacks if it ends at an instruction that goes on into tasks.
-pub fn new_targets(subject: &Subject, task: u32, index: u32) -> Made<Vec<u32>>
-    ensures { IfOk result (λ places. places.items ≡ new_targets subject.now task index) }
-{
+pub fn new_targets(subject: &Subject, task: u32, index: u32) -> Made<Vec<u32>> {
     let onward = new_by(subject, task, index, false);
     let taken = new_by(subject, task, index, true);
     both(subject.alloc(), onward, taken)
 }
 
 /// The targets of a task where a task begins, and these places.
-pub fn targets_with(subject: &Subject, task: u32, places: &[u32]) -> Made<Vec<u32>>
-    ensures { IfOk result (λ targets. targets.items ≡ entries_listed subject.now task ++ places.now) }
-{
+pub fn targets_with(subject: &Subject, task: u32, places: &[u32]) -> Made<Vec<u32>> {
     let mut targets = entries_listed(subject, task)?;
     targets.extend_from_slice(places)?;
     Ok(targets)
