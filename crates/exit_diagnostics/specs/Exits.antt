@@ -1,5 +1,5 @@
 -- Where a task goes: the targets that exits take, and the first target where no task begins.
-use Rattle.std.specs.Prelude.{ℕ, Bool, not, ◌||◌, position, unwrap_or}
+use Rattle.std.specs.Prelude.{ℕ, Bool, true, false, not, ◌||◌, position, unwrap_or}
 use Rattle.std.specs.List.{list_any}
 use Rattle.mark_subjects.specs.Subjects.{Judged, targets_of, entries_of, is_entry, exit_end, is_end}
 

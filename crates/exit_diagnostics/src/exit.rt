@@ -1,6 +1,6 @@
 //! Where a task goes: exits that are not listed, edges that lead to no instruction, and targets where no task begins.
 
-ghost use Rattle.std.specs.Prelude.{◌≡◌, ◌||◌, not, position, IfOk, OnOk};
+ghost use Rattle.std.specs.Prelude.{◌≡◌, ◌||◌, true, false, not, position, IfOk, OnOk};
 ghost use Rattle.mark_subjects.specs.Subjects.{targets_of, is_entry, is_end as is_end_of, exit_end};
 ghost use Rattle.mark_subjects.specs.Parts.{paths, way_paths};
 ghost use Rattle.exit_diagnostics.specs.Exits.{is_taken, wrong_number};

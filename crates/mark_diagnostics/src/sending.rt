@@ -18,7 +18,7 @@ use mips_instructions::number::RegSet;
 
 /// What to do where the register is written again.
 #[derive(Clone, Copy)]
-enum Later {
+enum Resend {
     /// Nothing: it may be written yet again from there on, and so from each place to which the task goes on.
     Nowhere,
     /// To release it before the instruction of this index, from which on it is not written any more.
@@ -146,25 +146,25 @@ fn left_by(subject: &Subject, task: u32, register: u8, entry: &(u32, RegSet)) ->
 
 /// What to do where the register is not sent at the end of the path: to leave the last release; or to release it where it is
 /// not written any more; or to leave the last forward bit.
-fn elsewhere(subject: &Subject, task: u32, register: u8) -> Later
+fn elsewhere(subject: &Subject, task: u32, register: u8) -> Resend
     requires { register < 34 }
 {
     if let Some(index) = last_release(subject, task, register) {
-        return Later::Sent(index);
+        return Resend::Sent(index);
     }
     for entry in subject.entries(task) {
         if let Some(index) = left_by(subject, task, register, entry) {
-            return Later::Left(index);
+            return Resend::Left(index);
         }
     }
     match last_forward(subject, task, register) {
-        Some(index) => Later::Is(index),
-        None => Later::Nowhere,
+        Some(index) => Resend::Is(index),
+        None => Resend::Nowhere,
     }
 }
 
 /// What to do where a register is written again, at the end of the path.
-fn later(subject: &Subject, finding: &Finding, path: &[u32]) -> Made<Later> {
+fn resend_at(subject: &Subject, finding: &Finding, path: &[u32]) -> Made<Resend> {
     let at = last_or(finding.index, path);
     let task = finding.task;
     let register = register_in(finding.reg);
@@ -172,11 +172,11 @@ fn later(subject: &Subject, finding: &Finding, path: &[u32]) -> Made<Later> {
         return Ok(elsewhere(subject, task, register));
     }
     if subject.forwards(at) {
-        return Ok(Later::Is(at));
+        return Ok(Resend::Is(at));
     }
     match subject.inner(at, false) {
-        Some(next) if subject.releases(next, register) => Ok(Later::Sent(next)),
-        _ => Ok(Later::Put(at)),
+        Some(next) if subject.releases(next, register) => Ok(Resend::Sent(next)),
+        _ => Ok(Resend::Put(at)),
     }
 }
 
@@ -243,25 +243,25 @@ pub(crate) fn early_help(subject: &Subject, finding: &Finding, path: &[u32]) -> 
         let beside = words!(in alloc; "; {release}, on the path that does not write it")?;
         names.put("beside", beside)?;
     }
-    let row = match later(subject, finding, path)? {
-        Later::Put(at) => {
+    let row = match resend_at(subject, finding, path)? {
+        Resend::Put(at) => {
             names.line("line", subject, at)?;
             changes.push(bit_put(subject, at)?)?;
             PUT
         }
-        Later::Is(at) => {
+        Resend::Is(at) => {
             names.line("line", subject, at)?;
             IS
         }
-        Later::Sent(at) => {
+        Resend::Sent(at) => {
             names.line("line", subject, at)?;
             SENT
         }
-        Later::Left(at) => {
+        Resend::Left(at) => {
             names.put("release", put_release(subject, at, register)?)?;
             LEFT
         }
-        Later::Nowhere => NOWHERE,
+        Resend::Nowhere => NOWHERE,
     };
     names.help(row, changes)
 }

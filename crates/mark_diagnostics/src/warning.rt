@@ -186,7 +186,7 @@ fn is_created(subject: &Subject, task: u32, number: u8) -> bool
 }
 
 /// What is said of these registers of a create mask, which are never produced.
-fn never_produced(subject: &Subject, task: u32, gone: &[u8]) -> Made<(Words, Help)> {
+fn mask_advice(subject: &Subject, task: u32, gone: &[u8]) -> Made<(Words, Help)> {
     let kept = registers_where(subject.alloc(), |number| {
         is_created(subject, task, number) && !is_among(gone, number)
     })?;
@@ -197,7 +197,7 @@ fn never_produced(subject: &Subject, task: u32, gone: &[u8]) -> Made<(Words, Hel
 }
 
 /// What is said of a last update without a forward bit.
-fn not_forwarded(subject: &Subject, index: u32) -> Made<(Words, Help)> {
+fn update_advice(subject: &Subject, index: u32) -> Made<(Words, Help)> {
     let alloc = subject.alloc();
     let mut names = Names::new(alloc);
     let mut changes = Vec::new(alloc);
@@ -218,7 +218,7 @@ fn not_forwarded(subject: &Subject, index: u32) -> Made<(Words, Help)> {
 }
 
 /// What is said of these registers of a release, which were sent before it.
-fn sent_before(subject: &Subject, index: u32, gone: &[u8]) -> Made<(Words, Help)> {
+fn release_advice(subject: &Subject, index: u32, gone: &[u8]) -> Made<(Words, Help)> {
     let alloc = subject.alloc();
     let kept = registers_where(alloc, |number| {
         subject.releases(index, number) && !is_among(gone, number)
@@ -240,7 +240,7 @@ fn sent_before(subject: &Subject, index: u32, gone: &[u8]) -> Made<(Words, Help)
 
 /// What is said of code that no task reaches: a call before it may come back to it, and one instruction may be meant as
 /// a delay slot. What would be removed may be counted by a place that is given as @n.
-fn unreached(subject: &Subject, index: u32) -> Made<(Words, Help)> {
+fn unreached_advice(subject: &Subject, index: u32) -> Made<(Words, Help)> {
     let alloc = subject.alloc();
     let mut names = Names::new(alloc);
     let before = index.saturating_sub(1);
@@ -307,7 +307,7 @@ fn step_out(subject: &Subject, task: u32) -> Option<(u32, u32)> {
 }
 
 /// What is said of targets that no exit takes: first of a stop before one of them.
-fn not_taken(subject: &Subject, task: u32) -> Made<(Words, Help)> {
+fn targets_advice(subject: &Subject, task: u32) -> Made<(Words, Help)> {
     let alloc = subject.alloc();
     let is_untaken = |place: u32| !is_taken(subject, task, place);
     let places = subject.targets(task).iter().map(|target| target.get());
@@ -335,10 +335,10 @@ fn not_taken(subject: &Subject, task: u32) -> Made<(Words, Help)> {
 /// What is said of a mark that costs speed, with the registers of all that it stands for, and what to do.
 fn mark_advice(subject: &Subject, mark: &CostlyMark, registers: &[u8]) -> Made<(Words, Help)> {
     match mark {
-        CostlyMark::NeverProduced { task, .. } => never_produced(subject, *task, registers),
-        CostlyMark::NotForwarded { index } => not_forwarded(subject, *index),
-        CostlyMark::SentBefore { index, .. } => sent_before(subject, *index, registers),
-        CostlyMark::Unreached { index } => unreached(subject, *index),
+        CostlyMark::NeverProduced { task, .. } => mask_advice(subject, *task, registers),
+        CostlyMark::NotForwarded { index } => update_advice(subject, *index),
+        CostlyMark::SentBefore { index, .. } => release_advice(subject, *index, registers),
+        CostlyMark::Unreached { index } => unreached_advice(subject, *index),
     }
 }
 
@@ -346,7 +346,7 @@ fn mark_advice(subject: &Subject, mark: &CostlyMark, registers: &[u8]) -> Made<(
 fn stop_advice(subject: &Subject, remark: &StopRemark) -> Made<(Words, Help)> {
     match remark {
         StopRemark::NeverRuns(task) => never_running(subject, *task),
-        StopRemark::NotTaken(task) => not_taken(subject, *task),
+        StopRemark::NotTaken(task) => targets_advice(subject, *task),
         StopRemark::NoExit(task) => {
             let names = Names::of_task(subject, *task)?;
             match step_out(subject, *task) {
