@@ -24,7 +24,7 @@ const EXITS: &str =
     "task {task} ends here and goes on to {place}, or to {second} if the branch is taken; neither is one of its targets";
 
 /// Adds a note on a place, if an instruction is there.
-#[tactic(auto, using(mark_subjects::proofs::Paths::paths_added))]
+#[tactic(auto, using(mark_subjects::proofs::Paths::none_added))]
 pub fn add_place_note(subject: &Subject, notes: &mut Vec<Note>, index: u32) -> Made<()>
     ensures { OnOk result (paths notes.new.items ≡ paths notes.old.items) }
 {

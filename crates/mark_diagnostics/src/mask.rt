@@ -52,7 +52,7 @@ fn register_note(subject: &Subject, shown: &ShownFinding) -> Made<Note>
 }
 
 /// How the registers are known to be missing.
-#[tactic(auto, using(mark_subjects::proofs::Paths::paths_added))]
+#[tactic(auto, using(mark_subjects::proofs::Paths::none_added))]
 pub(crate) fn mask_notes(
     subject: &Subject,
     about: &[Finding],
@@ -63,7 +63,8 @@ pub(crate) fn mask_notes(
     let alloc = subject.alloc();
     let mut notes = Vec::new(alloc);
     for one in shown {
-        notes.push(register_note(subject, one)?)?;
+        let note = register_note(subject, one)?;
+        notes.push(note)?;
     }
     let further = missing(alloc, rest_after(about, 5))?;
     if further.len() > 0 {

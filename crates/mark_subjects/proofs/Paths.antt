@@ -14,3 +14,10 @@ paths_joined xs ys = flat_map-append (λ (n : Note). shown_path n.path) xs ys
 
 pub paths_added : (notes : List Note) (n : Note) → paths (notes ++ n ∷ []) ≡ paths notes ++ shown_path n.path
 paths_added notes n = paths_joined notes (n ∷ []) ∙ ap (λ (ps : List (List Span)). paths notes ++ ps) (one_path n)
+
+-- a note that shows no path
+pub no_path : (n : Note) → n.path ≡ [] → paths (n ∷ []) ≡ []
+no_path n none = one_path n ∙ ap shown_path none
+
+pub none_added : (notes : List Note) (n : Note) → n.path ≡ [] → paths (notes ++ n ∷ []) ≡ paths notes
+none_added notes n none = paths_added notes n ∙ ap (λ (steps : List Span). paths notes ++ shown_path steps) none ∙ append-nil (paths notes)

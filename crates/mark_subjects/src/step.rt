@@ -63,6 +63,7 @@ pub fn first_entered(subject: &Subject, list: &[ShownFinding]) -> Option<(u32, u
 }
 
 /// The note on such a step, if there is one; it shows no path.
+#[tactic(auto, using(crate::proofs::Paths::no_path))]
 pub fn stop_note(subject: &Subject, task: u32, step: Option<(u32, u32)>) -> Made<Vec<Note>>
     ensures { IfOk result (λ notes. paths notes.items ≡ []) }
 {
