@@ -1,5 +1,5 @@
--- What a diagnostic is an instance of: its identifier, and its words in the text form.
-use Rattle.std.specs.Prelude.{ℕ, List, codes, Option, Some, None}
+-- The identifier of what a diagnostic is an instance of.
+use Rattle.std.specs.Prelude.{ℕ, List, codes}
 use Rattle.diagnostics.specs.declared.code.Code.{Code}
 use Rattle.diagnostics.specs.declared.code.Code.TheVariants.{EntryWithoutMask, NextWithoutMask, LacksDestination, LacksNext, ExceedsCreate, ForwardedInNext, ReleasedInNext, SentNotCreated, ExitNotListed, FallsOff, IndirectGoesOn, TargetNotEntry, TooLong, NotAscii, Token, Mnemonic, Operand, Number, Mark, Duplicate, Unknown, TooMany, NoTask, BadEntry, DuplicateEntry, BadMask, BadMark, BadStart, Header, Line, TaskName, MissingTask, Shape, Unfit, ScriptLine, ScriptTaskName, NeverProduced, NotForwarded, SentBefore, Unreached, NoExit, TargetNotTaken, GoesIntoTask, More}
 
@@ -49,58 +49,3 @@ code_id NoExit = codes "warning-NoExit"
 code_id TargetNotTaken = codes "warning-TargetNotTaken"
 code_id GoesIntoTask = codes "warning-GoesIntoTask"
 code_id More = codes "more"
-
--- the words that end an error in the text form, if any: the number and the name that the other subcommands give
-abbrev pub code_label : Code → Option (List ℕ)
-code_label EntryWithoutMask = Some (codes "rule 1")
-code_label NextWithoutMask = Some (codes "rule 2")
-code_label LacksDestination = Some (codes "rule 3")
-code_label LacksNext = Some (codes "rule 4")
-code_label ExceedsCreate = Some (codes "rule 5")
-code_label ForwardedInNext = Some (codes "rule 6")
-code_label ReleasedInNext = Some (codes "rule 7")
-code_label SentNotCreated = Some (codes "rule 8")
-code_label ExitNotListed = Some (codes "rule 9")
-code_label FallsOff = Some (codes "rule 10")
-code_label IndirectGoesOn = Some (codes "rule 11")
-code_label TargetNotEntry = Some (codes "rule 12")
-code_label TooLong = Some (codes "1 TooLong")
-code_label NotAscii = Some (codes "2 NotAscii")
-code_label Token = Some (codes "3 Token")
-code_label Mnemonic = Some (codes "4 Mnemonic")
-code_label Operand = Some (codes "5 Operand")
-code_label Number = Some (codes "6 Number")
-code_label Mark = Some (codes "7 Mark")
-code_label Duplicate = Some (codes "8 Duplicate")
-code_label Unknown = Some (codes "9 Unknown")
-code_label TooMany = Some (codes "10 Build 1 TooMany")
-code_label NoTask = Some (codes "10 Build 2 NoTask")
-code_label BadEntry = Some (codes "10 Build 3 BadEntry")
-code_label DuplicateEntry = Some (codes "10 Build 4 DuplicateEntry")
-code_label BadMask = Some (codes "10 Build 5 BadMask")
-code_label BadMark = Some (codes "10 Build 6 BadMark")
-code_label BadStart = Some (codes "10 Build 7 BadStart")
-code_label Header = Some (codes "1 Header")
-code_label Line = Some (codes "2 Line")
-code_label TaskName = Some (codes "3 TaskName")
-code_label MissingTask = Some (codes "4 MissingTask")
-code_label Shape = Some (codes "5 Shape")
-code_label ScriptLine = Some (codes "1 Line")
-code_label ScriptTaskName = Some (codes "2 TaskName")
-code_label _ = None
-
--- what stands between these words and the number of the line, where they name the line
-abbrev pub code_before_line : Code → Option (List ℕ)
-code_before_line NotAscii = Some (codes " line ")
-code_before_line Token = Some (codes " line ")
-code_before_line Mnemonic = Some (codes " line ")
-code_before_line Operand = Some (codes " line ")
-code_before_line Number = Some (codes " line ")
-code_before_line Mark = Some (codes " line ")
-code_before_line Duplicate = Some (codes " line ")
-code_before_line Unknown = Some (codes " line ")
-code_before_line Line = Some (codes " ")
-code_before_line TaskName = Some (codes " ")
-code_before_line ScriptLine = Some (codes " ")
-code_before_line ScriptTaskName = Some (codes " ")
-code_before_line _ = None

@@ -1,7 +1,7 @@
--- What is true of every excerpt.
-use Rattle.std.specs.Prelude.{◌≡◌, ◌<◌, ℕ, Bool, true, not, List, length, slice_index, count_by}
+-- What is true of all bytes that are shown.
+use Rattle.std.specs.Prelude.{◌≡◌, ◌<◌, ℕ, Bool, true, List, slice_index}
 use Rattle.std.specs.List.{list_all}
-use Rattle.diagnostics.specs.Excerpt.{is_plain, shown, continues, blanks}
+use Rattle.diagnostics.specs.Excerpt.{is_plain, shown}
 
 -- a line is of bytes
 abbrev pub AreBytes : List ℕ → Type 0
@@ -11,11 +11,3 @@ AreBytes bs = (i : ℕ) → slice_index bs i < 256
 -- characters that they spell steers a terminal.)
 abbrev pub AreHarmless : Type 0
 AreHarmless = (readable : Bool) (bs : List ℕ) → AreBytes bs → list_all (is_plain readable) (shown readable bs) ≡ true
-
--- how many characters a text has: its bytes except those that continue a letter
-abbrev pub columns : List ℕ → ℕ
-columns bs = count_by (λ b. not (continues b)) bs
-
--- Below what is shown of some bytes there are as many blanks as it has characters: so the caret keeps its column.
-abbrev pub AreAligned : Type 0
-AreAligned = (readable : Bool) (bs : List ℕ) → AreBytes bs → length (blanks readable bs) ≡ columns (shown readable bs)

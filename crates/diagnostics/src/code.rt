@@ -1,7 +1,7 @@
 //! What a diagnostic is an instance of.
 
-ghost use Rattle.std.specs.Prelude.{◌≡◌, option_map};
-ghost use Rattle.diagnostics.specs.Codes.{code_id, code_label, code_before_line};
+ghost use Rattle.std.specs.Prelude.{◌≡◌};
+ghost use Rattle.diagnostics.specs.Codes.{code_id};
 
 /// What a diagnostic is an instance of. Each has an identifier that stays from version to version.
 #[derive(Clone, Copy, Debug, PartialEq, Eq)]
@@ -149,74 +149,22 @@ impl Code {
         }
     }
 
-    /// The words that end an error in the text form, if there are any: the number and the name that the other
-    /// subcommands give.
-    pub fn label(self) -> Option<&'static str>
-        ensures { option_map (λ words. words.now) result ≡ code_label self }
-    {
-        match self {
-            Code::EntryWithoutMask => Some("rule 1"),
-            Code::NextWithoutMask => Some("rule 2"),
-            Code::LacksDestination => Some("rule 3"),
-            Code::LacksNext => Some("rule 4"),
-            Code::ExceedsCreate => Some("rule 5"),
-            Code::ForwardedInNext => Some("rule 6"),
-            Code::ReleasedInNext => Some("rule 7"),
-            Code::SentNotCreated => Some("rule 8"),
-            Code::ExitNotListed => Some("rule 9"),
-            Code::FallsOff => Some("rule 10"),
-            Code::IndirectGoesOn => Some("rule 11"),
-            Code::TargetNotEntry => Some("rule 12"),
-            Code::TooLong => Some("1 TooLong"),
-            Code::NotAscii => Some("2 NotAscii"),
-            Code::Token => Some("3 Token"),
-            Code::Mnemonic => Some("4 Mnemonic"),
-            Code::Operand => Some("5 Operand"),
-            Code::Number => Some("6 Number"),
-            Code::Mark => Some("7 Mark"),
-            Code::Duplicate => Some("8 Duplicate"),
-            Code::Unknown => Some("9 Unknown"),
-            Code::TooMany => Some("10 Build 1 TooMany"),
-            Code::NoTask => Some("10 Build 2 NoTask"),
-            Code::BadEntry => Some("10 Build 3 BadEntry"),
-            Code::DuplicateEntry => Some("10 Build 4 DuplicateEntry"),
-            Code::BadMask => Some("10 Build 5 BadMask"),
-            Code::BadMark => Some("10 Build 6 BadMark"),
-            Code::BadStart => Some("10 Build 7 BadStart"),
-            Code::Header => Some("1 Header"),
-            Code::Line => Some("2 Line"),
-            Code::TaskName => Some("3 TaskName"),
-            Code::MissingTask => Some("4 MissingTask"),
-            Code::Shape => Some("5 Shape"),
-            Code::ScriptLine => Some("1 Line"),
-            Code::ScriptTaskName => Some("2 TaskName"),
-            Code::Unfit
-            | Code::NeverProduced
-            | Code::NotForwarded
-            | Code::SentBefore
-            | Code::Unreached
-            | Code::NoExit
-            | Code::TargetNotTaken
-            | Code::GoesIntoTask
-            | Code::More => None,
-        }
-    }
-
-    /// What stands between these words and the number of the line, where they name the line.
-    pub fn before_line(self) -> Option<&'static str>
-        ensures { option_map (λ words. words.now) result ≡ code_before_line self }
-    {
-        match self {
+    /// Whether the number and the name of the fault, as the other subcommands give them, are followed by its line.
+    pub(crate) fn names_line(self) -> bool {
+        matches!(
+            self,
             Code::NotAscii
-            | Code::Token
-            | Code::Mnemonic
-            | Code::Operand
-            | Code::Number
-            | Code::Mark
-            | Code::Duplicate
-            | Code::Unknown => Some(" line "),
-            Code::Line | Code::TaskName | Code::ScriptLine | Code::ScriptTaskName => Some(" "),
-            _ => None,
-        }
+                | Code::Token
+                | Code::Mnemonic
+                | Code::Operand
+                | Code::Number
+                | Code::Mark
+                | Code::Duplicate
+                | Code::Unknown
+                | Code::Line
+                | Code::TaskName
+                | Code::ScriptLine
+                | Code::ScriptTaskName
+        )
     }
 }

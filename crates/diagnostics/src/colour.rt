@@ -1,9 +1,5 @@
 //! Colours of a terminal.
 
-ghost use Rattle.std.specs.Prelude.{◌≡◌, ◌++◌, OnOk};
-ghost use Rattle.std.specs.String.{string_bytes};
-ghost use Rattle.diagnostics.specs.Colours.{on, off, painted};
-
 use std::alloc::AllocError;
 
 /// Whether a text has the colours of a terminal.
@@ -23,9 +19,7 @@ pub(crate) const CARET: &str = "1;32";
 
 impl Colour {
     /// Adds what begins a style.
-    pub(crate) fn write_on(self, text: &mut String, style: &str) -> Result<(), AllocError>
-        ensures { OnOk result (string_bytes text.new ≡ string_bytes text.old ++ on self style.now) }
-    {
+    pub(crate) fn begin(self, text: &mut String, style: &str) -> Result<(), AllocError> {
         match self {
             Colour::Never => Ok(()),
             Colour::Always => write!(text, "\x1b[{style}m"),
@@ -33,21 +27,10 @@ impl Colour {
     }
 
     /// Adds what ends a style.
-    pub(crate) fn write_off(self, text: &mut String) -> Result<(), AllocError>
-        ensures { OnOk result (string_bytes text.new ≡ string_bytes text.old ++ off self) }
-    {
+    pub(crate) fn end(self, text: &mut String) -> Result<(), AllocError> {
         match self {
             Colour::Never => Ok(()),
             Colour::Always => write!(text, "\x1b[0m"),
         }
-    }
-
-    /// Adds words in a style.
-    pub(crate) fn write(self, text: &mut String, style: &str, words: &str) -> Result<(), AllocError>
-        ensures { OnOk result (string_bytes text.new ≡ string_bytes text.old ++ painted self style.now words.now) }
-    {
-        self.write_on(text, style)?;
-        text.push_str(words)?;
-        self.write_off(text)
     }
 }

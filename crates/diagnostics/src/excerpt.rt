@@ -1,12 +1,11 @@
-//! A line of a text with a caret below the part that is meant.
+//! A line of a text with a caret below the part that is meant; and bytes as they are shown.
 
-ghost use Rattle.std.specs.Prelude.{◌≡◌, ◌++◌, ◌+◌, ◌-◌, ◌<◌, ◌≤◌, map, take, drop, length, replicate, false, IfOk, OnOk, slice_get};
-ghost use Rattle.std.specs.List.{flat_map, list_any};
+ghost use Rattle.std.specs.Prelude.{◌≡◌, ◌++◌, ◌+◌, ◌≤◌, take, length, IfOk, OnOk};
+ghost use Rattle.std.specs.List.{list_any};
 ghost use Rattle.std.specs.Option.{option_copied};
 ghost use Rattle.std.specs.Str.{chars};
-ghost use Rattle.std.specs.Str.Lines.{strip_carriage_return};
 ghost use Rattle.std.specs.String.{string_bytes};
-ghost use Rattle.diagnostics.specs.Excerpt.{steers, is_readable, is_plain, escaped, shown_byte, shown, continues, is_inside, step_back, letter_start, front, blank_byte, blanks, left_out, part, dots, is_cut_before, is_cut_after, line_row, caret, caret_row, line_excerpt, excerpt_text};
+ghost use Rattle.diagnostics.specs.Excerpt.{steers, is_readable, is_plain, shown_byte, shown, is_inside, step_back, letter_start, front};
 
 use crate::colour::{CARET, Colour};
 use crate::diagnostic::Span;
@@ -25,26 +24,29 @@ const LONGEST_BEFORE: usize = 60;
 const DIGITS: [u8; 16] = *b"0123456789abcdef";
 
 /// The line without the CR that may end it.
-fn without_carriage_return(line: &[u8]) -> &[u8]
-    ensures { result.now ≡ strip_carriage_return line.now }
-{
+fn without_carriage_return(line: &[u8]) -> &[u8] {
     match line {
         [text @ .., b'\r'] => text,
         _ => line,
     }
 }
 
-/// Whether a character above ASCII steers a terminal, ends a line, or turns the direction of a text.
+/// Whether a character above ASCII steers a terminal, ends a line, turns the direction of a text, or is seen by nobody.
 fn steers(letter: char) -> bool
     ensures { result ≡ steers letter }
 {
     matches!(
         letter,
         '\u{80}'..='\u{9f}'
+            | '\u{ad}'
             | '\u{61c}'
-            | '\u{200e}'..='\u{200f}'
+            | '\u{180e}'
+            | '\u{200b}'..='\u{200f}'
             | '\u{2028}'..='\u{202e}'
-            | '\u{2066}'..='\u{2069}'
+            | '\u{2060}'..='\u{206f}'
+            | '\u{feff}'
+            | '\u{fff9}'..='\u{fffb}'
+            | '\u{e0000}'..='\u{e007f}'
     )
 }
 
@@ -110,44 +112,6 @@ pub(crate) fn shown_text(alloc: Global, part: &[u8]) -> Result<String, AllocErro
     }
 }
 
-/// Adds an ASCII character `count` times.
-fn write_repeated(text: &mut String, letter: char, count: usize) -> Result<(), AllocError>
-    requires { letter < 128 }
-    ensures { OnOk result (string_bytes text.new ≡ string_bytes text.old ++ replicate count letter) }
-{
-    for place in 0..count {
-        text.push(letter)?;
-    }
-    Ok(())
-}
-
-/// Adds what stands below a byte.
-fn write_blank(text: &mut String, readable: bool, byte: u8) -> Result<(), AllocError>
-    ensures { OnOk result (string_bytes text.new ≡ string_bytes text.old ++ blank_byte readable byte) }
-{
-    if byte == b'\t' {
-        return text.push('\t');
-    }
-    if readable && matches!(byte, 128..=191) {
-        return Ok(());
-    }
-    if is_plain(readable, byte) {
-        return text.push(' ');
-    }
-    text.push_str("    ")
-}
-
-/// What stands below bytes.
-fn blanks(alloc: Global, readable: bool, bytes: &[u8]) -> Result<String, AllocError>
-    ensures { IfOk result (λ text. string_bytes text ≡ blanks readable bytes.now) }
-{
-    let mut text = String::new(alloc);
-    for byte in bytes {
-        write_blank(&mut text, readable, *byte)?;
-    }
-    Ok(text)
-}
-
 /// The first `count` bytes.
 fn first(bytes: &[u8], count: usize) -> &[u8]
     ensures { result.now ≡ take count bytes.now }
@@ -156,17 +120,6 @@ fn first(bytes: &[u8], count: usize) -> &[u8]
         &bytes[..count]
     } else {
         bytes
-    }
-}
-
-/// The bytes after the first `count`.
-fn after(bytes: &[u8], count: usize) -> &[u8]
-    ensures { result.now ≡ drop count bytes.now }
-{
-    if count < bytes.len() {
-        &bytes[count..]
-    } else {
-        &[]
     }
 }
 
@@ -203,143 +156,96 @@ pub(crate) fn front(bytes: &[u8], count: usize) -> &[u8]
     first(bytes, letter_start(bytes, count))
 }
 
-/// How many bytes of a line are left out before what is shown.
-fn left_out(line: &[u8], column: usize) -> usize
-    ensures { result ≡ left_out line.now column }
+/// The bytes of a line that are shown: from one place between two bytes to another.
+#[derive(Clone, Copy)]
+struct Around {
+    start: usize,
+    end: usize,
+}
+
+/// What is shown of a line around a column: all of it, or the bytes around the column, without a part of a letter.
+fn window(line: &[u8], column: usize) -> Around
+    ensures ordered { result.start ≤ result.end }
+    ensures inside { result.end ≤ length line.now }
+    ensures bounded { result.end ≤ result.start + 1000 }
 {
-    if line.len() <= LONGEST_WHOLE {
-        return 0;
+    let length = line.len();
+    if length <= LONGEST_WHOLE {
+        return Around {
+            start: 0,
+            end: length,
+        };
     }
-    letter_start(
-        line,
-        column.saturating_sub(1).saturating_sub(LONGEST_BEFORE),
-    )
+    let before = column.saturating_sub(1).saturating_sub(LONGEST_BEFORE);
+    let start = letter_start(line, before).min(length);
+    let whole = letter_start(line, start.saturating_add(LONGEST_PART));
+    let end = whole
+        .min(start.saturating_add(LONGEST_PART))
+        .min(length)
+        .max(start);
+    Around { start, end }
 }
 
-/// The bytes of a line that are shown.
-fn part(line: &[u8], column: usize) -> &[u8]
-    ensures { result.now ≡ part line.now column }
-{
-    if line.len() <= LONGEST_WHOLE {
-        return line;
-    }
-    front(after(line, left_out(line, column)), LONGEST_PART)
-}
-
-/// What stands where something is left out.
-fn dots(is_cut: bool) -> &'static str
-    ensures { result.now ≡ dots is_cut }
-{
-    if is_cut { "..." } else { "" }
-}
-
-/// What stands before the bytes that are shown.
-fn dots_before(line: &[u8], column: usize) -> &'static str
-    ensures { result.now ≡ dots (is_cut_before line.now column) }
-{
-    dots(left_out(line, column) > 0)
-}
-
-/// What stands after them.
-fn dots_after(line: &[u8], column: usize) -> &'static str
-    ensures { result.now ≡ dots (is_cut_after line.now column) }
-{
-    let shown = part(line, column).len();
-    dots(shown < line.len().saturating_sub(left_out(line, column)))
-}
-
-/// Adds a line after its number.
-#[tactic(auto, unfolding(crate::specs::Excerpt::line_row))]
-fn write_line_row(
-    alloc: Global,
-    text: &mut String,
-    number: &str,
-    line: &[u8],
-    column: usize,
-) -> Result<(), AllocError>
-    ensures { OnOk result (string_bytes text.new ≡ string_bytes text.old ++ line_row number.now line.now column) }
-{
-    let shown = shown_text(alloc, part(line, column))?;
-    let before = dots_before(line, column);
-    let after = dots_after(line, column);
-    write_repeated(text, ' ', 5usize.saturating_sub(number.len()))?;
-    writeln!(text, "{number} | {before}{shown}{after}")
-}
-
-/// Adds a caret, and tildes up to `width` columns.
-fn write_caret(text: &mut String, colour: Colour, width: usize) -> Result<(), AllocError>
-    ensures { OnOk result (string_bytes text.new ≡ string_bytes text.old ++ caret colour width) }
-{
-    colour.write_on(text, CARET)?;
-    text.push('^')?;
-    write_repeated(text, '~', width.saturating_sub(1))?;
-    colour.write_off(text)?;
-    text.push('\n')
-}
-
-/// Adds the caret below what is meant.
-#[tactic(auto, unfolding(crate::specs::Excerpt::caret_row))]
-fn write_caret_row(
-    alloc: Global,
-    text: &mut String,
-    colour: Colour,
-    number: &str,
-    line: &[u8],
-    span: Span,
-) -> Result<(), AllocError>
-    ensures { OnOk result (string_bytes text.new
-        ≡ string_bytes text.old ++ caret_row colour number.now line.now span.column span.width) }
-{
-    let there = part(line, span.column);
-    let readable = is_readable(there);
-    let place = span
-        .column
-        .saturating_sub(1)
-        .saturating_sub(left_out(line, span.column));
-    let before = blanks(alloc, readable, first(there, place))?;
-    let meant = blanks(alloc, readable, first(after(there, place), span.width))?;
-    write_repeated(text, ' ', 5usize.max(number.len()))?;
-    text.push_str(" | ")?;
-    write_repeated(text, ' ', dots_before(line, span.column).len())?;
-    text.push_str(before.as_str())?;
-    write_caret(text, colour, meant.len())
-}
-
-/// Adds both rows of a line, if there is one.
-fn write_line(
-    alloc: Global,
-    text: &mut String,
-    colour: Colour,
-    rows: &[&[u8]],
-    span: Span,
-) -> Result<(), AllocError>
-    ensures { OnOk result (string_bytes text.new
-        ≡ string_bytes text.old ++ line_excerpt colour span (slice_get (map (λ row. row.now) rows.now) (span.line - 1))) }
-{
-    match rows.get(span.line.saturating_sub(1) as usize) {
-        Some(row) => {
-            let line = without_carriage_return(row);
-            let number = format!(in alloc; "{}", span.line)?;
-            write_line_row(alloc, text, number.as_str(), line, span.column)?;
-            write_caret_row(alloc, text, colour, number.as_str(), line, span)
-        }
-        None => Ok(()),
+/// Adds what stands below a byte: a tab below a tab, and a space below each character that is shown.
+fn push_blank(text: &mut String, readable: bool, byte: u8) -> Result<(), AllocError> {
+    match byte {
+        b'\t' => text.push('\t'),
+        128..=191 if readable => Ok(()),
+        _ if is_plain(readable, byte) => text.push(' '),
+        _ => text.push_str("    "),
     }
 }
 
-/// Adds the line of a span, and a caret below the span, in a text of these lines; nothing where there is no span.
+/// What stands below bytes.
+fn blanks(alloc: Global, readable: bool, bytes: &[u8]) -> Result<String, AllocError> {
+    let mut text = String::new(alloc);
+    for byte in bytes {
+        push_blank(&mut text, readable, *byte)?;
+    }
+    Ok(text)
+}
+
+/// A character, `count` times.
+fn repeated(alloc: Global, letter: char, count: usize) -> Result<String, AllocError> {
+    let mut text = String::new(alloc);
+    for _ in 0..count {
+        text.push(letter)?;
+    }
+    Ok(text)
+}
+
+/// Adds the line of a span, and a caret below the span, in a text of these lines; nothing where it has no such line.
 pub(crate) fn write_excerpt(
     alloc: Global,
     text: &mut String,
     colour: Colour,
     rows: &[&[u8]],
-    span: Option<Span>,
-) -> Result<(), AllocError>
-    ensures { OnOk result (string_bytes text.new
-        ≡ string_bytes text.old ++ excerpt_text colour (map (λ row. row.now) rows.now) span) }
-{
-    match span {
-        Some(span) => write_line(alloc, text, colour, rows, span),
-        None => Ok(()),
-    }
+    span: Span,
+) -> Result<(), AllocError> {
+    let Some(row) = rows.get(span.line.saturating_sub(1) as usize) else {
+        return Ok(());
+    };
+    let line = without_carriage_return(row);
+    let Around { start, end } = window(line, span.column);
+    let part = &line[start..end];
+    let place = span
+        .column
+        .saturating_sub(1)
+        .saturating_sub(start)
+        .min(part.len());
+    let readable = is_readable(part);
+    let before = blanks(alloc, readable, &part[..place])?;
+    let meant = blanks(alloc, readable, first(&part[place..], span.width))?;
+    let shown = shown_text(alloc, part)?;
+    let number = format!(in alloc; "{:>5}", span.line)?;
+    let margin = repeated(alloc, ' ', number.len())?;
+    let tildes = repeated(alloc, '~', meant.len().saturating_sub(1))?;
+    let (left, below) = if start > 0 { ("...", "   ") } else { ("", "") };
+    let right = if end < line.len() { "..." } else { "" };
+    writeln!(text, "{number} | {left}{shown}{right}")?;
+    write!(text, "{margin} | {below}{before}")?;
+    colour.begin(text, CARET)?;
+    write!(text, "^{tildes}")?;
+    colour.end(text)?;
+    text.push('\n')
 }

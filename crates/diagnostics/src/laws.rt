@@ -1,13 +1,8 @@
-//! What is true of every excerpt, as the contracts of functions that do nothing; to use one, call its function.
+//! What is true of all bytes that are shown, as the contract of a function that does nothing; to use it, call the function.
 
-ghost use Rattle.diagnostics.specs.Laws.{AreHarmless, AreAligned};
+ghost use Rattle.diagnostics.specs.Laws.{AreHarmless};
 
-/// What is shown of a line has no control byte of ASCII but tabs.
-pub fn excerpts_are_harmless()
+/// What is shown of a line or a name has no control byte of ASCII but tabs.
+pub fn shown_bytes_are_harmless()
     ensures { AreHarmless }
-{}
-
-/// Below what is shown of some bytes there are as many blanks as it has characters.
-pub fn excerpts_are_aligned()
-    ensures { AreAligned }
 {}

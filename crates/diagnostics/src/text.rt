@@ -1,17 +1,11 @@
-//! The text form of diagnostics.
-
-ghost use Rattle.std.specs.Prelude.{◌≡◌, ◌∷◌, ◌++◌, map, option_map, Some, IfOk, OnOk};
-ghost use Rattle.std.specs.List.{flat_map};
-ghost use Rattle.std.specs.String.{string_bytes};
-ghost use Rattle.diagnostics.specs.Excerpt.{is_same_span, is_same_place};
-ghost use Rattle.diagnostics.specs.TextForm.{place_text, heading, line_words, bracketed, code_text, steps_text, rest_text, path_text, fresh_excerpt, note_text, notes_text, help_place, help_text, said_text, diagnostic_text, text_form};
+//! The text form of diagnostics, as gcc and clang write it.
 
 use crate::code::Code;
 use crate::colour::{BOLD, Colour};
-use crate::diagnostic::{Diagnostic, Help, Note, Replacement, Span};
+use crate::diagnostic::{Diagnostic, Note, Severity, Span};
 use crate::excerpt::write_excerpt;
 use crate::files::{Files, TextFile};
-use crate::label::Label;
+use crate::shown::shown;
 use std::alloc::{AllocError, Global};
 
 /// The most places after the first in a path that is shown whole.
@@ -20,252 +14,147 @@ const LONGEST_REST: usize = 11;
 /// How many of the places after the first are shown at either end of a longer path.
 const SHOWN_OF_REST: usize = 5;
 
-/// Adds the place that begins a line.
-fn write_place(text: &mut String, name: &str, span: Option<Span>) -> Result<(), AllocError>
-    ensures { OnOk result (string_bytes text.new ≡ string_bytes text.old ++ place_text name.now span) }
-{
-    match span {
-        Some(
-            Span {
-                line,
-                column,
-                width: _,
-            },
-        ) => write!(text, "{name}:{line}:{column}:"),
-        None => write!(text, "{name}:"),
-    }
-}
-
-/// Adds a place and a label.
-fn write_heading(
-    text: &mut String,
+/// A text form that grows, and the text that is told of.
+#[derive(Drop)]
+struct Page<'a> {
+    alloc: Global,
     colour: Colour,
-    name: &str,
-    span: Option<Span>,
-    label: Label,
-) -> Result<(), AllocError>
-    ensures { OnOk result (string_bytes text.new ≡ string_bytes text.old ++ heading colour name.now span label) }
-{
-    colour.write_on(text, BOLD)?;
-    write_place(text, name, span)?;
-    colour.write_off(text)?;
-    text.push(' ')?;
-    colour.write(text, label.style(), label.word())?;
-    text.push(' ')
+    name: String,
+    file: &'a TextFile<'a>,
+    text: &'a mut String,
 }
 
-/// Adds the number of a line.
-fn write_line_words(
-    text: &mut String,
-    before: Option<&'static str>,
-    span: Option<Span>,
-) -> Result<(), AllocError>
-    ensures { OnOk result (string_bytes text.new
-        ≡ string_bytes text.old ++ line_words (option_map (λ words. words.now) before.entry) span) }
-{
-    match (before, span) {
-        (Some(before), Some(span)) => write!(text, "{before}{}", span.line),
-        _ => Ok(()),
+/// What a line calls itself, and in which style.
+type Label = (&'static str, &'static str);
+
+/// What a diagnostic calls itself: in red, magenta and cyan, all bold.
+fn label_of(severity: Severity) -> Label {
+    match severity {
+        Severity::Error => ("error:", "1;31"),
+        Severity::Warning => ("warning:", "1;35"),
+        Severity::Note => ("note:", "1;36"),
     }
 }
 
-/// Adds the words of a code in brackets.
-fn write_code(text: &mut String, code: Code, span: Option<Span>) -> Result<(), AllocError>
-    ensures { OnOk result (string_bytes text.new ≡ string_bytes text.old ++ code_text code span) }
-{
-    match code.label() {
-        Some(label) => {
-            write!(text, " [{label}")?;
-            write_line_words(text, code.before_line(), span)?;
-            text.push(']')
-        }
-        None => Ok(()),
+/// What a remedy calls itself: in green.
+const HELP: Label = ("help:", "1;32");
+
+/// Whether two places are one span.
+fn is_same(place: Option<Span>, other: Option<Span>) -> bool {
+    match (place, other) {
+        (Some(place), Some(other)) => place == other,
+        _ => false,
+    }
+}
+
+/// Adds the number and the name of a rule or a fault in brackets, as the other subcommands give them, with its line
+/// where they name it; nothing for what only `explain` finds.
+fn write_code(text: &mut String, code: Code, span: Option<Span>) -> Result<(), AllocError> {
+    if let Some(rule) = code.id().strip_prefix("rule") {
+        return write!(text, " [rule {rule}]");
+    }
+    let Some((kind, fault)) = code.id().split_once('-') else {
+        return Ok(());
+    };
+    let before = match kind {
+        "refused" => " line ",
+        "certificate" | "script" => " ",
+        _ => return Ok(()),
+    };
+    if matches!(code, Code::Unfit) {
+        return Ok(());
+    }
+    text.push_str(" [")?;
+    for (index, word) in fault.split('-').enumerate() {
+        text.push_str(if index > 0 { " " } else { "" })?;
+        text.push_str(word)?;
+    }
+    match span {
+        Some(span) if code.names_line() => write!(text, "{before}{}]", span.line),
+        _ => text.push(']'),
     }
 }
 
 /// Adds further places of a path.
-fn write_steps(text: &mut String, spans: &[Span]) -> Result<(), AllocError>
-    ensures { OnOk result (string_bytes text.new ≡ string_bytes text.old ++ steps_text spans.now) }
-{
+fn write_steps(text: &mut String, spans: &[Span]) -> Result<(), AllocError> {
     for span in spans {
         write!(text, " -> {}", span.line)?;
     }
     Ok(())
 }
 
-/// Adds the places of a path after the first.
-#[tactic(auto, unfolding(crate::specs::TextForm::rest_text))]
-fn write_rest(text: &mut String, rest: &[Span]) -> Result<(), AllocError>
-    ensures { OnOk result (string_bytes text.new ≡ string_bytes text.old ++ rest_text rest.now) }
-{
+/// Adds a path: of more than twelve places the first six and the last five.
+fn write_path(text: &mut String, path: &[Span]) -> Result<(), AllocError> {
+    let [start, rest @ ..] = path else {
+        return Ok(());
+    };
+    write!(text, ", on the path {}", start.line)?;
     if rest.len() <= LONGEST_REST {
         return write_steps(text, rest);
     }
     let last = rest.len() - SHOWN_OF_REST;
-    let more = last - SHOWN_OF_REST;
     write_steps(text, &rest[..SHOWN_OF_REST])?;
-    write!(text, " -> ... {more} more ...")?;
+    write!(text, " -> ... {} more ...", last - SHOWN_OF_REST)?;
     write_steps(text, &rest[last..])
 }
 
-/// Adds a path with a first place.
-fn write_some_path(text: &mut String, first: Span, rest: &[Span]) -> Result<(), AllocError>
-    ensures { OnOk result (string_bytes text.new ≡ string_bytes text.old ++ path_text (first ∷ rest.now)) }
-{
-    write!(text, ", on the path {}", first.line)?;
-    write_rest(text, rest)
-}
-
-/// Adds a path.
-fn write_path(text: &mut String, path: &[Span]) -> Result<(), AllocError>
-    ensures { OnOk result (string_bytes text.new ≡ string_bytes text.old ++ path_text path.now) }
-{
-    match path.split_first() {
-        Some((first, rest)) => write_some_path(text, *first, rest),
-        None => Ok(()),
+impl<'a> Page<'a> {
+    /// Adds the place and the label that begin a line.
+    fn heading(&mut self, span: Option<Span>, label: Label) -> Result<(), AllocError> {
+        let (word, style) = label;
+        self.colour.begin(self.text, BOLD)?;
+        match span {
+            Some(span) => write!(self.text, "{}:{}:{}:", self.name, span.line, span.column)?,
+            None => write!(self.text, "{}:", self.name)?,
+        }
+        self.colour.end(self.text)?;
+        self.text.push(' ')?;
+        self.colour.begin(self.text, style)?;
+        self.text.push_str(word)?;
+        self.colour.end(self.text)?;
+        self.text.push(' ')
     }
-}
 
-/// Whether two spans are one.
-fn is_same_span(a: Span, b: Span) -> bool
-    ensures { result ≡ is_same_span a b }
-{
-    a.line == b.line && a.column == b.column && a.width == b.width
-}
-
-/// Whether two places are one span.
-fn is_same_place(a: Option<Span>, b: Option<Span>) -> bool
-    ensures { result ≡ is_same_place a b }
-{
-    match (a, b) {
-        (Some(a), Some(b)) => is_same_span(a, b),
-        _ => false,
+    /// Adds the line of a span, unless the excerpt before shows exactly this.
+    fn excerpt(&mut self, before: Option<Span>, span: Option<Span>) -> Result<(), AllocError> {
+        match span {
+            Some(there) if !is_same(before, span) => {
+                write_excerpt(self.alloc, self.text, self.colour, self.file.rows, there)
+            }
+            _ => Ok(()),
+        }
     }
-}
 
-/// Adds the line of a span, unless the previous excerpt shows exactly this.
-fn write_fresh_excerpt(
-    alloc: Global,
-    text: &mut String,
-    colour: Colour,
-    rows: &[&[u8]],
-    before: Option<Span>,
-    span: Option<Span>,
-) -> Result<(), AllocError>
-    ensures { OnOk result (string_bytes text.new
-        ≡ string_bytes text.old ++ fresh_excerpt colour (map (λ row. row.now) rows.now) before span) }
-{
-    if is_same_place(before, span) {
-        return Ok(());
+    /// Adds a note, after the excerpt of this place.
+    fn note(&mut self, before: Option<Span>, note: &Note) -> Result<(), AllocError> {
+        self.heading(note.span, label_of(Severity::Note))?;
+        self.text.push_str(note.message.as_str())?;
+        write_path(self.text, note.path.as_slice())?;
+        self.text.push('\n')?;
+        self.excerpt(before, note.span)
     }
-    write_excerpt(alloc, text, colour, rows, span)
-}
 
-/// Adds a note.
-#[tactic(auto, unfolding(crate::specs::TextForm::note_text))]
-fn write_note(
-    alloc: Global,
-    text: &mut String,
-    colour: Colour,
-    file: &TextFile,
-    before: Option<Span>,
-    note: &Note,
-) -> Result<(), AllocError>
-    ensures { OnOk result (string_bytes text.new ≡ string_bytes text.old ++ note_text colour file.now before note.now) }
-{
-    write_heading(text, colour, file.name(), note.span, Label::Note)?;
-    text.push_str(note.message.as_str())?;
-    write_path(text, note.path.as_slice())?;
-    text.push('\n')?;
-    write_fresh_excerpt(alloc, text, colour, file.rows(), before, note.span)
-}
-
-/// Adds the notes of a diagnostic at a place.
-fn write_notes(
-    alloc: Global,
-    text: &mut String,
-    colour: Colour,
-    file: &TextFile,
-    span: Option<Span>,
-    notes: &[Note],
-) -> Result<(), AllocError>
-    ensures { OnOk result (string_bytes text.new ≡ string_bytes text.old ++ notes_text colour file.now span notes.now) }
-{
-    let mut before = span;
-    for note in notes {
-        write_note(alloc, text, colour, file, before, note)?;
-        before = note.span;
-    }
-    Ok(())
-}
-
-/// Where a help stands.
-fn help_place(span: Option<Span>, replacements: &[Replacement]) -> Option<Span>
-    ensures { result ≡ help_place span replacements.now }
-{
-    match replacements {
-        [] => span,
-        [first, ..] => Some(first.span),
-    }
-}
-
-/// Adds the help of a diagnostic at a place.
-fn write_help(
-    text: &mut String,
-    colour: Colour,
-    name: &str,
-    span: Option<Span>,
-    help: &Help,
-) -> Result<(), AllocError>
-    ensures { OnOk result (string_bytes text.new ≡ string_bytes text.old ++ help_text colour name.now span (Some help.now)) }
-{
-    let place = help_place(span, help.replacements.as_slice());
-    write_heading(text, colour, name, place, Label::Help)?;
-    text.push_str(help.message.as_str())?;
-    text.push('\n')
-}
-
-/// Adds the message of a diagnostic.
-#[tactic(auto, unfolding(crate::specs::TextForm::said_text))]
-fn write_said(
-    text: &mut String,
-    colour: Colour,
-    name: &str,
-    diagnostic: &Diagnostic,
-) -> Result<(), AllocError>
-    ensures { OnOk result (string_bytes text.new ≡ string_bytes text.old ++ said_text colour name.now diagnostic.now) }
-{
-    write_heading(
-        text,
-        colour,
-        name,
-        diagnostic.span,
-        Label::of(diagnostic.severity),
-    )?;
-    colour.write(text, BOLD, diagnostic.message.as_str())?;
-    write_code(text, diagnostic.code, diagnostic.span)?;
-    text.push('\n')
-}
-
-/// Adds a diagnostic.
-#[tactic(auto, unfolding(crate::specs::TextForm::diagnostic_text))]
-fn write_diagnostic(
-    alloc: Global,
-    text: &mut String,
-    colour: Colour,
-    files: &Files,
-    diagnostic: &Diagnostic,
-) -> Result<(), AllocError>
-    ensures { OnOk result (string_bytes text.new ≡ string_bytes text.old ++ diagnostic_text colour files.now diagnostic.now) }
-{
-    let file = files.text_of(diagnostic.source);
-    let span = diagnostic.span;
-    write_said(text, colour, file.name(), diagnostic)?;
-    write_excerpt(alloc, text, colour, file.rows(), span)?;
-    write_notes(alloc, text, colour, file, span, diagnostic.notes.as_slice())?;
-    match &diagnostic.help {
-        Some(help) => write_help(text, colour, file.name(), span, help),
-        None => Ok(()),
+    /// Adds a diagnostic: the message, the line, the notes, and what to do.
+    fn diagnostic(&mut self, said: &Diagnostic) -> Result<(), AllocError> {
+        self.heading(said.span, label_of(said.severity))?;
+        self.colour.begin(self.text, BOLD)?;
+        self.text.push_str(said.message.as_str())?;
+        self.colour.end(self.text)?;
+        write_code(self.text, said.code, said.span)?;
+        self.text.push('\n')?;
+        self.excerpt(None, said.span)?;
+        let mut before = said.span;
+        for note in said.notes.as_slice() {
+            self.note(before, note)?;
+            before = note.span;
+        }
+        let Some(help) = &said.help else {
+            return Ok(());
+        };
+        let first = help.replacements.as_slice().first();
+        self.heading(first.map_or(said.span, |change| Some(change.span)), HELP)?;
+        self.text.push_str(help.message.as_str())?;
+        self.text.push('\n')
     }
 }
 
@@ -277,15 +166,21 @@ fn write_diagnostic(
 /// `AllocError` where memory was refused.
 pub fn text_of(
     alloc: Global,
-    files: &Files,
+    files: &Files<'_>,
     diagnostics: &[Diagnostic],
     colour: Colour,
-) -> Result<String, AllocError>
-    ensures { IfOk result (λ text. string_bytes text ≡ text_form colour files.now diagnostics.now) }
-{
+) -> Result<String, AllocError> {
     let mut text = String::new(alloc);
-    for diagnostic in diagnostics {
-        write_diagnostic(alloc, &mut text, colour, files, diagnostic)?;
+    for said in diagnostics {
+        let file = files.text_of(said.source);
+        let mut page = Page {
+            alloc,
+            colour,
+            name: shown(alloc, file.name.as_bytes())?,
+            file,
+            text: &mut text,
+        };
+        page.diagnostic(said)?;
     }
     Ok(text)
 }

@@ -1,6 +1,6 @@
 -- Byte by byte.
 use Rattle.diagnostics.proofs.ShownBytes.{harmless}
-use Rattle.diagnostics.proofs.laws.excerpts_are_harmless.Goals as goal
+use Rattle.diagnostics.proofs.laws.shown_bytes_are_harmless.Goals as goal
 
 pub returns : goal.returns
 returns c = harmless
