@@ -1,57 +1,101 @@
 //! Columns in characters, from columns in bytes.
 
-ghost use Rattle.std.specs.Prelude.{◌≡◌, ◌-◌, map, take};
-ghost use Rattle.diagnostic_log.specs.Seen.{character_column, column_in, goes_on, line_in};
+use diagnostics::diagnostic::Source;
+use diagnostics::files::Files;
+use std::alloc::{AllocError, Global};
 
-use crate::text::LoggedText;
+/// How many bytes of a line are counted at most for one column.
+const STEP: usize = 1_024;
 
-/// The line of this number; empty where there is none.
-fn line_in<'a>(rows: &[&'a [u8]], number: u32) -> &'a [u8]
-    ensures { result.now ≡ line_in (map (λ row. row.now) rows.now) number }
-{
-    match rows.get(number.saturating_sub(1) as usize) {
-        Some(line) => line,
-        None => &[],
-    }
+/// A line that is longer than this, and how many bytes before each 1,024th of it continue a character: so a column
+/// far to the right does not cost the whole line.
+#[derive(Drop)]
+struct Ruler {
+    source: Source,
+    line: u32,
+    marks: Vec<usize>,
 }
 
-/// What stands before a column.
-fn before(line: &[u8], column: usize) -> &[u8]
-    ensures { result.now ≡ take (column - 1) line.now }
-{
-    let count = column.saturating_sub(1);
-    if count < line.len() {
-        &line[..count]
-    } else {
-        line
-    }
+/// The columns of some texts.
+#[derive(Drop)]
+pub(crate) struct Columns {
+    alloc: Global,
+    rulers: Vec<Ruler>,
 }
 
-/// Whether a byte continues a character.
-fn goes_on(byte: u8) -> bool
-    ensures { result ≡ goes_on byte }
-{
-    128 <= byte && byte < 192
-}
-
-/// The column of a character, where the column of its first byte is given.
-fn character_column(line: &[u8], column: usize) -> usize
-    ensures { result ≡ character_column line.now column }
-{
-    let front = before(line, column);
-    let mut inside = 0;
-    for byte in front {
-        if goes_on(*byte) {
-            inside += 1;
+/// How many bytes continue a character.
+fn inside(bytes: &[u8]) -> usize {
+    let mut count = 0usize;
+    for byte in bytes {
+        if matches!(*byte, 128..=191) {
+            count = count.saturating_add(1);
         }
     }
-    column.saturating_sub(inside)
+    count
 }
 
-/// A column in characters, from one in bytes.
-#[tactic(auto, unfolding(crate::specs::Seen::column_in))]
-pub(crate) fn column_in(text: &LoggedText<'_>, line: u32, column: usize) -> usize
-    ensures { result ≡ column_in text.now line column }
-{
-    character_column(line_in(text.rows(), line), column)
+/// The marks of a line.
+fn marks_of(alloc: Global, row: &[u8]) -> Result<Vec<usize>, AllocError> {
+    let mut marks = Vec::new(alloc);
+    let mut count = 0usize;
+    for piece in row.chunks(STEP) {
+        marks.push(count)?;
+        count = count.saturating_add(inside(piece));
+    }
+    Ok(marks)
+}
+
+impl Columns {
+    /// The columns of texts that nothing is known of yet.
+    pub(crate) fn new(alloc: Global) -> Columns {
+        Columns {
+            alloc,
+            rulers: Vec::new(alloc),
+        }
+    }
+
+    /// How many bytes before a mark of a line continue a character.
+    fn mark(
+        &mut self,
+        source: Source,
+        line: u32,
+        row: &[u8],
+        index: usize,
+    ) -> Result<usize, AllocError> {
+        if index == 0 {
+            return Ok(0);
+        }
+        for ruler in &self.rulers {
+            if ruler.line == line && ruler.source == source {
+                return Ok(ruler.marks.get(index).copied().unwrap_or(0));
+            }
+        }
+        let marks = marks_of(self.alloc, row)?;
+        let count = marks.get(index).copied().unwrap_or(0);
+        self.rulers.push(Ruler {
+            source,
+            line,
+            marks,
+        })?;
+        Ok(count)
+    }
+
+    /// A column in characters, from one in bytes.
+    pub(crate) fn column(
+        &mut self,
+        files: &Files<'_>,
+        source: Source,
+        line: u32,
+        column: usize,
+    ) -> Result<usize, AllocError> {
+        let rows = files.text_of(source).rows;
+        let Some(row) = rows.get(line.saturating_sub(1) as usize) else {
+            return Ok(column);
+        };
+        let end = column.saturating_sub(1).min(row.len());
+        let rest = end % STEP;
+        let before = self.mark(source, line, row, end / STEP)?;
+        let count = before.saturating_add(inside(&row[end - rest..end]));
+        Ok(column.saturating_sub(count))
+    }
 }

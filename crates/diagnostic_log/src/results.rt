@@ -1,23 +1,16 @@
 //! The results of a log as JSON: one for each diagnostic.
 
-ghost use Rattle.std.specs.Prelude.{◌≡◌, OnOk};
-ghost use Rattle.diagnostic_log.specs.Wrote.{listed, wrote, wrote_each};
-ghost use Rattle.diagnostic_log.specs.Results.{fingerprints_json, locations_json, result_json, severity_word, wrote_head};
-
-use crate::fixes::write_fixes;
-use crate::flows::write_all_flows;
+use crate::artifact::{Artifacts, write_artifact};
+use crate::columns::Columns;
 use crate::json_text::{JsonText, Written};
-use crate::notes::write_related;
-use crate::places::{text_in, write_location};
-use crate::rule_lists::rule_index;
-use crate::text::{LoggedText, LoggedTexts};
+use crate::paths::told;
 use diagnostics::code::Code;
-use diagnostics::diagnostic::{Diagnostic, Severity, Span};
+use diagnostics::diagnostic::{Diagnostic, Help, Note, Severity, Source, Span};
+use diagnostics::files::Files;
+use std::alloc::Global;
 
 /// How severe a diagnostic is, in the word of the formats.
-pub(crate) fn severity_word(severity: Severity) -> &'static str
-    ensures { result.now ≡ severity_word severity }
-{
+pub(crate) fn severity_word(severity: Severity) -> &'static str {
     match severity {
         Severity::Error => "error",
         Severity::Warning => "warning",
@@ -25,88 +18,159 @@ pub(crate) fn severity_word(severity: Severity) -> &'static str
     }
 }
 
-/// Adds the list of the one place of a result.
-#[tactic(auto, unfolding(crate::specs::Results::locations_json))]
-fn write_locations(out: &mut JsonText, text: &LoggedText<'_>, span: Option<Span>) -> Written
-    ensures { OnOk result (out.new ≡ wrote (locations_json text.now span) out.old) }
-{
-    out.begin_list()?;
-    write_location(out, text, span)?;
-    out.end_list()
+/// The results that are added to a log, about texts of which one is meant.
+#[derive(Drop)]
+pub(crate) struct Results<'a> {
+    pub(crate) alloc: Global,
+    pub(crate) out: &'a mut JsonText,
+    pub(crate) files: &'a Files<'a>,
+    pub(crate) artifacts: &'a Artifacts,
+    pub(crate) rules: &'a [Code],
+    pub(crate) columns: Columns,
+    pub(crate) source: Source,
 }
 
-/// Adds what stays the same in a result when its lines move.
-#[tactic(auto, unfolding(crate::specs::Results::fingerprints_json))]
-fn write_fingerprints(out: &mut JsonText, diagnostic: &Diagnostic) -> Written
-    ensures { OnOk result (out.new ≡ wrote (fingerprints_json diagnostic.now) out.old) }
-{
-    out.begin()?;
-    out.text("rule/v1", diagnostic.code.id())?;
-    out.text("sentence/v1", diagnostic.message.as_str())?;
-    out.end()
-}
-
-/// Begins a result.
-fn write_head(out: &mut JsonText, rules: &[Code], diagnostic: &Diagnostic) -> Written
-    ensures { OnOk result (out.new ≡ wrote_head rules.now diagnostic.now out.old) }
-{
-    out.begin()?;
-    out.text("ruleId", diagnostic.code.id())?;
-    out.number("ruleIndex", rule_index(rules, diagnostic.code))?;
-    out.text("level", severity_word(diagnostic.severity))?;
-    out.message("message", diagnostic.message.as_str())
-}
-
-/// Adds a result.
-fn write_result(
-    out: &mut JsonText,
-    texts: &LoggedTexts<'_>,
-    rules: &[Code],
-    diagnostic: &Diagnostic,
-) -> Written
-    ensures { OnOk result (out.new ≡ wrote (result_json rules.now texts.now diagnostic.now) out.old) }
-{
-    let text = text_in(texts, diagnostic.source);
-    write_head(out, rules, diagnostic)?;
-    out.key("locations")?;
-    write_locations(out, text, diagnostic.span)?;
-    out.key("relatedLocations")?;
-    write_related(out, text, diagnostic)?;
-    out.key("codeFlows")?;
-    write_all_flows(out, text, diagnostic.notes.as_slice())?;
-    out.key("fixes")?;
-    write_fixes(out, text, &diagnostic.help)?;
-    out.key("partialFingerprints")?;
-    write_fingerprints(out, diagnostic)?;
-    out.end()
-}
-
-/// Adds results.
-fn write_each_result(
-    out: &mut JsonText,
-    texts: &LoggedTexts<'_>,
-    rules: &[Code],
-    diagnostics: &[Diagnostic],
-) -> Written
-    ensures { OnOk result (out.new ≡ wrote_each (result_json rules.now texts.now) diagnostics.now out.old) }
-{
-    for diagnostic in diagnostics {
-        write_result(out, texts, rules, diagnostic)?;
+impl<'a> Results<'a> {
+    /// Adds a part of a line, as the member of this name.
+    fn region(&mut self, name: &str, span: Span) -> Written {
+        let Span {
+            line,
+            column,
+            width,
+        } = span;
+        let start = self.columns.column(self.files, self.source, line, column)?;
+        let behind = column.saturating_add(width);
+        let end = self.columns.column(self.files, self.source, line, behind)?;
+        self.out.object(name)?;
+        self.out.number("startLine", line as usize)?;
+        self.out.number("startColumn", start)?;
+        self.out.number("endColumn", end)?;
+        self.out.end()
     }
-    Ok(())
-}
 
-/// Adds the list of the results.
-#[tactic(auto, using(crate::proofs::Written::listed_written))]
-pub(crate) fn write_results(
-    out: &mut JsonText,
-    texts: &LoggedTexts<'_>,
-    rules: &[Code],
-    diagnostics: &[Diagnostic],
-) -> Written
-    ensures { OnOk result (out.new ≡ wrote (listed (result_json rules.now texts.now) diagnostics.now) out.old) }
-{
-    out.begin_list()?;
-    write_each_result(out, texts, rules, diagnostics)?;
-    out.end_list()
+    /// Begins a location: a place in the text, or the text as a whole.
+    fn begin_location(&mut self, span: Option<Span>) -> Written {
+        self.out.begin()?;
+        self.out.object("physicalLocation")?;
+        self.out.key("artifactLocation")?;
+        write_artifact(self.out, self.artifacts.of(self.source))?;
+        if let Some(span) = span {
+            self.region("region", span)?;
+        }
+        self.out.end()
+    }
+
+    /// Adds a location with a message about it.
+    fn said(&mut self, span: Option<Span>, sentence: &str) -> Written {
+        self.begin_location(span)?;
+        self.out.message("message", sentence)?;
+        self.out.end()
+    }
+
+    /// Adds places on a path.
+    fn steps(&mut self, path: &[Span]) -> Written {
+        for span in path {
+            self.out.begin()?;
+            self.out.key("location")?;
+            self.begin_location(Some(*span))?;
+            self.out.end()?;
+            self.out.end()?;
+        }
+        Ok(())
+    }
+
+    /// Adds a note's path, if it has one.
+    fn flow(&mut self, note: &Note) -> Written {
+        let path = note.path.as_slice();
+        if path.is_empty() {
+            return Ok(());
+        }
+        let told = told(path);
+        self.out.begin()?;
+        self.out.message("message", note.message.as_str())?;
+        self.out.list("threadFlows")?;
+        self.out.begin()?;
+        self.out.list("locations")?;
+        self.steps(told.front)?;
+        self.steps(told.back)?;
+        self.out.end_list()?;
+        if told.left_out > 0 {
+            let text = format!(in self.alloc;
+                "{} places in the middle of the path are left out",
+                told.left_out
+            )?;
+            self.out.message("message", text.as_str())?;
+        }
+        self.out.end()?;
+        self.out.end_list()?;
+        self.out.end()
+    }
+
+    /// Adds what is replaced by what.
+    fn fix(&mut self, help: &Help) -> Written {
+        self.out.begin()?;
+        self.out.message("description", help.message.as_str())?;
+        self.out.list("artifactChanges")?;
+        self.out.begin()?;
+        self.out.key("artifactLocation")?;
+        write_artifact(self.out, self.artifacts.of(self.source))?;
+        self.out.list("replacements")?;
+        for change in help.replacements.as_slice() {
+            self.out.begin()?;
+            self.region("deletedRegion", change.span)?;
+            self.out.object("insertedContent")?;
+            self.out.text("text", change.text.as_str())?;
+            self.out.end()?;
+            self.out.end()?;
+        }
+        self.out.end_list()?;
+        self.out.end()?;
+        self.out.end_list()?;
+        self.out.end()
+    }
+
+    /// Adds the further places, the paths, and what to do, of a diagnostic.
+    fn beside(&mut self, said: &Diagnostic) -> Written {
+        self.out.list("relatedLocations")?;
+        for note in said.notes.as_slice() {
+            self.said(note.span, note.message.as_str())?;
+        }
+        if let Some(help) = &said.help {
+            self.said(said.span, help.message.as_str())?;
+        }
+        self.out.end_list()?;
+        self.out.list("codeFlows")?;
+        for note in said.notes.as_slice() {
+            self.flow(note)?;
+        }
+        self.out.end_list()?;
+        self.out.list("fixes")?;
+        if let Some(help) = &said.help {
+            if !help.replacements.as_slice().is_empty() {
+                self.fix(help)?;
+            }
+        }
+        self.out.end_list()
+    }
+
+    /// Adds the result of a diagnostic. What stays the same when lines move are its rule and its sentence.
+    pub(crate) fn add(&mut self, said: &Diagnostic) -> Written {
+        self.source = said.source;
+        let index = self.rules.iter().position(|rule| *rule == said.code);
+        self.out.begin()?;
+        self.out.text("ruleId", said.code.id())?;
+        self.out.number("ruleIndex", index.unwrap_or(0))?;
+        self.out.text("level", severity_word(said.severity))?;
+        self.out.message("message", said.message.as_str())?;
+        self.out.list("locations")?;
+        self.begin_location(said.span)?;
+        self.out.end()?;
+        self.out.end_list()?;
+        self.beside(said)?;
+        self.out.object("partialFingerprints")?;
+        self.out.text("rule/v1", said.code.id())?;
+        self.out.text("sentence/v1", said.message.as_str())?;
+        self.out.end()?;
+        self.out.end()
+    }
 }

@@ -1,14 +1,9 @@
 //! The rules of a log: what a diagnostic can be an instance of, and where that is explained.
 
-ghost use Rattle.std.specs.Prelude.{◌≡◌};
-ghost use Rattle.diagnostic_log.specs.Rules.{rule_section, rule_short};
-
 use diagnostics::code::Code;
 
 /// What is wrong, or could be better, where a rule is broken: one sentence.
-pub(crate) fn rule_short(code: Code) -> &'static str
-    ensures { result.now ≡ rule_short code }
-{
+pub(crate) fn rule_short(code: Code) -> &'static str {
     match code {
         Code::EntryWithoutMask => "The certificate has no mask at the first instruction of a task",
         Code::NextWithoutMask =>
@@ -65,9 +60,7 @@ pub(crate) fn rule_short(code: Code) -> &'static str
 }
 
 /// The section of the documents that explains a rule, as a file of the folder docs/ and an anchor in it.
-pub(crate) fn rule_section(code: Code) -> &'static str
-    ensures { result.now ≡ rule_section code }
-{
+pub(crate) fn rule_section(code: Code) -> &'static str {
     match code {
         Code::EntryWithoutMask => "RULES.md#rule-1-the-entry-has-no-mask",
         Code::NextWithoutMask => "RULES.md#rule-2-an-instruction-that-comes-next-has-no-mask",

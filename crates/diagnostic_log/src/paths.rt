@@ -1,0 +1,31 @@
+//! Paths as they are listed.
+
+use diagnostics::diagnostic::Span;
+
+/// How many places are listed at either end of a path: a path can have nearly as many as the program has
+/// instructions, and each diagnostic has its own.
+const TOLD_AT_AN_END: usize = 50;
+
+/// The places that are listed of a path: those at its beginning and those at its end; and how many are not.
+#[derive(Clone, Copy)]
+pub(crate) struct Ends<'a> {
+    pub(crate) front: &'a [Span],
+    pub(crate) back: &'a [Span],
+    pub(crate) left_out: usize,
+}
+
+/// What is listed of a path.
+pub(crate) fn told(path: &[Span]) -> Ends<'_> {
+    if path.len() <= 2 * TOLD_AT_AN_END {
+        return Ends {
+            front: path,
+            back: &[],
+            left_out: 0,
+        };
+    }
+    Ends {
+        front: &path[..TOLD_AT_AN_END],
+        back: &path[path.len() - TOLD_AT_AN_END..],
+        left_out: path.len() - 2 * TOLD_AT_AN_END,
+    }
+}
