@@ -1,3 +1,2 @@
 mod Silence
-mod SaidIsExplained
 mod Counting

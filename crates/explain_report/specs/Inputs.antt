@@ -1,7 +1,6 @@
 -- The texts of `explain` as diagnostics see them.
-use Rattle.std.specs.Prelude.{◌≡◌, ℕ, List, [], map, Option, Some, None, Ok, unwrap_or}
+use Rattle.std.specs.Prelude.{◌≡◌, ℕ, List, map, Ok}
 use Rattle.std.specs.List.{zip}
-use Rattle.program_tokens.specs.Lines.{lines}
 use Rattle.annotated_asm.specs.declared.position.Position.{Position}
 use Rattle.annotated_asm.specs.Sources.{Sources, sources_of}
 use Rattle.diagnostics.specs.declared.diagnostic.Span.{Span}
@@ -16,11 +15,3 @@ code_spans s = map span_of (zip s.code s.widths)
 -- the instructions of the program that the text spells stand there
 abbrev pub ArePlaces : (text : List ℕ) → List Span → Type 0
 ArePlaces text spans = (s : Sources) × (sources_of text ≡ Ok s) × (spans ≡ code_spans s)
-
--- the name and the lines of a text that stands in a file, if one is named
-abbrev pub file_name : Option (List ℕ) → List ℕ
-file_name file = unwrap_or file []
-
-abbrev pub file_lines : Option (List ℕ) → (text : List ℕ) → List (List ℕ)
-file_lines None text = []
-file_lines (Some name) text = lines text

@@ -1,30 +1,17 @@
--- What is left to mend by hand in the text that `annotate` proposes, as standard error gets it.
-use Rattle.std.specs.Prelude.{◌≡◌, ◌≢◌, ℕ, nat_eq, if◌then◌else◌, List, [], ◌∷◌, ◌++◌, length, codes, Option, None, Result, Ok, Err, IsSomeAnd}
-use Rattle.std.specs.Fmt.{decimal}
+-- What is left to mend by hand in the text that `annotate` proposes.
+use Rattle.std.specs.Prelude.{◌≡◌, ◌≢◌, ℕ, List, length, Option, None, Result, Ok, Err, IsSomeAnd}
 use Rattle.task_descriptor.specs.Listing.{Listing}
 use Rattle.annotated_asm.specs.declared.fault.AsmFault.{AsmFault}
 use Rattle.annotated_asm.specs.ProgramText.{parse}
 use Rattle.mark_checker.specs.Rules.{all_rules}
 use Rattle.annotator.specs.Least.{IsLeast}
-use Rattle.diagnostics.specs.declared.diagnostic.Diagnostic.{Diagnostic}
-use Rattle.mark_diagnostics.specs.Errors.{AreMarkErrors}
 use Rattle.jobs.specs.declared.job.Emit.{Emit}
 use Rattle.jobs.specs.declared.job.Emit.TheVariants.{Text, Cert, Keep, Marks}
 use Rattle.jobs.specs.declared.job.Job.{Job}
 use Rattle.jobs.specs.declared.job.Job.TheVariants.{Annotate}
 use Rattle.report_texts.specs.OutputTexts.{Report}
 use Rattle.report_texts.specs.AnnotateText.{IsAnnotateReport}
-use Rattle.diagnostics.specs.declared.colour.Colour.TheVariants.{Never}
-use Rattle.diagnostics.specs.TextForm.{text_form}
-use Rattle.explain_report.specs.ExplainText.{named_texts}
-use Rattle.explain_report.specs.Order.{in_order}
 use Rattle.explain_report.specs.declared.left.LeftOver.{LeftOver}
-
--- the last line: how much is left
-abbrev pub closing_line : (name : List ℕ) → (count : ℕ) → List ℕ
-closing_line name count =
-    if nat_eq count 0 then codes "multiscalar: " ++ (name ++ (codes ": all marks are right" ++ 10 ∷ []))
-    else codes "multiscalar: " ++ (name ++ (codes ": " ++ (decimal count ++ (codes " left to mend by hand" ++ 10 ∷ []))))
 
 -- the checker has `count` findings of the program with a least certificate
 pub record IsFindingCount (p : Listing) (count : ℕ) : Type 0 where
@@ -32,13 +19,9 @@ pub record IsFindingCount (p : Listing) (count : ℕ) : Type 0 where
   pub least : IsLeast p cert
   pub counted : count ≡ length (all_rules p cert)
 
--- What is left in a text that spells the program p, in a file of this name: its findings, which are counted, and of
--- which `explain` says what it says.
-pub record IsLeftIn (name text : List ℕ) (p : Listing) (left : LeftOver) : Type 0 where
-  pub errors : List Diagnostic
-  pub wrong : AreMarkErrors text errors
-  pub counted : IsFindingCount p left.count
-  pub written : left.said.items ≡ text_form Never (named_texts name None None text [] []) (in_order errors) ++ closing_line name left.count
+-- What is left in a text that spells the program p, in a file of this name: its findings, which are counted.
+abbrev pub IsLeftIn : (name text : List ℕ) → Listing → LeftOver → Type 0
+IsLeftIn name text p left = IsFindingCount p left.count
 
 abbrev pub IsLeftRead : (name text : List ℕ) → Result Listing AsmFault → Option LeftOver → Type 0
 IsLeftRead name text (Ok p) left = IsSomeAnd left (IsLeftIn name text p)

@@ -1,12 +1,10 @@
 //! The texts of `explain` as diagnostics see them: lines, and where instructions stand.
-ghost use Rattle.std.specs.Prelude.{◌≡◌, [], map as each, Ok, Some, IfOk, unwrap_or};
-ghost use Rattle.std.specs.Option.{option_map};
-ghost use Rattle.std.specs.String.{string_bytes};
+ghost use Rattle.std.specs.Prelude.{◌≡◌, map as each, Ok, IfOk};
 ghost use Rattle.annotated_asm.specs.ProgramText.{parse};
 ghost use Rattle.program_tokens.specs.Lines.{lines};
 ghost use Rattle.annotated_asm.specs.Sources.{sources_in, sources_of};
 ghost use Rattle.text_pieces.specs.Pieces.{joined};
-ghost use Rattle.explain_report.specs.Inputs.{ArePlaces, code_spans, file_lines, file_name, span_of};
+ghost use Rattle.explain_report.specs.Inputs.{ArePlaces, code_spans, span_of};
 
 use annotated_asm::fault::AsmFault;
 use annotated_asm::laws::map_fits;
@@ -39,10 +37,7 @@ pub(crate) fn file_lines<'a>(
     alloc: Global,
     file: &Option<String>,
     text: &'a [u8],
-) -> Result<Vec<&'a [u8]>, AllocError>
-    ensures { IfOk result (λ list. each (λ line. line.now) list.items
-        ≡ file_lines (option_map string_bytes file.now) text.now) }
-{
+) -> Result<Vec<&'a [u8]>, AllocError> {
     match file {
         Some(_) => lines_of(alloc, text),
         None => Ok(Vec::new(alloc)),
@@ -50,9 +45,7 @@ pub(crate) fn file_lines<'a>(
 }
 
 /// The name of a file; empty where none is named.
-pub(crate) fn file_name(file: &Option<String>) -> &str
-    ensures { result.now ≡ file_name (option_map string_bytes file.now) }
-{
+pub(crate) fn file_name(file: &Option<String>) -> &str {
     match file {
         Some(file) => file.as_str(),
         None => "",

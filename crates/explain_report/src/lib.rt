@@ -9,6 +9,5 @@ pub mod explanation;
 mod inputs;
 pub mod laws;
 pub mod left;
-pub mod left_over_laws;
 pub mod order;
 pub mod proposal;

@@ -1,9 +1,8 @@
 //! What is left to mend by hand in what `annotate` proposes.
-ghost use Rattle.std.specs.Prelude.{◌≡◌, ◌≢◌, ◌++◌, Ok, Some, None, IfOk, OnOk};
-ghost use Rattle.std.specs.String.{string_bytes};
+ghost use Rattle.std.specs.Prelude.{◌≡◌, Ok, IfOk};
 ghost use Rattle.annotated_asm.specs.ProgramText.{parse};
 ghost use Rattle.annotator.specs.Least.{IsLeast};
-ghost use Rattle.explain_report.specs.LeftOvers.{IsFindingCount, IsLeftEmitted, IsLeftIn, IsLeftOf, IsLeftOver, closing_line};
+ghost use Rattle.explain_report.specs.LeftOvers.{IsFindingCount, IsLeftEmitted, IsLeftIn, IsLeftOf, IsLeftOver};
 
 use crate::inputs::lines_of;
 use crate::left::LeftOver;
@@ -12,7 +11,9 @@ use annotated_asm::assembler::assemble;
 use annotated_asm::fault::AsmFault;
 use annotator::certify::certify;
 use diagnostics::colour::Colour;
+use diagnostics::diagnostic::Diagnostic;
 use diagnostics::files::{Files, TextFile};
+use diagnostics::shown::shown;
 use diagnostics::text::text_of;
 use finding_paths::shown::shown_findings;
 use jobs::job::{Emit, Job};
@@ -99,19 +100,37 @@ fn left_in(
 {
     let least = certify(alloc, program)?;
     let errors = in_order(alloc, mark_errors(alloc, text, program, &least)?)?;
-    let rows = lines_of(alloc, text)?;
-    let files = Files::new(
-        TextFile::new(name, &rows),
-        TextFile::new("", &[]),
-        TextFile::new("", &[]),
-    );
-    let mut said = text_of(alloc, &files, &errors, Colour::Never)?;
     let count = finding_count(alloc, program, &least)?;
-    write_closing(&mut said, name, count)?;
-    Ok(LeftOver {
-        said: said.into_bytes(),
-        count,
-    })
+    let rows = lines_of(alloc, text)?;
+    let said = said_of(alloc, name, &rows, &errors, count)?;
+    Ok(LeftOver { said, count })
+}
+
+// What `explain` says of a text with these lines, and a line that says how much is left.
+fn said_of(
+    alloc: Global,
+    name: &str,
+    rows: &[&[u8]],
+    errors: &[Diagnostic],
+    count: usize,
+) -> Result<Vec<u8>, AllocError> {
+    let none = TextFile {
+        name: "",
+        rows: &[],
+    };
+    let files = Files {
+        program: TextFile { name, rows },
+        certificate: none,
+        script: none,
+    };
+    let mut said = text_of(alloc, &files, errors, Colour::Never)?;
+    let name = shown(alloc, name.as_bytes())?;
+    if count == 0 {
+        writeln!(said, "multiscalar: {name}: all marks are right")?;
+    } else {
+        writeln!(said, "multiscalar: {name}: {count} left to mend by hand")?;
+    }
+    Ok(said.into_bytes())
 }
 
 // How many findings a program has.
@@ -122,15 +141,4 @@ fn finding_count(alloc: Global, program: &Program, least: &Cert) -> Result<usize
 {
     let findings = shown_findings(alloc, program, least, 0)?;
     Ok(findings.more)
-}
-
-// Adds the line that says how much is left.
-fn write_closing(text: &mut String, name: &str, count: usize) -> Result<(), AllocError>
-    ensures { OnOk result (string_bytes text.new ≡ string_bytes text.old ++ closing_line name.now count) }
-{
-    if count == 0 {
-        writeln!(text, "multiscalar: {name}: all marks are right")
-    } else {
-        writeln!(text, "multiscalar: {name}: {count} left to mend by hand")
-    }
 }
