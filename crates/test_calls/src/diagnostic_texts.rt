@@ -8,6 +8,7 @@ use diagnostics::diagnostic::{Diagnostic, Severity, Source, Span};
 use diagnostics::files::{Files, TextFile};
 use diagnostics::listed::Listed;
 use diagnostics::quotation::quoted;
+use diagnostics::shown::{quoted_for_shell, shown};
 use diagnostics::text::text_of;
 use diagnostics::words::Words;
 use input_diagnostics::certificate::certificate_errors;
@@ -42,11 +43,20 @@ fn said(alloc: Global) -> Result<String, AllocError> {
         help: None,
     };
     let list = vec![in alloc; diagnostic]?;
-    let files = Files::new(
-        TextFile::new("p.s", &ROWS),
-        TextFile::new("p.cert2", &[]),
-        TextFile::new("p.events", &[]),
-    );
+    let files = Files {
+        program: TextFile {
+            name: "p.s",
+            rows: &ROWS,
+        },
+        certificate: TextFile {
+            name: "p.cert2",
+            rows: &[],
+        },
+        script: TextFile {
+            name: "p.events",
+            rows: &[],
+        },
+    };
     text_of(alloc, &files, list.as_slice(), Colour::Never)
 }
 
@@ -56,6 +66,18 @@ fn bytes_are_shown(rt: HostRuntime) {
     assert!(rt; said.expect(&rt, "room").as_str() == SAID);
     let words = quoted(rt.alloc(), b"a\x1bb").ok();
     assert!(rt; words.expect(&rt, "room").as_str() == "`a\\x1bb`");
+}
+
+#[test]
+fn names_are_shown(rt: HostRuntime) {
+    let plain = shown(rt.alloc(), "\u{e4} b.s".as_bytes()).ok();
+    assert!(rt; plain.expect(&rt, "room").as_str() == "\u{e4} b.s");
+    let steering = shown(rt.alloc(), b"a\r\n\xef\xbb\xbf.s").ok();
+    assert!(rt; steering.expect(&rt, "room").as_str() == "a\\x0d\\x0a\\xef\\xbb\\xbf.s");
+    let word = quoted_for_shell(rt.alloc(), "\u{e4}/b.s").ok();
+    assert!(rt; word.expect(&rt, "room").as_str() == "\u{e4}/b.s");
+    let word = quoted_for_shell(rt.alloc(), "it's b.s").ok();
+    assert!(rt; word.expect(&rt, "room").as_str() == "'it'\\''s b.s'");
 }
 
 #[test]

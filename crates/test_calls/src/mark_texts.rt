@@ -26,11 +26,20 @@ fn told(alloc: Global, warns: bool, text: &[u8]) -> Option<Vec<Diagnostic>> {
 // The diagnostics of `told` in text form, without the lines of the text.
 fn said(alloc: Global, warns: bool, text: &[u8]) -> Option<String> {
     let list = told(alloc, warns, text)?;
-    let files = Files::new(
-        TextFile::new("p.s", &[]),
-        TextFile::new("p.cert2", &[]),
-        TextFile::new("p.events", &[]),
-    );
+    let files = Files {
+        program: TextFile {
+            name: "p.s",
+            rows: &[],
+        },
+        certificate: TextFile {
+            name: "p.cert2",
+            rows: &[],
+        },
+        script: TextFile {
+            name: "p.events",
+            rows: &[],
+        },
+    };
     text_of(alloc, &files, list.as_slice(), Colour::Never).ok()
 }
 
