@@ -16,16 +16,18 @@ pub(crate) struct Ends<'a> {
 
 /// What is listed of a path.
 pub(crate) fn told(path: &[Span]) -> Ends<'_> {
-    if path.len() <= 2 * TOLD_AT_AN_END {
+    let length = path.len();
+    let left_out = length.saturating_sub(2 * TOLD_AT_AN_END);
+    if left_out == 0 {
         return Ends {
             front: path,
             back: &[],
-            left_out: 0,
+            left_out,
         };
     }
     Ends {
-        front: &path[..TOLD_AT_AN_END],
-        back: &path[path.len() - TOLD_AT_AN_END..],
-        left_out: path.len() - 2 * TOLD_AT_AN_END,
+        front: &path[..TOLD_AT_AN_END.min(length)],
+        back: &path[length.saturating_sub(TOLD_AT_AN_END)..],
+        left_out,
     }
 }
