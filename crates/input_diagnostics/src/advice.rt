@@ -177,8 +177,8 @@ fn is_in_word(line: &[u8], place: usize) -> bool {
 
 /// What is said of a tab or a comma: that a space is meant, where it separates two words.
 pub(crate) fn separator(line: &[u8], before: usize, says: &'static str) -> Slip {
-    let is_between =
-        is_in_word(line, before.saturating_sub(1)) && is_in_word(line, before.saturating_add(1));
+    let is_between = is_in_word(line, before.saturating_sub(1))
+        && is_in_word(line, before.saturating_add(1));
     if is_between {
         marked(before, 1, mend(says, "write a space in its place", " "))
     } else {

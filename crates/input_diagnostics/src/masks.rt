@@ -92,7 +92,9 @@ pub(crate) fn first_idle(cert: &Cert, least: &Cert, finding: &Finding) -> Option
         return None;
     }
     cert.list(task).iter().position(|entry| {
-        let is_lacking = least.mask(task, entry.0).is_some_and(|mask| !mask.has(register));
+        let is_lacking = least
+            .mask(task, entry.0)
+            .is_some_and(|mask| !mask.has(register));
         entry.1.has(register) && is_lacking
     })
 }
@@ -204,27 +206,46 @@ impl<'a> Compared<'a> {
 
     /// The error for a finding, and for those that say what the same mask lacks: with the least mask to write; or, where
     /// it lacks nothing of that, with the one to write where another mask has the register for no reason.
-    fn error(&self, alloc: Global, finding: &Finding, findings: &[Finding]) -> Result<Diagnostic, AllocError>
+    fn error(
+        &self,
+        alloc: Global,
+        finding: &Finding,
+        findings: &[Finding],
+    ) -> Result<Diagnostic, AllocError>
         ensures { IfOk result (IsErrorOf Certificate) }
     {
         let Finding { task, index, .. } = *finding;
         let least = mask_at(self.least, task, index);
         let wanted = least.minus(mask_at(self.cert, task, index));
-        let idle = if wanted.is_empty() { first_idle(self.cert, self.least, finding) } else { None };
+        let idle = if wanted.is_empty() {
+            first_idle(self.cert, self.least, finding)
+        } else {
+            None
+        };
         let place = idle.unwrap_or(0);
         let other = entry_at(self.cert.list(task), place).0;
         let (mask, mended) = match idle {
-            Some(_) => (mask_at(self.least, task, other), self.entry_span(task, place)),
+            Some(_) => (
+                mask_at(self.least, task, other),
+                self.entry_span(task, place),
+            ),
             None => (least, self.span_of(finding)),
         };
         let text = mask_text(alloc, self.digits, mask)?;
         let has_fix = text.is_some() && (idle.is_some() || !wanted.is_empty());
-        let lacking = if wanted.is_empty() { registers_of(findings) } else { wanted };
+        let lacking = if wanted.is_empty() {
+            registers_of(findings)
+        } else {
+            wanted
+        };
         let words = [
             ("name", Words::of(alloc, task_name(self.program, task))?),
             ("index", words!(in alloc; "{index}")?),
             ("lacking", registers_text(alloc, lacking)?),
-            ("register", words!(in alloc; "{}", register_in(finding.reg))?),
+            (
+                "register",
+                words!(in alloc; "{}", register_in(finding.reg))?,
+            ),
             ("other", words!(in alloc; "{other}")?),
             ("mask", text.unwrap_or(Words::of(alloc, "")?)),
         ];
@@ -294,7 +315,11 @@ impl<'a> Compared<'a> {
 
     /// The errors for a certificate with these findings: that it is of another text, or else one for each mask that is
     /// missing or lacks registers.
-    pub(crate) fn errors(&self, alloc: Global, findings: &[Finding]) -> Result<Vec<Diagnostic>, AllocError>
+    pub(crate) fn errors(
+        &self,
+        alloc: Global,
+        findings: &[Finding],
+    ) -> Result<Vec<Diagnostic>, AllocError>
         ensures { IfOk result (λ list. (list.items ≡ []) ↔ (findings.now ≡ [])) }
     {
         let [first, others @ ..] = findings else {
@@ -340,7 +365,8 @@ fn row_of(rule: Rule, is_idle: bool, has_fix: bool) -> (Code, Row) {
         Rule::LacksDestination => Code::LacksDestination,
         _ => Code::LacksNext,
     };
-    let idle = "the mask of task {name} at index {index} lacks ${register}: the mask at index {other} has it, though nothing writes it from there on";
+    let idle =
+        "the mask of task {name} at index {index} lacks ${register}: the mask at index {other} has it, though nothing writes it from there on";
     let lacks = "the mask of task {name} at index {index} lacks {lacking}";
     let row = match (is_idle, has_fix) {
         (true, true) => mend(idle, "write {fix} at index {other}", "{mask}"),

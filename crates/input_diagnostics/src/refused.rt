@@ -5,7 +5,10 @@ ghost use Rattle.diagnostics.specs.declared.diagnostic.Source.TheVariants.{Certi
 ghost use Rattle.input_diagnostics.specs.Advice.{IsErrorIn, IsErrorOf};
 ghost use Rattle.input_diagnostics.specs.CertificateErrors.{IsAt};
 
-use crate::advice::{ANEW, Group, MOST_SHOWN, Row, Slip, advice, alone, marked, mend, return_slip, separator, span, stray_space};
+use crate::advice::{
+    ANEW, Group, MOST_SHOWN, Row, Slip, advice, alone, marked, mend, return_slip, separator, span,
+    stray_space,
+};
 use crate::lines::{lines_of, row_at};
 use diagnostics::code::Code;
 use diagnostics::diagnostic::{Diagnostic, Source};
@@ -167,7 +170,8 @@ fn mask_slip(alloc: Global, digits: usize, row: &[u8], before: usize) -> Result<
             group: Group::Incomplete,
         });
     }
-    let help = "write {digits} digits, 0 to 9 and a to f in lower case, with zeros in front and no bit above 33";
+    let help =
+        "write {digits} digits, 0 to 9 and a to f in lower case, with zeros in front and no bit above 33";
     Ok(marked(before, width, advice(says, help)))
 }
 
@@ -224,7 +228,11 @@ impl<'a> Refused<'a> {
             return Ok(marked(0, 0, advice("the line is empty", "take it out")));
         }
         if number == 2 {
-            let help = if has_next { "write task {next} on a line before it" } else { ANEW };
+            let help = if has_next {
+                "write task {next} on a line before it"
+            } else {
+                ANEW
+            };
             let row = advice("the line of the first task comes first", help);
             return Ok(marked(0, width, row));
         }
@@ -271,7 +279,11 @@ impl<'a> Refused<'a> {
     /// The errors for the lines after one that are told together with it, and how many more there are: five comments
     /// are shown in all.
     fn alike(&self, number: usize, group: Group) -> Result<Vec<Diagnostic>, AllocError> {
-        let most = if group == Group::Comments { 4 } else { MOST_SHOWN - 1 };
+        let most = if group == Group::Comments {
+            4
+        } else {
+            MOST_SHOWN - 1
+        };
         let mut list = Vec::new(self.alloc);
         let mut count = 0usize;
         for (before, row) in self.rows.iter().enumerate() {
@@ -346,7 +358,8 @@ impl<'a> Refused<'a> {
         } else {
             "the first line is neither cert 2 nor cert 1"
         };
-        let help = "begin with the line cert 2, or cert 1 if masks have 8 digits, and end it with LF";
+        let help =
+            "begin with the line cert 2, or cert 1 if masks have 8 digits, and end it with LF";
         marked(0, row.len(), advice(says, help))
     }
 
@@ -373,7 +386,8 @@ impl<'a> Refused<'a> {
             None => "the program has no further task",
         };
         let told = if unknown > 1 && known < unknown {
-            let says = "this looks like a certificate of another program: the program has {known} of the {named} tasks that it names";
+            let says =
+                "this looks like a certificate of another program: the program has {known} of the {named} tasks that it names";
             advice(says, ANEW)
         } else if is_task(self.program, after(row, 5)) {
             advice(says, ANEW)
@@ -400,7 +414,13 @@ impl<'a> Refused<'a> {
         let row = advice("the certificate ends before task {next}", ANEW);
         let words = [("next", Words::of(self.alloc, next.unwrap_or(""))?)];
         let at = span(number, row_at(self.rows, number).len(), 0);
-        let said = row.at(self.alloc, Source::Certificate, Code::MissingTask, at, &words)?;
+        let said = row.at(
+            self.alloc,
+            Source::Certificate,
+            Code::MissingTask,
+            at,
+            &words,
+        )?;
         let list = alone(self.alloc, said)?;
         Ok(list)
     }

@@ -5,7 +5,10 @@ ghost use Rattle.diagnostics.specs.declared.diagnostic.Source.TheVariants.{Scrip
 ghost use Rattle.input_diagnostics.specs.Advice.{IsErrorIn};
 ghost use Rattle.input_diagnostics.specs.ScriptErrors.{AreScriptErrors, BeginsWithFirst};
 
-use crate::advice::{Group, MOST_SHOWN, Row, Slip, advice, alone, marked, mend, return_slip, separator, span, stray_space};
+use crate::advice::{
+    Group, MOST_SHOWN, Row, Slip, advice, alone, marked, mend, return_slip, separator, span,
+    stray_space,
+};
 use crate::lines::{lines_of, row_at};
 use crate::meant::{meant, names_of, register_meant};
 use diagnostics::code::Code;
@@ -207,7 +210,11 @@ fn line_error(
         ("register", register),
     ];
     let is_task = matches!(bad.fault, EventFault::NoTask) && slip.group != Group::Returns;
-    let code = if is_task { Code::ScriptTaskName } else { Code::ScriptLine };
+    let code = if is_task {
+        Code::ScriptTaskName
+    } else {
+        Code::ScriptLine
+    };
     let at = span(bad.line, slip.before, slip.width);
     let said = slip.row.at(alloc, Source::Script, code, at, &words)?;
     Ok((said, slip.group))
