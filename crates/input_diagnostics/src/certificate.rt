@@ -31,12 +31,12 @@ pub struct ProgramLines<'a> {
 /// # Errors
 ///
 /// `AllocError` where memory was refused.
-pub fn certificate_errors(
+pub fn certificate_errors<'x>(
     alloc: Global,
     text: &[u8],
-    program: &Program,
-    lines: ProgramLines<'_>,
-    least: &Cert,
+    program: &'x Program,
+    lines: ProgramLines<'x>,
+    least: &'x Cert,
 ) -> Result<Vec<Diagnostic>, AllocError>
     ensures { IfOk result (λ list. AreCertificateErrors program.now text.now list.items) }
 {

@@ -50,12 +50,12 @@ fn larger_note(
 /// # Errors
 ///
 /// `AllocError` where memory was refused.
-pub fn unfit_error(
+pub fn unfit_error<'x>(
     alloc: Global,
-    program: &Program,
+    program: &'x Program,
     text: &[u8],
-    cert: &Cert,
-    least: &Cert,
+    cert: &'x Cert,
+    least: &'x Cert,
     findings: &[Finding],
     wanted: usize,
 ) -> Result<Diagnostic, AllocError>
