@@ -42,8 +42,14 @@ enum Look {
     Right,
 }
 
-/// From this many events on a list is not made shorter event by event, which takes a run for each.
+/// At most so many groups of events of one size are left out one after another, which takes a run for each.
 const MOST_TRIED: usize = 2_000;
+
+/// And as many as have at most so many events in their runs together.
+const MOST_REPLAYED: usize = 16_000_000;
+
+/// A list of more events than these is first made shorter by larger groups.
+const LONG: usize = 16_384;
 
 /// Looks for events that show the harm of a wrong mark, on 2 to `most_units` units, and on one unit for a wrong word
 /// that no instruction reads; in runs of about `steps` events. What it finds has at most 1,000,000 of them. `None`
@@ -233,9 +239,29 @@ fn shortened(
     ensures shown { IfOk result (λ d. IsDemonstration program.now d) }
 {
     let found = without_rest(alloc, program, found)?;
+    let found = shortened_if_long(alloc, program, found)?;
     let found = without_each(alloc, program, found, 64)?;
     let found = without_each(alloc, program, found, 8)?;
     without_each(alloc, program, found, 1)
+}
+
+/// A long demonstration without the larger groups of events that it does not need.
+fn shortened_if_long(
+    alloc: Global,
+    program: &Program,
+    found: Demonstration,
+) -> Result<Demonstration, OutOfMemory>
+    requires units { found.units ≤ 16 }
+    requires shown { IsDemonstration program.now found }
+    ensures units { IfOk result (λ d. d.units ≡ found.units) }
+    ensures shown { IfOk result (λ d. IsDemonstration program.now d) }
+{
+    if found.events.len() <= LONG {
+        return Ok(found);
+    }
+    let found = without_each(alloc, program, found, 65_536)?;
+    let found = without_each(alloc, program, found, 4_096)?;
+    without_each(alloc, program, found, 512)
 }
 
 /// A demonstration without the events after its harm.
@@ -280,9 +306,10 @@ fn without_each(
     ensures units { IfOk result (λ d. d.units ≡ found.units) }
     ensures shown { IfOk result (λ d. IsDemonstration program.now d) }
 {
-    let groups = found.events.len() / size;
+    let length = found.events.len();
+    let groups = length / size;
     let mut found = found;
-    if groups > MOST_TRIED {
+    if groups > MOST_TRIED || groups.saturating_mul(length) > MOST_REPLAYED {
         return Ok(found);
     }
     for done in 0..groups + 1 {

@@ -1,6 +1,7 @@
 //! A text of JSON that grows token by token. An error of a call means that memory was refused.
 
 use json::Writer;
+use shown_names::letters::is_readable;
 use std::alloc::{AllocError, Global};
 
 /// What a call that writes returns: an error means that memory was refused.
@@ -22,12 +23,12 @@ impl JsonText {
         }
     }
 
-    /// The text as a line.
+    /// The text as a line. A character that steers a terminal stands as its code, wherever a name has one.
     pub(crate) fn into_line(self) -> Result<Vec<u8>, AllocError> {
-        let JsonText { out, .. } = self;
-        let mut bytes = out.into_inner();
-        bytes.push(b'\n')?;
-        Ok(bytes)
+        let JsonText { alloc, out } = self;
+        let mut line = with_codes(alloc, out.into_inner())?;
+        line.push(b'\n')?;
+        Ok(line)
     }
 
     /// Begins an object.
@@ -94,4 +95,34 @@ impl JsonText {
         self.text("text", text.as_str())?;
         self.end()
     }
+}
+
+/// A text of JSON with a code for each character that steers a terminal or that nobody sees: those below U+0020 have
+/// theirs already.
+fn with_codes(alloc: Global, text: Vec<u8>) -> Result<Vec<u8>, AllocError> {
+    if !text.contains(&b'\x7f') && is_readable(text.as_slice()) {
+        return Ok(text);
+    }
+    let text = match String::from_utf8(text) {
+        Ok(text) => text,
+        Err(fault) => return Ok(fault.into_bytes()),
+    };
+    let mut coded = String::new(alloc);
+    for letter in text.chars() {
+        add_letter(&mut coded, letter)?;
+    }
+    Ok(coded.into_bytes())
+}
+
+/// Adds a character to a text of JSON, or its code.
+fn add_letter(text: &mut String, letter: char) -> Written {
+    let mut bytes = [0; 4];
+    let spelled = letter.encode_utf8(&mut bytes);
+    if letter != '\u{7f}' && is_readable(spelled.as_bytes()) {
+        return text.push(letter);
+    }
+    for unit in spelled.encode_utf16() {
+        write!(text, "\\u{unit:04x}")?;
+    }
+    Ok(())
 }

@@ -171,7 +171,7 @@ fn write_first_line(
     ensures { OnOk result (string_bytes text.new ≡ string_bytes text.old ++ line_of (start_json name.now source program.now units)) }
 {
     let mut out = JsonWriter::new(alloc);
-    write_start(&mut out, name, source, program, units)?;
+    write_start(alloc, &mut out, name, source, program, units)?;
     write_line(text, out)
 }
 
