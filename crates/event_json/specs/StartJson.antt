@@ -1,7 +1,6 @@
 -- The first line, as an object of JSON.
 use Rattle.std.specs.Prelude.{ℕ, List, [], ◌∷◌, ◌++◌, codes, length}
 use Rattle.json.specs.Json.{Json}
-use Rattle.shown_names.specs.Shown.{shown}
 use Rattle.task_descriptor.specs.Listing.{Listing}
 use Rattle.event_json.specs.declared.source.EventSource.{EventSource}
 use Rattle.event_json.specs.declared.source.EventSource.TheVariants.{Script, Threads, Steps}
@@ -11,10 +10,10 @@ use Rattle.event_json.specs.Fields.{Field, number_field, object_of, text_field}
 abbrev pub form_fields : List Field
 form_fields = text_field (codes "format") (codes "multiscalar-trace") ∷ number_field (codes "version") 1 ∷ []
 
--- what the program is called, as names are shown, unless its name is empty
+-- what the program is called, unless its name is empty
 abbrev pub name_fields : (name : List ℕ) → List Field
 name_fields [] = []
-name_fields (b ∷ bs) = text_field (codes "program_name") (shown (b ∷ bs)) ∷ []
+name_fields (b ∷ bs) = text_field (codes "program_name") (b ∷ bs) ∷ []
 
 -- the schedule of a run; a script has none
 abbrev pub schedule_fields : EventSource → List Field

@@ -11,6 +11,7 @@ ghost use Rattle.event_json.specs.EventJson.{step_at as step_of};
 ghost use Rattle.event_json.specs.StartJson.{start_json};
 ghost use Rattle.event_json.specs.EndJson.{end_json};
 ghost use Rattle.event_json.specs.Json.{json_text};
+ghost use Rattle.shown_names.specs.Shown.{shown};
 
 use crate::ending::write_end;
 use crate::event::{write_refused, write_taken};
@@ -27,11 +28,12 @@ use event_trace::telling::{Telling, add_entries};
 use machine_model::event::{Event, Refused, Standing};
 use mark_checker::accept::Accepted;
 use sequencer::machine::Machine;
+use shown_names::name::shown_name;
 use std::alloc::{AllocError, Global};
 use task_descriptor::program::Program;
 
 /// The trace of some events on a machine of `units` units that is at the start of an accepted program, as lines of
-/// JSON: an object for what the lines are, with this name of the program, which may be empty; one for each event, with its number, its step if the run
+/// JSON: an object for what the lines are, with this name of the program as names are shown, which may be empty; one for each event, with its number, its step if the run
 /// went in steps, its answer and what it changed; and one for how the machine then stands, or that the run was out
 /// of budget. `program_text` is the text of the program: instructions are told by their index and by its lines. An
 /// error says that memory was refused.
@@ -159,7 +161,7 @@ fn step_at(steps: &[u32], number: usize) -> Option<u32>
     steps.get(number.saturating_sub(1)).copied()
 }
 
-/// Adds a line for what the lines are.
+/// Adds a line for what the lines are, with the name as names are shown.
 fn write_first_line(
     alloc: Global,
     text: &mut String,
@@ -168,10 +170,11 @@ fn write_first_line(
     program: &Program,
     units: u32,
 ) -> Result<(), AllocError>
-    ensures { OnOk result (string_bytes text.new ≡ string_bytes text.old ++ line_of (start_json name.now source program.now units)) }
+    ensures { OnOk result (string_bytes text.new ≡ string_bytes text.old ++ line_of (start_json (shown name.now) source program.now units)) }
 {
+    let shown = shown_name(alloc, name)?;
     let mut out = JsonWriter::new(alloc);
-    write_start(alloc, &mut out, name, source, program, units)?;
+    write_start(&mut out, shown.as_str(), source, program, units)?;
     write_line(text, out)
 }
 

@@ -7,14 +7,12 @@ ghost use Rattle.event_json.specs.StartJson.{form_fields, name_fields, schedule_
 
 use crate::source::EventSource;
 use crate::writer::JsonWriter;
-use shown_names::name::shown_name;
-use std::alloc::{AllocError, Global};
+use std::alloc::AllocError;
 use task_descriptor::program::Program;
 
 /// Adds what the lines are, what the program is called, the schedule, how many units the machine has and how many
 /// instructions the program. An error says that memory was refused.
 pub(crate) fn write_start(
-    alloc: Global,
     out: &mut JsonWriter,
     name: &str,
     source: EventSource,
@@ -25,7 +23,7 @@ pub(crate) fn write_start(
 {
     out.begin_object()?;
     write_form(out)?;
-    write_name(alloc, out, name)?;
+    write_name(out, name)?;
     write_schedule(out, source)?;
     write_sizes(out, program, units)?;
     out.end_object()?;
@@ -40,16 +38,13 @@ fn write_form(out: &mut JsonWriter) -> Result<(), AllocError>
     out.number("version", 1)
 }
 
-/// Adds what the program is called, as names are shown, unless its name is empty.
-fn write_name(alloc: Global, out: &mut JsonWriter, name: &str) -> Result<(), AllocError>
+/// Adds what the program is called, unless its name is empty.
+fn write_name(out: &mut JsonWriter, name: &str) -> Result<(), AllocError>
     ensures { OnOk result (out.new ≡ out.old ++ fields_tokens (name_fields name.now)) }
 {
     match name.as_bytes() {
         [] => Ok(()),
-        _ => {
-            let shown = shown_name(alloc, name)?;
-            out.text("program_name", shown.as_str())
-        }
+        _ => out.text("program_name", name),
     }
 }
 

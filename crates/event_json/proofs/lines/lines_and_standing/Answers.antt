@@ -13,6 +13,7 @@ use Rattle.event_json.specs.EventJson.{taken_line, refused_line}
 use Rattle.event_json.specs.EndJson.{end_json}
 use Rattle.event_json.specs.Json.{json_text}
 use Rattle.event_json.specs.Times.{steps_of}
+use Rattle.shown_names.specs.Shown.{shown}
 use Rattle.event_json.proofs.Tokens.{three_texts}
 use Rattle.event_json.proofs.lines.lines_and_standing.Goals as goal
 
@@ -30,9 +31,9 @@ returns-clause-text c =
     let told : Listing → List Position → List ℕ → List ℕ =
     λ q places steps. entries_from (entry_of (taken_line q places steps) (refused_line q places steps) p units) p units 1 0 (opening p) events in
     three_texts one two three (string_bytes c.write_last_line.new.text)
-    (line_of (start_json c.args.name.now c.args.source p units)) (told p (places_of c.args.program_text.now) (steps_of c.args.source events)) (line_of (end_json p last (play p units events).state))
+    (line_of (start_json (shown c.args.name.now) c.args.source p units)) (told p (places_of c.args.program_text.now) (steps_of c.args.source events)) (line_of (end_json p last (play p units events).state))
     c.new-text.ensures.bytes
-    (c.in_ok-write_first_line.ensures ∙ ap (λ (q : Listing). one ++ line_of (start_json c.args.name.now c.args.source q units)) c.program-program.ensures.value)
+    (c.in_ok-write_first_line.ensures ∙ ap (λ (q : Listing). one ++ line_of (start_json (shown c.args.name.now) c.args.source q units)) c.program-program.ensures.value)
     (c.in_ok-machine.ensures.told
     ∙ ap (λ (q : Listing). two ++ told q c.deref.result.now c.deref-2.result.now) c.program-program.ensures.value
     ∙ ap (λ (places : List Position). two ++ told p places c.deref-2.result.now) (c.deref.ensures.value ∙ c.in_ok-places.ensures)

@@ -3,10 +3,9 @@ use Rattle.std.proofs.Common.{◌≡◌, ◌++◌, ◌≤◌, OnOk, ℕ, List, [
 use Rattle.std.specs.Prelude.{codes}
 use Rattle.event_json.specs.Fields.{Field, fields_tokens, text_field}
 use Rattle.event_json.specs.StartJson.{name_fields}
-use Rattle.shown_names.specs.Shown.{shown}
 use Rattle.event_json.proofs.start.write_name.Goals as goal
 
-named : (name : List ℕ) → 1 ≤ length name → name_fields name ≡ text_field (codes "program_name") (shown name) ∷ []
+named : (name : List ℕ) → 1 ≤ length name → name_fields name ≡ text_field (codes "program_name") name ∷ []
 named [] some = absurd (omega (arith, some))
 named (b ∷ bs) some = refl
 
