@@ -16,14 +16,16 @@ second of the processor, and one for each 30 MB that are read and written. Needs
 in the temporary folder and 3 GB of memory, 5 where the program writes JSON; it is no part of the tests.
 
 With --gate: texts that take long, or much memory, where an answer is sought carelessly. Each run may take
-three times the processor's time of `check --least` of the same program, or a second if that is more, and 512 MB. `explain` does not
-keep to this yet: many mistakes in one long line take it longer. So no test runs this.
+three times the processor's time of `check --least` of the same program, or a second if that is more, and 512 MB. A run that takes
+more is made again, twice, as other processes may have slowed it, and is ended some two seconds after its time. `explain` does
+not keep to this yet: warnings of many tasks that share their code take it some seconds. So no test runs this.
 """
 import argparse
 import collections
 import itertools
 import os
 import pathlib
+import resource
 import string
 import subprocess
 import sys
@@ -65,12 +67,14 @@ def writes_json(program):
     return b"json" in subprocess.run([program, "replay", "--help"], capture_output=True).stdout
 
 
-def ran(program, words, folder):
-    """A run, with the greatest memory in millions of bytes."""
+def ran(program, words, folder, most=None):
+    """A run, with the greatest memory in millions of bytes. If it may take so many seconds of the processor, it is ended some two after them."""
     out, told = folder / "out", folder / "told"
     begin = time.monotonic()
     process = os.fork()
     if process == 0:
+        if most is not None:
+            resource.setrlimit(resource.RLIMIT_CPU, (int(most) + 2, int(most) + 2))
         os.dup2(os.open(out, os.O_WRONLY | os.O_CREAT | os.O_TRUNC), 1)
         os.dup2(os.open(told, os.O_WRONLY | os.O_CREAT | os.O_TRUNC), 2)
         os.execv(program, [program, *words])
@@ -343,8 +347,9 @@ def many_tasks(folder, traces):
         yield "the most tasks, in steps", ["run", program, "--least", "--schedule", "steps", "--units", "16", "--emit", emit], 3, None, bound
 
 
-# What a run of WORST may take: this many times what `check --least` of its program takes, but no less than a second; and millions of bytes.
-TIMES, LEAST_SECONDS, GATE_MEMORY = 3, 1, 512
+# What a run of `worst` may take: this many times what `check --least` of its program takes, but no less than a second; and millions of bytes.
+# A run that takes more is made again, until it was made this often.
+TIMES, LEAST_SECONDS, GATE_MEMORY, TRIES = 3, 1, 512, 3
 
 
 def ring(tasks, mark=""):
@@ -409,8 +414,14 @@ def worst_inputs(folder):
     yield "a long search", ["demonstrate", loop, "--steps", "1000000"], loop
 
 
+def is_dear(ended, most):
+    """Whether a run took more of the processor's time, or more memory, than it may, or ended as none does."""
+    return ended.status not in (0, 1, 2, 3) or ended.processor > most or ended.memory > GATE_MEMORY
+
+
 def gate(program, only=""):
-    """Runs each of `worst`, and says which took longer, or more memory, than they may. What `check --least` takes is measured once for a program."""
+    """Runs each of `worst`, and says which took longer, or more memory, than they may, each time that it was run.
+    What `check --least` takes is measured once for a program."""
     wrong, count, begin, least = 0, 0, time.monotonic(), {}
     with tempfile.TemporaryDirectory(prefix="multiscalar-limits-") as name:
         folder = pathlib.Path(name)
@@ -419,10 +430,13 @@ def gate(program, only=""):
                 continue
             if text not in least:
                 least[text] = ran(program, ["check", "--least", str(text)], folder).processor
-            ended = ran(program, [str(word) for word in words], folder)
             most = max(LEAST_SECONDS, TIMES * least[text])
+            for _ in range(TRIES):
+                ended = ran(program, [str(word) for word in words], folder, most)
+                if not is_dear(ended, most):
+                    break
             count += 1
-            if ended.status not in (0, 1, 2, 3) or ended.processor > most or ended.memory > GATE_MEMORY:
+            if is_dear(ended, most):
                 wrong += 1
                 print(f"wrong: {kind}: {' '.join(str(word).replace(name, '.') for word in words)}: status {ended.status}, {ended.processor:.1f} s of {most:.1f}, {ended.memory:.0f} MB of {GATE_MEMORY}", flush=True)
     print(f"limits: {count} runs, {wrong} wrong ({time.monotonic() - begin:.0f} s)")
@@ -479,7 +493,7 @@ def main():
     parser = argparse.ArgumentParser(description=__doc__.splitlines()[0])
     parser.add_argument("program")
     parser.add_argument("--only", default="", metavar="WORD", help="only what has this in its name")
-    parser.add_argument("--gate", action="store_true", help="texts that would take long, within two minutes")
+    parser.add_argument("--gate", action="store_true", help="texts that would take long")
     args = parser.parse_args()
     if args.gate:
         return gate(str(pathlib.Path(args.program).resolve()), args.only)
