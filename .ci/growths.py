@@ -66,7 +66,7 @@ BOUNDS = {
     "run_threads": Bound(16_000_000, 2, 2, "the history has 1,000,000 places of 16 bytes"),
     # Subcommands: what they read, and what they print.
     **{f"multiscalar {name}": Bound(2_097_152, 16, 4, "the first room for a file; the texts that are read and printed")
-       for name in ("seq", "print", "explain", "annotate", "check")},
+       for name in ("seq", "print", "explain", "annotate", "check", "demonstrate")},
     **{f"multiscalar {name}": Bound(16_000_000, 16, 4, "the history has 1,000,000 places of 16 bytes; the texts") for name in ("run", "replay", "curve")},
 }
 

@@ -125,9 +125,11 @@ def worked_cases(folder):
 
 
 def measured_words(bench):
-    """The words of each run whose greatest growth is measured: the worked examples, and each subcommand on a program of many tasks."""
+    """The words of each run whose greatest growth is measured: the worked examples, a demonstration, whose run has a task that retires, and each
+    other subcommand on a program of many tasks."""
     folder = bench.folder
     yield from (words for words, _, _ in worked_cases(folder))
+    yield ["demonstrate", str(EXAMPLES / "five-findings" / "program.s")]
     many, certificate, script = (folder / name for name in ("many.s", "many.cert2", "many.events"))
     many.write_text(refused_calls.MANY)
     texts = {"P": str(many), "C": str(certificate), "S": str(script)}

@@ -132,17 +132,18 @@ const ENTRIES: usize = 100;
 /// How many bytes a task has below: its line `task A`, and its entries of 22 bytes.
 const TASK: usize = 7 + ENTRIES * 22;
 
-/// The first line, and twice the same tasks: the blocks begin after the lines of the tasks.
+/// The first line with some tasks, and the same tasks once more: the blocks begin after the lines of the tasks. Four
+/// workers have 16 shares of `TASK + 1` bytes in the first piece. So the eighth of its tasks, whose line begins after
+/// 7 + 7 * TASK bytes, begins just where the eighth share does.
 fn long_text(alloc: Global) -> Result<Text, fmt::Error> {
-    let tasks = tasks_text(alloc)?.into_bytes();
-    let mut text = Text::new(alloc, b"cert 2\n".to_vec(alloc)?);
-    text.append(tasks.clone()?)?;
-    text.append(tasks)?;
+    let mut text = Text::new(alloc, tasks_text(alloc, "cert 2\n")?.into_bytes());
+    text.append(tasks_text(alloc, "")?.into_bytes())?;
     Ok(text)
 }
 
-fn tasks_text(alloc: Global) -> Result<String, fmt::Error> {
+fn tasks_text(alloc: Global, first: &str) -> Result<String, fmt::Error> {
     let mut text = String::new(alloc);
+    text.push_str(first)?;
     for _ in 0..TASKS {
         writeln!(text, "task A")?;
         for index in 1000..1000 + ENTRIES {
@@ -154,10 +155,7 @@ fn tasks_text(alloc: Global) -> Result<String, fmt::Error> {
 
 // The number of the block of `long_text` that begins at this offset of a piece.
 fn block_number(piece: usize, start: usize) -> usize {
-    piece
-        .saturating_mul(TASKS)
-        .saturating_add(start / TASK)
-        .saturating_sub(TASKS)
+    piece.saturating_mul(TASKS).saturating_add(start / TASK)
 }
 
 impl ReadGate for Counts {
@@ -173,14 +171,14 @@ impl ReadGate for Counts {
 fn read_by(rt: &impl Bench, alloc: Global, workers: u32, gate: &impl ReadGate) {
     let text = long_text(alloc).ok().expect(rt, "room for a text");
     let pieces = text.pieces(alloc).ok().expect(rt, "room for pieces");
-    assert!(rt; pieces.len() == 3);
+    assert!(rt; pieces.len() == 2);
     let ahead = ReadAhead::new(rt, alloc, &pieces, workers, gate);
     assert!(rt; ahead.is_ok());
 }
 
 #[test]
 fn each_block_is_read_once(rt: HostRuntime) {
-    for workers in [2, 3, 16] {
+    for workers in [2, 4, 16] {
         let gate = Counts::new(rt.alloc(), workers, 2 * TASKS)
             .ok()
             .expect(&rt, "room for counts");

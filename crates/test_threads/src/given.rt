@@ -1,4 +1,4 @@
-//! A gate at which two workers meet.
+//! Gates at which workers meet.
 
 use parallel_check::gate::{CheckGate, ReadGate};
 use std::process::Abort;
@@ -75,14 +75,6 @@ impl Meeting {
     }
 }
 
-impl CheckGate for Meeting {
-    fn before(&self, worker: u32, _task: u32) {
-        self.holds_up(worker);
-    }
-
-    fn after(&self, _worker: u32, _task: u32) {}
-}
-
 impl ReadGate for Meeting {
     fn before_block(&self, worker: u32, _piece: usize, _start: usize) {
         self.holds_up(worker);
@@ -103,4 +95,67 @@ impl RunGate for Meeting {
             self.second_steps.fetch_add(steps, Ordering::SeqCst);
         }
     }
+}
+
+/// How many workers meet at `Crowd`.
+pub(crate) const CROWD: u32 = 16;
+
+/// Holds up whoever checks a task until as many tasks are begun as there may be workers, for ten seconds at most.
+#[derive(Drop)]
+pub(crate) struct Crowd {
+    rt: HostRuntime,
+    begun: AtomicU32,
+    is_late: AtomicBool,
+}
+
+impl Crowd {
+    pub(crate) fn new(rt: HostRuntime) -> Crowd {
+        Crowd {
+            rt,
+            begun: AtomicU32::new(0),
+            is_late: AtomicBool::new(false),
+        }
+    }
+
+    /// Whether all were there in time.
+    pub(crate) fn all_met(&self) -> bool {
+        self.begun.load(Ordering::SeqCst) == CROWD && !self.is_late.load(Ordering::SeqCst)
+    }
+}
+
+impl CheckGate for Crowd {
+    fn before(&self, _worker: u32, _task: u32) {
+        self.begun.fetch_add(1, Ordering::SeqCst);
+        for _ in 0..10_000 {
+            if self.begun.load(Ordering::SeqCst) >= CROWD {
+                return;
+            }
+            thread::sleep(&self.rt, Duration::from_millis(1));
+        }
+        self.is_late.store(true, Ordering::SeqCst);
+    }
+
+    fn after(&self, _worker: u32, _task: u32) {}
+}
+
+/// Holds the second worker up before each of its bursts, until any other with nothing to do has fallen asleep.
+#[derive(Drop)]
+pub(crate) struct Nap {
+    rt: HostRuntime,
+}
+
+impl Nap {
+    pub(crate) fn new(rt: HostRuntime) -> Nap {
+        Nap { rt }
+    }
+}
+
+impl RunGate for Nap {
+    fn before(&self, worker: u32) {
+        if worker == 1 {
+            thread::sleep(&self.rt, Duration::from_millis(300));
+        }
+    }
+
+    fn after(&self, _worker: u32, _steps: u32) {}
 }
