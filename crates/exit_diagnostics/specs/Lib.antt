@@ -1,10 +1,5 @@
-pub mod Slots
-pub mod Meant
 pub mod Needless
 pub mod NeedlessSteps
 pub mod Exits
-pub mod Calls
 pub mod StopFits
 pub mod Remarks
-pub mod Entering
-pub mod Returning

@@ -1,20 +1,15 @@
 -- What may be forgotten: a way to a task; or a stop, where a task reaches no exit, a target is taken by no exit, or a
 -- task goes on into a target.
-use Rattle.std.specs.Prelude.{ℕ, Bool, true, false, not, ◌&&◌, ◌||◌, ◌==◌, List, [], ◌∷◌, ◌++◌, codes, filter, flat_map, length, slice_get, is_some, position, unwrap_or, option_map, Option, Some, None, if◌then◌else◌}
+use Rattle.std.specs.Prelude.{ℕ, Bool, true, false, not, ◌&&◌, ◌||◌, ◌==◌, List, [], ◌∷◌, ◌++◌, flat_map, length, slice_get, is_some, position, unwrap_or, option_map, Option, Some, None, if◌then◌else◌}
 use Rattle.std.specs.List.{find, list_any, range_with_len}
 use Rattle.std.specs.Option.{option_or}
 use Rattle.task_descriptor.specs.declared.descriptor.Descriptor.{Descriptor}
 use Rattle.task_descriptor.specs.declared.descriptor.Marked.{Marked}
 use Rattle.task_graph.specs.Edges.{is_indirect}
 use Rattle.mark_checker.specs.Rules.{stops_always}
-use Rattle.diagnostics.specs.declared.diagnostic.Help.{Help}
 use Rattle.exit_diagnostics.specs.declared.remark.StopRemark.{StopRemark}
 use Rattle.exit_diagnostics.specs.declared.remark.StopRemark.TheVariants.{NeverRuns, NoExit, NotTaken, GoesInto}
-use Rattle.mark_subjects.specs.Subjects.{Judged, targets_of, entries_of, targets_text, exit_end, targets_span}
-use Rattle.mark_subjects.specs.Parts.{in_words, by_text}
-use Rattle.mark_subjects.specs.Stops.{into}
-use Rattle.mark_subjects.specs.Steps.{end_help}
-use Rattle.mark_subjects.specs.Targets.{entries_listed, is_target}
+use Rattle.mark_subjects.specs.Subjects.{Judged, targets_of, task_at, entries_of, inner_end, exit_end}
 use Rattle.exit_diagnostics.specs.Exits.{is_taken}
 use Rattle.exit_diagnostics.specs.StopFits.{stop_fits}
 
@@ -41,12 +36,14 @@ exits s i = is_some (exit_end s i false) || (is_some (exit_end s i true) || exit
 
 -- Where a task that never reaches a stop goes on into a target: there it is to end, if it may.
 
-abbrev pub target_into : Judged → (task : ℕ) → Option ℕ → Option ℕ
+-- the task that begins at a place, if that is a target
+abbrev pub target_into : Judged → (task : ℕ) → (place : Option ℕ) → Option ℕ
 target_into s task None = None
-target_into s task (Some other) = if is_target s task other then Some other else None
+target_into s task (Some j) = if list_any (λ t. t == j) (targets_of s task) then task_at s j else None
 
+-- the target into which an instruction goes on
 abbrev pub target_at : Judged → (task index : ℕ) → Option ℕ
-target_at s task i = option_or (target_into s task (into s i false)) (target_into s task (into s i true))
+target_at s task i = option_or (target_into s task (inner_end s i false)) (target_into s task (inner_end s i true))
 
 abbrev pub may_end_before_target : Judged → (task index : ℕ) → Bool
 may_end_before_target s task i = is_some (target_at s task i) && stop_fits s task i
@@ -54,42 +51,10 @@ may_end_before_target s task i = is_some (target_at s task i) && stop_fits s tas
 abbrev pub first_end : Judged → (task : ℕ) → Option ℕ
 first_end s task = option_map (λ e. e.0) (find (λ e. may_end_before_target s task e.0) (entries_of s task))
 
-abbrev pub end_at : Judged → (task index : ℕ) → Option ℕ → Help
-end_at s task i None = in_words (codes "put !s, !st or !sn where it is to end")
-end_at s task i (Some other) = end_help s task i other
-
-abbrev pub no_exit_by : Judged → (task : ℕ) → Option ℕ → Help
-no_exit_by s task None = in_words (codes "put !s, !st or !sn where it is to end")
-no_exit_by s task (Some i) = end_at s task i (target_at s task i)
-
-abbrev pub no_exit_help : Judged → (task : ℕ) → Help
-no_exit_help s task = no_exit_by s task (first_end s task)
-
 -- Targets that no exit takes.
-
-abbrev pub untaken : Judged → (task : ℕ) → List ℕ
-untaken s task = filter (λ j. not (is_taken s task j)) (targets_of s task)
 
 abbrev pub first_untaken : Judged → (task : ℕ) → ℕ
 first_untaken s task = unwrap_or (position (λ j. not (is_taken s task j)) (targets_of s task)) 0
-
--- the list of those that are taken
-abbrev pub fewer_help : Judged → (task : ℕ) → Help
-fewer_help s task =
-    let text = targets_text s (filter (is_taken s task) (entries_listed s task)) in
-    by_text (codes "is a stop missing? else write " ++ text) (targets_span s task) text
-
--- first the stop where the task goes on into one that is not taken
-abbrev pub not_taken_at : Judged → (task index : ℕ) → Option ℕ → Help
-not_taken_at s task i None = fewer_help s task
-not_taken_at s task i (Some other) = if is_taken s task (entry_of s other) then fewer_help s task else end_help s task i other
-
-abbrev pub not_taken_by : Judged → (task : ℕ) → Option ℕ → Help
-not_taken_by s task None = fewer_help s task
-not_taken_by s task (Some i) = not_taken_at s task i (target_at s task i)
-
-abbrev pub not_taken_help : Judged → (task : ℕ) → Help
-not_taken_help s task = not_taken_by s task (first_end s task)
 
 abbrev pub has_untaken : Judged → (task : ℕ) → Bool
 has_untaken s task = list_any (λ j. not (is_taken s task j)) (targets_of s task)

@@ -2,11 +2,10 @@
 //! delay slot, what a call returns to, and tasks that never run.
 #![tactic(auto)]
 
+pub mod advice;
 pub mod call;
-pub mod entering;
 pub mod exit;
 pub mod meant;
-pub mod meant_stop;
 pub mod needless;
 pub mod remark;
 pub mod returning;

@@ -1,5 +1,6 @@
 //! What could be better about a program's marks.
 
+use diagnostics::listed::Listed;
 use finding_paths::mark::CostlyMark;
 
 /// What may be forgotten: a way to a task, or a stop.
@@ -17,10 +18,13 @@ pub enum StopRemark {
 }
 
 /// What could be better about the marks of a program.
-#[derive(Clone, Copy, Debug, PartialEq, Eq)]
+#[derive(Debug, Drop)]
 pub enum Remark {
     /// A stop, or a way to a task, may be forgotten.
     Stop(StopRemark),
-    /// A mark that costs speed, or code that no task reaches.
-    Costly(CostlyMark),
+    /// A mark that costs speed, or code that no task reaches; and the registers of all marks that it stands for.
+    Costly {
+        mark: CostlyMark,
+        registers: Listed<u8>,
+    },
 }

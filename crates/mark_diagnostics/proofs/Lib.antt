@@ -1,4 +1,5 @@
 mod Counting
+mod Groups
 mod Numbers
 mod Ranges
 mod Telling

@@ -1,9 +1,6 @@
 pub mod Told
-pub mod Masks
-pub mod Releases
-pub mod Sending
 pub mod Errors
-pub mod Updates
 pub mod Together
+pub mod Fixes
 pub mod Warnings
 pub mod Examples

@@ -1,18 +1,15 @@
 //! What is wrong with a program's marks, as diagnostics.
 
-ghost use Rattle.std.specs.Prelude.{◌≡◌, ◌↔◌, true, map as each, slice_get, Ok, IfOk};
+ghost use Rattle.std.specs.Prelude.{◌≡◌, [], map as each, slice_get, Ok, IfOk};
 ghost use Rattle.std.specs.List.{All, AllZip};
 ghost use Rattle.annotated_asm.specs.ProgramText.{parse};
 ghost use Rattle.annotator.specs.Least.{IsLeast};
 ghost use Rattle.finding_paths.specs.Shown.{IsFinding, IsShown};
-ghost use Rattle.mark_checker.specs.declared.finding.Rule.TheVariants.{ExitNotListed};
-ghost use Rattle.exit_diagnostics.specs.Needless.{IsNeedless};
-ghost use Rattle.exit_diagnostics.specs.Exits.{place_note, beyond as beyond_of, wrong_target as wrong_target_of};
-ghost use Rattle.mark_subjects.specs.Subjects.{task_name, spot_text, place_text};
-ghost use Rattle.mark_diagnostics.specs.Errors.{code_of, span_by, early_text, beyond_text, indirect_text, target_text, mask_text, message_by, notes_by, help_by, first_path, whole_error, short_error, ends_first, short_step, error_diagnostic, Says, AreMarkErrors};
+ghost use Rattle.mark_subjects.specs.Parts.{paths};
+ghost use Rattle.mark_diagnostics.specs.Errors.{code_of, span_by, first_path, paths_by, ends_first, short_step, paths_told, IsError, Says, AreMarkErrors};
 
 use crate::mask::{mask_help, mask_notes, missing};
-use crate::sending::{early_notes, forward_help, later, release_help};
+use crate::sending::{early_help, early_notes};
 use crate::told::{about, first_told, is_first, register_in};
 use annotated_asm::laws::map_fits;
 use annotator::laws::least_decides;
@@ -75,81 +72,42 @@ fn span_of(subject: &Subject, finding: &Finding) -> Span
     }
 }
 
-/// The message about a mark that sends a register too early.
-fn early_words(subject: &Subject, finding: &Finding, sends: &str) -> Made<Words>
-    ensures { IfOk result (λ words. words ≡ early_text subject.now finding.now sends.now) }
-{
+/// What is wrong.
+fn message(subject: &Subject, finding: &Finding, about: &[Finding]) -> Made<Words> {
+    let alloc = subject.alloc();
     let task = subject.task(finding.task);
     let register = subject.register(register_in(finding.reg));
-    words!(in subject.alloc(); "task {task} {sends} {register} here and may write it again")
-}
-
-/// The message about a task that can go on to a place where there is no instruction.
-fn beyond_words(alloc: Global, task: &str, place: &str) -> Made<Words>
-    ensures { IfOk result (λ words. words ≡ beyond_text task.now place.now) }
-{
-    words!(in alloc; "task {task} can go on from here to {place}, where there is no instruction")
-}
-
-/// The message about an edge that leads to no instruction.
-fn beyond_message(subject: &Subject, finding: &Finding) -> Made<Words>
-    ensures { IfOk result (λ words. words ≡ beyond_text (task_name subject.now finding.now.task) (place_text subject.now (beyond_of subject.now finding.now.index))) }
-{
-    let place = place_words(subject, beyond(subject, finding.index))?;
-    beyond_words(subject.alloc(), subject.task(finding.task), place.as_str())
-}
-
-/// The message about an indirect jump that does not end the task.
-fn indirect_words(subject: &Subject, task: u32) -> Made<Words>
-    ensures { IfOk result (λ words. words ≡ indirect_text subject.now task) }
-{
-    let name = subject.task(task);
-    words!(in subject.alloc(); "this jump to an address in a register has to end task {name}")
-}
-
-/// The message about a target where no task begins.
-fn target_words(alloc: Global, task: &str, place: &str) -> Made<Words>
-    ensures { IfOk result (λ words. words ≡ target_text task.now place.now) }
-{
-    words!(in alloc; "task {task} lists the target {place}, where no task begins")
-}
-
-/// The message about a task's first target where no task begins.
-fn target_message(subject: &Subject, task: u32) -> Made<Words>
-    ensures { IfOk result (λ words. words ≡ target_text (task_name subject.now task) (spot_text subject.now (wrong_target_of subject.now task))) }
-{
-    let place = spot_words(subject, wrong_target(subject, task))?;
-    target_words(subject.alloc(), subject.task(task), place.as_str())
-}
-
-/// The message about a create mask that lacks registers.
-fn mask_words(subject: &Subject, task: u32, about: &[Finding]) -> Made<Words>
-    ensures { IfOk result (λ words. words ≡ mask_text subject.now task about.now) }
-{
-    let name = subject.task(task);
-    let missing = missing(subject.alloc(), about)?;
-    let list = registers_words(subject, &missing)?;
-    words!(in subject.alloc(); "the create mask of task {name} lacks {list}")
-}
-
-/// What is wrong.
-fn message(subject: &Subject, finding: &Finding, about: &[Finding]) -> Made<Words>
-    ensures { IfOk result (λ words. words ≡ message_by finding.now.rule subject.now finding.now about.now) }
-{
     match finding.rule {
-        Rule::ForwardedInNext => early_words(subject, finding, "forwards"),
-        Rule::ReleasedInNext => early_words(subject, finding, "releases"),
+        Rule::ForwardedInNext => {
+            words!(in alloc; "task {task} forwards {register} here and may write it again")
+        }
+        Rule::ReleasedInNext => {
+            words!(in alloc; "task {task} releases {register} here and may write it again")
+        }
         Rule::ExitNotListed => exit_message(subject, finding),
-        Rule::FallsOff => beyond_message(subject, finding),
-        Rule::IndirectGoesOn => indirect_words(subject, finding.task),
-        Rule::TargetNotEntry => target_message(subject, finding.task),
-        _ => mask_words(subject, finding.task, about),
+        Rule::FallsOff => {
+            let place = place_words(subject, beyond(subject, finding.index))?;
+            words!(in alloc; "task {task} can go on from here to {place}, where there is no instruction")
+        }
+        Rule::IndirectGoesOn => {
+            words!(in alloc; "this jump to an address in a register has to end task {task}")
+        }
+        Rule::TargetNotEntry => {
+            let place = spot_words(subject, wrong_target(subject, finding.task))?;
+            words!(in alloc; "task {task} lists the target {place}, where no task begins")
+        }
+        _ => {
+            let missing = missing(alloc, about)?;
+            let list = registers_words(subject, &missing)?;
+            words!(in alloc; "the create mask of task {task} lacks {list}")
+        }
     }
 }
 
 /// The note on the target where no task begins.
+#[tactic(auto, using(mark_subjects::proofs::Paths::none_yet))]
 fn target_notes(subject: &Subject, task: u32) -> Made<Vec<Note>>
-    ensures { IfOk result (λ notes. notes.items ≡ place_note subject.now (wrong_target_of subject.now task)) }
+    ensures { IfOk result (λ notes. paths notes.items ≡ []) }
 {
     let mut notes = Vec::new(subject.alloc());
     add_place_note(subject, &mut notes, wrong_target(subject, task))?;
@@ -164,7 +122,7 @@ fn notes_of(
     about: &[Finding],
     shown: &[ShownFinding],
 ) -> Made<Vec<Note>>
-    ensures { IfOk result (λ notes. notes.items ≡ notes_by finding.now.rule subject.now finding.now path.now about.now shown.now) }
+    ensures { IfOk result (λ notes. paths notes.items ≡ paths_by finding.now.rule subject.now finding.now path.now shown.now) }
 {
     match finding.rule {
         Rule::ForwardedInNext | Rule::ReleasedInNext => early_notes(subject, finding, path),
@@ -176,19 +134,13 @@ fn notes_of(
 }
 
 /// What to do about it; the stop there may be needless.
-fn help(
-    subject: &Subject,
-    finding: &Finding,
-    needless: bool,
-    path: &[u32],
-    about: &[Finding],
-) -> Made<Help>
-    ensures { IfOk result (λ help. help ≡ help_by finding.now.rule subject.now finding.now needless path.now about.now) }
-{
+fn help(subject: &Subject, finding: &Finding, path: &[u32], about: &[Finding]) -> Made<Help> {
     match finding.rule {
-        Rule::ForwardedInNext => { forward_help(subject, finding, later(subject, finding, path)?) }
-        Rule::ReleasedInNext => { release_help(subject, finding, later(subject, finding, path)?) }
-        Rule::ExitNotListed => exit_help(subject, finding, needless),
+        Rule::ForwardedInNext | Rule::ReleasedInNext => early_help(subject, finding, path),
+        Rule::ExitNotListed => {
+            let needless = is_needless(subject, finding.task, finding.index)?;
+            exit_help(subject, finding, needless)
+        }
         Rule::FallsOff => beyond_help(subject, finding.index),
         Rule::IndirectGoesOn => return_help(subject, finding.task, finding.index, path),
         Rule::TargetNotEntry => target_help(subject, finding.task),
@@ -206,57 +158,20 @@ fn first_path(shown: &[ShownFinding]) -> &[u32]
     }
 }
 
-/// What is said of a finding, with what is told with it: whole.
-#[tactic(auto, unfolding(crate::specs::Errors::whole_error))]
-fn whole_error(
+/// What shows a finding that is told whole: first a stop that may be forgotten on its path.
+#[tactic(auto, using(mark_subjects::proofs::Paths::none_before))]
+fn whole_notes(
     subject: &Subject,
     finding: &Finding,
-    needless: bool,
     about: &[Finding],
     shown: &[ShownFinding],
-) -> Made<Diagnostic>
-    ensures { IfOk result (λ said. said ≡ whole_error subject.now finding.now needless about.now shown.now) }
+) -> Made<Vec<Note>>
+    ensures { IfOk result (λ notes. paths notes.items ≡ paths_by finding.now.rule subject.now finding.now (first_path (slice_get shown.now 0)) shown.now) }
 {
-    let path = first_path(shown);
-    let step = first_entered(subject, shown);
-    let message = message(subject, finding, about)?;
-    let mut notes = stop_note(subject, finding.task, step)?;
-    let mut shown_notes = notes_of(subject, finding, path, about, shown)?;
-    notes.append(&mut shown_notes)?;
-    let help = help(subject, finding, needless, path, about)?;
-    let help = stop_or(subject, finding.task, step, help)?;
-    Ok(Diagnostic {
-        severity: Severity::Error,
-        code: code_of(finding.rule),
-        source: Source::Program,
-        span: Some(span_of(subject, finding)),
-        message,
-        notes: Listed::new(notes),
-        help: Some(help),
-    })
-}
-
-/// What is said of a finding in short, and to put a stop at this step of its path.
-#[tactic(auto, unfolding(crate::specs::Errors::short_error))]
-fn short_error(
-    subject: &Subject,
-    finding: &Finding,
-    about: &[Finding],
-    step: (u32, u32),
-) -> Made<Diagnostic>
-    ensures { IfOk result (λ said. said ≡ short_error subject.now finding.now about.now step) }
-{
-    let message = message(subject, finding, about)?;
-    let help = end_help(subject, finding.task, step.0, step.1)?;
-    Ok(Diagnostic {
-        severity: Severity::Error,
-        code: code_of(finding.rule),
-        source: Source::Program,
-        span: Some(span_of(subject, finding)),
-        message,
-        notes: Listed::new(Vec::new(subject.alloc())),
-        help: Some(help),
-    })
+    let mut notes = stop_note(subject, finding.task, first_entered(subject, shown))?;
+    let mut more = notes_of(subject, finding, first_path(shown), about, shown)?;
+    notes.append(&mut more)?;
+    Ok(notes)
 }
 
 /// A step into a task, if a stop there is the first thing to do, and another finding of the task is told before this one.
@@ -289,21 +204,60 @@ fn short_step(
     }
 }
 
+/// What shows a finding; nothing where it is told in short, with this step of its path.
+#[tactic(auto, using(mark_subjects::proofs::Paths::none_yet))]
+fn told_notes(
+    subject: &Subject,
+    finding: &Finding,
+    about: &[Finding],
+    shown: &[ShownFinding],
+    short: Option<(u32, u32)>,
+) -> Made<Vec<Note>>
+    ensures { IfOk result (λ notes. paths notes.items ≡ paths_told subject.now finding.now shown.now short) }
+{
+    match short {
+        Some(_) => Ok(Vec::new(subject.alloc())),
+        None => whole_notes(subject, finding, about, shown),
+    }
+}
+
+/// What to do about a finding; where it is told in short, to put a stop on this step of its path.
+fn told_help(
+    subject: &Subject,
+    finding: &Finding,
+    about: &[Finding],
+    shown: &[ShownFinding],
+    short: Option<(u32, u32)>,
+) -> Made<Help> {
+    if let Some(step) = short {
+        return end_help(subject, finding.task, step.0, step.1);
+    }
+    let help = help(subject, finding, first_path(shown), about)?;
+    stop_or(subject, finding.task, first_entered(subject, shown), help)
+}
+
 /// What is said of a finding, with what is told with it.
 fn error_diagnostic(
     subject: &Subject,
     finding: &Finding,
-    needless: bool,
     about: &[Finding],
     shown: &[ShownFinding],
 ) -> Made<Diagnostic>
-    ensures { IfOk result (λ said. said ≡ error_diagnostic subject.now finding.now needless about.now shown.now) }
+    ensures { IfOk result (λ said. IsError subject.now finding.now shown.now said) }
 {
-    let entered = first_entered(subject, shown);
-    match short_step(subject, finding, entered)? {
-        Some(step) => short_error(subject, finding, about, step),
-        None => whole_error(subject, finding, needless, about, shown),
-    }
+    let message = message(subject, finding, about)?;
+    let short = short_step(subject, finding, first_entered(subject, shown))?;
+    let notes = told_notes(subject, finding, about, shown, short)?;
+    let help = told_help(subject, finding, about, shown, short)?;
+    Ok(Diagnostic {
+        severity: Severity::Error,
+        code: code_of(finding.rule),
+        source: Source::Program,
+        span: Some(span_of(subject, finding)),
+        message,
+        notes: Listed::new(notes),
+        help: Some(help),
+    })
 }
 
 /// Findings with the paths that show them.
@@ -323,16 +277,6 @@ fn shown_of(alloc: Global, program: &Program, findings: &[Finding]) -> Made<Vec<
     Ok(list)
 }
 
-/// Of an exit that is no target, whether the stop there is needless.
-fn has_needless_stop(subject: &Subject, finding: &Finding) -> Made<bool>
-    ensures { IfOk result (λ needless. finding.now.rule ≡ ExitNotListed → ((needless ≡ true) ↔ IsNeedless subject.now finding.now.task finding.now.index)) }
-{
-    match finding.rule {
-        Rule::ExitNotListed => is_needless(subject, finding.task, finding.index),
-        _ => Ok(false),
-    }
-}
-
 /// The diagnostic for a finding that is reported.
 fn told_diagnostic(subject: &Subject, finding: &Finding) -> Made<Diagnostic>
     requires least { IsLeast subject.now.program subject.now.least }
@@ -342,8 +286,7 @@ fn told_diagnostic(subject: &Subject, finding: &Finding) -> Made<Diagnostic>
     let about = about(subject, finding)?;
     let first = first_of(&about, 5);
     let shown = shown_of(subject.alloc(), subject.program(), first)?;
-    let needless = has_needless_stop(subject, finding)?;
-    let said = error_diagnostic(subject, finding, needless, &about, &shown)?;
+    let said = error_diagnostic(subject, finding, &about, &shown)?;
     Ok(said)
 }
 

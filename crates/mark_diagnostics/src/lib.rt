@@ -3,11 +3,9 @@
 #![tactic(auto)]
 
 pub mod error;
-mod later;
 mod mask;
 mod release;
 mod sending;
 mod together;
 mod told;
-mod update;
 pub mod warning;

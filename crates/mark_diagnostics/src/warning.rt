@@ -1,57 +1,164 @@
 //! What could be better about a program's marks, as diagnostics.
 
-ghost use Rattle.std.specs.Prelude.{◌≡◌, ◌<◌, ◌&&◌, ◌++◌, map as each, not, slice_get, Ok, IfOk, OnOk};
-ghost use Rattle.std.specs.List.{list_any};
+ghost use Rattle.std.specs.Prelude.{◌≡◌, ◌<◌, ◌++◌, ◌&&◌, ◌==◌, not, slice_get, map as each, Ok, IfOk, OnOk};
+ghost use Rattle.std.specs.List.{AllZip, list_any};
+ghost use Rattle.mark_diagnostics.specs.Fixes.{created_in, produced, still_released};
 ghost use Rattle.annotated_asm.specs.ProgramText.{parse};
 ghost use Rattle.annotator.specs.Least.{IsLeast};
+ghost use Rattle.exit_diagnostics.specs.Remarks.{of_step, of_targets, of_start, of_task, stop_remarks};
 ghost use Rattle.mark_subjects.specs.Subjects.{targets_of, releases};
-ghost use Rattle.exit_diagnostics.specs.Remarks.{of_targets, of_start, of_step, of_task, stop_remarks};
-ghost use Rattle.mark_diagnostics.specs.Warnings.{code_of, span_of, never_text, was, sent_text, before_text, costly_text, goes_into_text, never_runs_text, not_taken_text, stop_text, message_of, is_never, created_in, produced, not_produced, is_before, still_released, sent_before, before_help, coming_text, called_text, after_call_text, stretch_text, removal, onward_text, slot_or_else, slot_unreached_text, unreached_text, help_of, warning, warnings, AreMarkWarnings};
+ghost use Rattle.mark_diagnostics.specs.Together.{told_marks};
+ghost use Rattle.mark_diagnostics.specs.Warnings.{code_of, code_of_mark, span_of, span_of_mark, Warns, AreMarkWarnings};
 
 use crate::error::MOST_SHOWN;
-use crate::mask::create_help;
-use crate::release::{in_place, names_no_index, release_words, release_written};
-use crate::together::told_marks;
-use crate::update::{update_help, update_words};
+use crate::mask::is_among;
+use crate::release::{release_words, release_written};
+use crate::sending::writes;
+use crate::together::add_marks;
 use diagnostics::code::Code;
 use diagnostics::diagnostic::{Diagnostic, Help, Severity, Source, Span};
 use diagnostics::listed::Listed;
 use diagnostics::words;
 use diagnostics::words::Words;
+use exit_diagnostics::advice::{Names, Row};
 use exit_diagnostics::call::back;
+use exit_diagnostics::exit::is_taken;
 use exit_diagnostics::remark::{Remark, StopRemark};
-use exit_diagnostics::returning::{coming_back, never_runs_help};
-use exit_diagnostics::slot::{is_slot, slot_words};
+use exit_diagnostics::returning::{coming_back, returning, step_into};
+use exit_diagnostics::slot::is_slot;
 use exit_diagnostics::stop::{
-    first_end, first_untaken, has_exit, has_indirect_exit, has_untaken, never_runs, no_exit_help,
-    not_taken_help, target_at, untaken,
+    entry_of, first_end, first_untaken, has_exit, has_indirect_exit, has_untaken, never_runs,
+    target_at,
 };
 use finding_paths::mark::CostlyMark;
 use finding_paths::search::costly_marks;
 use mark_subjects::parts::{
-    add_more, first_of, in_words, place_words, places_words, registers_where, registers_words,
+    add_more, first_of, place_words, places_words, registers_where, registers_words,
 };
-use mark_subjects::put_stop::missing_stop;
-use mark_subjects::step::end_help;
+use mark_subjects::put_stop::{bit_put, missing_stop};
+use mark_subjects::step::{end_help, stop_name};
 use mark_subjects::subject::{Made, Subject, has_number, is_end};
+use mark_subjects::targets::entries_listed;
 use mask_certificate::certificate::Cert;
 use std::alloc::{AllocError, Global};
 use task_descriptor::program::Program;
 
-/// The code of a remark.
+const NEVER_PRODUCED: Row = Row {
+    says: "the create mask of task {task} has {registers}, which no instruction of the task writes or releases",
+    help: "write {fix}",
+    fix: "create={kept}",
+};
+
+const NOT_FORWARDED: Row = Row {
+    says: "this is a last update without !f: later tasks wait for what it writes",
+    help: "add !f here",
+    fix: "",
+};
+
+const SENT_BY_NEXT: Row = Row {
+    says: "this is a last update without !f: {registers} is sent only by the release on line {line}",
+    help: "add !f here, and take {registers} out of the release on line {line}, if no other way leads to it",
+    fix: "",
+};
+
+const SENT_BEFORE: Row = Row {
+    says: "{registers} {was} sent before on each path to this release",
+    help: "write {kept}",
+    fix: "",
+};
+
+const ALL_SENT_BEFORE: Row = Row {
+    help: "remove it",
+    ..SENT_BEFORE
+};
+
+const UNREACHED: Row = Row {
+    says: "no task reaches the code from here on",
+    help: "{rest}",
+    fix: "",
+};
+
+const SLOT_UNREACHED: Row = Row {
+    help: "is it a delay slot? there are none here: move it before line {line}; else {rest}",
+    ..UNREACHED
+};
+
+const AFTER_CALL: &str =
+    "let a task begin here, as a target of {coming}: the call on line {line} may come back to it";
+
+const ONWARD: &str = "let a task go on to it";
+
+const ONWARD_OR_OUT: &str = "let a task go on to it, or remove it";
+
+const ONWARD_OR_ALL_OUT: &str =
+    "let a task go on to it; or remove it, up to the next instruction that a task reaches, if no label there is used";
+
+const NEVER_RUNS: Row = Row {
+    says: "task {task} never runs: no other task has it as a target, and the program starts at {start}",
+    help: "write .start {task}, in place of another .start, or make it a target of another task",
+    fix: "",
+};
+
+const LISTS_NONE: Row = Row {
+    help: "task {returns} leaves through jr, but lists no target: write {fix}, where the call on line {line} returns; or write .start {task}, in place of another .start, or make it a target of another task",
+    fix: "targets={targets}",
+    ..NEVER_RUNS
+};
+
+const LISTS_OTHERS: Row = Row {
+    help: "task {returns} leaves through jr, but does not list {task}: write {fix}, where the call on line {line} returns; or write .start {task}, in place of another .start, or make it a target of another task",
+    ..LISTS_NONE
+};
+
+const NO_EXIT: Row = Row {
+    says: "task {task} has targets, but never reaches a stop",
+    help: "put !s, !st or !sn where it is to end",
+    fix: "",
+};
+
+const NOT_TAKEN: Row = Row {
+    says: "no exit of task {task} leads to {places}, so predicting {places} is always wrong",
+    help: "is a stop missing? else write {fix}",
+    fix: "targets={targets}",
+};
+
+const GOES_INTO: &str =
+    "task {task} goes on into task {into} without a stop; was {word} meant here?";
+
+/// What a mark is an instance of.
+fn code_of_mark(mark: &CostlyMark) -> Code
+    ensures { result ≡ code_of_mark mark.now }
+{
+    match mark {
+        CostlyMark::NeverProduced { .. } => Code::NeverProduced,
+        CostlyMark::NotForwarded { .. } => Code::NotForwarded,
+        CostlyMark::SentBefore { .. } => Code::SentBefore,
+        CostlyMark::Unreached { .. } => Code::Unreached,
+    }
+}
+
+/// What a remark is an instance of.
 fn code_of(remark: &Remark) -> Code
     ensures { result ≡ code_of remark.now }
 {
     match remark {
-        Remark::Costly(CostlyMark::NeverProduced { .. }) => Code::NeverProduced,
-        Remark::Costly(CostlyMark::NotForwarded { .. }) => Code::NotForwarded,
-        Remark::Costly(CostlyMark::SentBefore { .. }) => Code::SentBefore,
-        Remark::Costly(CostlyMark::Unreached { .. }) | Remark::Stop(StopRemark::NeverRuns(_)) => {
-            Code::Unreached
-        },
+        Remark::Costly { mark, .. } => code_of_mark(mark),
+        Remark::Stop(StopRemark::NeverRuns(_)) => Code::Unreached,
         Remark::Stop(StopRemark::NoExit(_)) => Code::NoExit,
         Remark::Stop(StopRemark::NotTaken(_)) => Code::TargetNotTaken,
         Remark::Stop(StopRemark::GoesInto { .. }) => Code::GoesIntoTask,
+    }
+}
+
+/// Where a mark is.
+fn span_of_mark(subject: &Subject, mark: &CostlyMark) -> Span
+    ensures { result ≡ span_of_mark subject.now mark.now }
+{
+    match mark {
+        CostlyMark::NeverProduced { task, .. } => subject.create_span(*task),
+        CostlyMark::NotForwarded { index }
+        | CostlyMark::SentBefore { index, .. }
+        | CostlyMark::Unreached { index } => subject.span(*index),
     }
 }
 
@@ -60,39 +167,14 @@ fn span_of(subject: &Subject, remark: &Remark) -> Span
     ensures { result ≡ span_of subject.now remark.now }
 {
     match remark {
-        Remark::Costly(CostlyMark::NeverProduced { task, .. }) => subject.create_span(*task),
-        Remark::Costly(
-            CostlyMark::NotForwarded { index }
-            | CostlyMark::SentBefore { index, .. }
-            | CostlyMark::Unreached { index },
-        )
-        | Remark::Stop(StopRemark::GoesInto { index, .. }) => subject.span(*index),
+        Remark::Costly { mark, .. } => span_of_mark(subject, mark),
+        Remark::Stop(StopRemark::GoesInto { index, .. }) => subject.span(*index),
         Remark::Stop(StopRemark::NeverRuns(task)) => subject.task_span(*task),
         Remark::Stop(StopRemark::NoExit(task)) => subject.targets_span(*task),
         Remark::Stop(StopRemark::NotTaken(task)) => {
             subject.target_span(*task, first_untaken(subject, *task))
         },
     }
-}
-
-/// Whether a mark says that a task never produces a register.
-fn is_never(task: u32, number: u8, mark: &CostlyMark) -> bool
-    ensures { result ≡ is_never task number mark.now }
-{
-    match mark {
-        CostlyMark::NeverProduced {
-            task: other,
-            register,
-        } => { *other == task && register.get() == number }
-        _ => false,
-    }
-}
-
-/// Whether a list says that a task never produces a register.
-fn is_listed_never(list: &[CostlyMark], task: u32, number: u8) -> bool
-    ensures { result ≡ list_any (is_never task number) list.now }
-{
-    list.iter().any(|mark| is_never(task, number, mark))
 }
 
 /// Whether the create mask of a task has a register.
@@ -106,345 +188,237 @@ fn is_created(subject: &Subject, task: u32, number: u8) -> bool
     }
 }
 
-/// Whether the create mask of a task has a register, and no mark of a list says that it is never produced.
-fn is_produced(subject: &Subject, list: &[CostlyMark], task: u32, number: u8) -> bool
+/// Whether the create mask of a task has a register that is not among some.
+fn is_produced(subject: &Subject, task: u32, gone: &[u8], number: u8) -> bool
     requires { number < 34 }
-    ensures { result ≡ (created_in (slice_get subject.now.program.tasks task) number && not (list_any (is_never task number) list.now)) }
+    ensures { result ≡ (created_in (slice_get subject.now.program.tasks task) number && not (list_any (λ q. q == number) gone.now)) }
 {
-    is_created(subject, task, number) && !is_listed_never(list, task, number)
+    is_created(subject, task, number) && !is_among(gone, number)
 }
 
-/// The create mask of a task without all registers that a list says are never produced.
-fn produced(subject: &Subject, list: &[CostlyMark], task: u32) -> Made<Vec<u8>>
-    ensures { IfOk result (λ registers. registers.items ≡ produced subject.now list.now task) }
+/// The create mask of a task without some registers.
+fn produced(subject: &Subject, task: u32, gone: &[u8]) -> Made<Vec<u8>>
+    ensures { IfOk result (λ list. list.items ≡ produced subject.now task gone.now) }
 {
     registers_where(
         subject.alloc(),
-        |number| is_produced(subject, list, task, number),
+        |number| is_produced(subject, task, gone, number),
     )
 }
 
-/// Whether the create mask of a task has a register, and a mark of a list says that it is never produced.
-fn is_not_produced(subject: &Subject, list: &[CostlyMark], task: u32, number: u8) -> bool
-    requires { number < 34 }
-    ensures { result ≡ (created_in (slice_get subject.now.program.tasks task) number && list_any (is_never task number) list.now) }
-{
-    is_created(subject, task, number) && is_listed_never(list, task, number)
+/// What is said of these registers of a create mask, which are never produced.
+fn mask_advice(subject: &Subject, task: u32, gone: &[u8]) -> Made<(Words, Help)> {
+    let kept = produced(subject, task, gone)?;
+    let mut names = Names::of_task(subject, task)?;
+    names.put("registers", registers_words(subject, gone)?)?;
+    names.put("kept", registers_words(subject, &kept)?)?;
+    names.fixed(NEVER_PRODUCED, subject.create_span(task))
 }
 
-/// The registers of the create mask of a task that a list says are never produced.
-fn not_produced(subject: &Subject, list: &[CostlyMark], task: u32) -> Made<Vec<u8>>
-    ensures { IfOk result (λ registers. registers.items ≡ not_produced subject.now list.now task) }
+/// What is said of a last update without a forward bit.
+fn update_advice(subject: &Subject, index: u32) -> Made<(Words, Help)> {
+    let alloc = subject.alloc();
+    let mut names = Names::new(alloc);
+    let mut changes = Vec::new(alloc);
+    changes.push(bit_put(subject, index)?)?;
+    let Some(next) = subject.inner(index, false) else {
+        return names.said(NOT_FORWARDED, changes);
+    };
+    let kept = registers_where(alloc, |register| {
+        writes(subject, index, register) && !subject.releases(next, register)
+    })?;
+    let [] = kept.as_slice() else {
+        return names.said(NOT_FORWARDED, changes);
+    };
+    let written = registers_where(alloc, |register| writes(subject, index, register))?;
+    names.put("registers", registers_words(subject, &written)?)?;
+    names.line("line", subject, next)?;
+    names.said(SENT_BY_NEXT, changes)
+}
+
+/// Whether an instruction releases a register that is not among some.
+fn is_still_released(subject: &Subject, index: u32, gone: &[u8], number: u8) -> bool
+    requires { number < 34 }
+    ensures { result ≡ (releases subject.now index number && not (list_any (λ q. q == number) gone.now)) }
+{
+    subject.releases(index, number) && !is_among(gone, number)
+}
+
+/// The registers of a release without some.
+fn still_released(subject: &Subject, index: u32, gone: &[u8]) -> Made<Vec<u8>>
+    ensures { IfOk result (λ list. list.items ≡ still_released subject.now index gone.now) }
 {
     registers_where(
         subject.alloc(),
-        |number| is_not_produced(subject, list, task, number),
+        |number| is_still_released(subject, index, gone, number),
     )
 }
 
-/// Whether a mark says that a register was sent before a release.
-fn is_before(index: u32, number: u8, mark: &CostlyMark) -> bool
-    ensures { result ≡ is_before index number mark.now }
-{
-    match mark {
-        CostlyMark::SentBefore {
-            index: other,
-            register,
-        } => { *other == index && register.get() == number }
-        _ => false,
-    }
-}
-
-/// Whether a list says that a register was sent before a release.
-fn is_listed_before(list: &[CostlyMark], index: u32, number: u8) -> bool
-    ensures { result ≡ list_any (is_before index number) list.now }
-{
-    list.iter().any(|mark| is_before(index, number, mark))
-}
-
-/// Whether an instruction releases a register, and no mark of a list says that it was sent before.
-fn is_still_released(subject: &Subject, list: &[CostlyMark], index: u32, number: u8) -> bool
-    requires { number < 34 }
-    ensures { result ≡ (releases subject.now index number && not (list_any (is_before index number) list.now)) }
-{
-    subject.releases(index, number) && !is_listed_before(list, index, number)
-}
-
-/// A release without all registers that a list says were sent before.
-fn still_released(subject: &Subject, list: &[CostlyMark], index: u32) -> Made<Vec<u8>>
-    ensures { IfOk result (λ registers. registers.items ≡ still_released subject.now list.now index) }
-{
-    registers_where(
-        subject.alloc(),
-        |number| is_still_released(subject, list, index, number),
-    )
-}
-
-/// Whether an instruction releases a register, and a mark of a list says that it was sent before.
-fn is_sent_before(subject: &Subject, list: &[CostlyMark], index: u32, number: u8) -> bool
-    requires { number < 34 }
-    ensures { result ≡ (releases subject.now index number && list_any (is_before index number) list.now) }
-{
-    subject.releases(index, number) && is_listed_before(list, index, number)
-}
-
-/// The registers of a release that a list says were sent before.
-fn sent_before(subject: &Subject, list: &[CostlyMark], index: u32) -> Made<Vec<u8>>
-    ensures { IfOk result (λ registers. registers.items ≡ sent_before subject.now list.now index) }
-{
-    registers_where(
-        subject.alloc(),
-        |number| is_sent_before(subject, list, index, number),
-    )
-}
-
-/// The message about registers that a task never produces.
-fn never_words(alloc: Global, task: &str, registers: &str) -> Made<Words>
-    ensures { IfOk result (λ words. words ≡ never_text task.now registers.now) }
-{
-    words!(in alloc; "the create mask of task {task} has {registers}, which no instruction of the task writes or releases")
-}
-
-/// The verb of one register, or of several.
-fn was(registers: &[u8]) -> &'static str
-    ensures { result.now ≡ was registers.now }
-{
-    if registers.len() == 1 {
-        " was"
+/// What is said of these registers of a release, which were sent before it.
+fn release_advice(subject: &Subject, index: u32, gone: &[u8]) -> Made<(Words, Help)> {
+    let alloc = subject.alloc();
+    let kept = still_released(subject, index, gone)?;
+    let kept = release_words(subject, index, &kept)?;
+    let mut changes = Vec::new(alloc);
+    changes.push(release_written(subject, index, kept.as_str())?)?;
+    let row = if kept.as_str().is_empty() {
+        ALL_SENT_BEFORE
     } else {
-        " were"
-    }
+        SENT_BEFORE
+    };
+    let mut names = Names::new(alloc);
+    names.put("registers", registers_words(subject, gone)?)?;
+    names.add("was", if gone.len() == 1 { "was" } else { "were" })?;
+    names.put("kept", kept)?;
+    names.said(row, changes)
 }
 
-/// The message about registers that were sent before, with this verb.
-fn sent_words(alloc: Global, registers: &str, was: &str) -> Made<Words>
-    ensures { IfOk result (λ words. words ≡ sent_text registers.now was.now) }
-{
-    words!(in alloc; "{registers}{was} sent before on each path to this release")
-}
-
-/// The message about registers that were sent before.
-fn before_words(subject: &Subject, registers: &[u8]) -> Made<Words>
-    ensures { IfOk result (λ words. words ≡ before_text subject.now registers.now) }
-{
-    let list = registers_words(subject, registers)?;
-    sent_words(subject.alloc(), list.as_str(), was(registers))
-}
-
-/// What could be better about a mark, and about those that are reported together with it.
-fn costly_words(subject: &Subject, list: &[CostlyMark], mark: &CostlyMark) -> Made<Words>
-    ensures { IfOk result (λ words. words ≡ costly_text subject.now list.now mark.now) }
-{
+/// What is said of code that no task reaches: a call before it may come back to it, and one instruction may be meant as
+/// a delay slot. What would be removed may be counted by a place that is given as @n.
+fn unreached_advice(subject: &Subject, index: u32) -> Made<(Words, Help)> {
     let alloc = subject.alloc();
+    let mut names = Names::new(alloc);
+    let before = index.saturating_sub(1);
+    let is_alone = is_slot(subject, index);
+    names.line("line", subject, before)?;
+    let rest = if is_end(back(subject, before), index) {
+        let coming = match coming_back(subject, before) {
+            Some(task) => {
+                let name = subject.task(task);
+                words!(in alloc; "task {name}")?
+            }
+            None => Words::of(alloc, "the task that comes back")?,
+        };
+        names.put("coming", coming)?;
+        AFTER_CALL
+    } else if !subject.names_no_index() {
+        ONWARD
+    } else if is_alone {
+        ONWARD_OR_OUT
+    } else {
+        ONWARD_OR_ALL_OUT
+    };
+    let rest = names.filled(rest)?;
+    names.put("rest", rest)?;
+    let row = if is_alone { SLOT_UNREACHED } else { UNREACHED };
+    names.said(row, Vec::new(alloc))
+}
+
+/// What is said of a task that never runs: first of one that goes on into it without a stop, or returns to it.
+fn never_running(subject: &Subject, task: u32) -> Made<(Words, Help)> {
+    let alloc = subject.alloc();
+    let mut names = Names::of_task(subject, task)?;
+    names.put(
+        "start",
+        place_words(subject, subject.program().start().get())?,
+    )?;
+    if let Some((other, index)) = step_into(subject, task)? {
+        return Ok((
+            names.filled(NEVER_RUNS.says)?,
+            end_help(subject, other, index, task)?,
+        ));
+    }
+    let entry = entry_of(subject, task);
+    let Some(returns) = returning(subject, entry) else {
+        return names.said(NEVER_RUNS, Vec::new(alloc));
+    };
+    let mut targets = entries_listed(subject, returns)?;
+    targets.push(entry)?;
+    names.add("returns", subject.task(returns))?;
+    names.line("line", subject, entry.saturating_sub(1))?;
+    names.put("targets", places_words(subject, &targets)?)?;
+    let row = if subject.targets(returns).is_empty() {
+        LISTS_NONE
+    } else {
+        LISTS_OTHERS
+    };
+    names.fixed(row, subject.targets_span(returns))
+}
+
+/// Where a task goes on into a target, and may end before it: the first instruction that does so, and the target.
+fn step_out(subject: &Subject, task: u32) -> Option<(u32, u32)> {
+    let index = first_end(subject, task)?;
+    Some((index, target_at(subject, task, index)?))
+}
+
+/// What is said of targets that no exit takes: first of a stop before one of them.
+fn targets_advice(subject: &Subject, task: u32) -> Made<(Words, Help)> {
+    let alloc = subject.alloc();
+    let is_untaken = |place: u32| !is_taken(subject, task, place);
+    let places = subject.targets(task).iter().map(|target| target.get());
+    let untaken: Vec<u32> = places.filter(|place| is_untaken(*place)).collect(alloc)?;
+    let mut names = Names::of_task(subject, task)?;
+    names.put("places", places_words(subject, &untaken)?)?;
+    if let Some((index, into)) = step_out(subject, task) {
+        if is_untaken(entry_of(subject, into)) {
+            return Ok((
+                names.filled(NOT_TAKEN.says)?,
+                end_help(subject, task, index, into)?,
+            ));
+        }
+    }
+    let listed = entries_listed(subject, task)?;
+    let taken: Vec<u32> = listed
+        .iter()
+        .copied()
+        .filter(|place| !is_untaken(*place))
+        .collect(alloc)?;
+    names.put("targets", places_words(subject, &taken)?)?;
+    names.fixed(NOT_TAKEN, subject.targets_span(task))
+}
+
+/// What is said of a mark that costs speed, with the registers of all that it stands for, and what to do.
+fn mark_advice(subject: &Subject, mark: &CostlyMark, registers: &[u8]) -> Made<(Words, Help)> {
     match mark {
-        CostlyMark::NeverProduced { task, .. } => {
-            let registers = not_produced(subject, list, *task)?;
-            let registers = registers_words(subject, &registers)?;
-            never_words(alloc, subject.task(*task), registers.as_str())
-        }
-        CostlyMark::NotForwarded { index } => update_words(subject, *index),
-        CostlyMark::SentBefore { index, .. } => {
-            let registers = sent_before(subject, list, *index)?;
-            before_words(subject, &registers)
-        }
-        CostlyMark::Unreached { .. } => Words::of(alloc, "no task reaches the code from here on"),
+        CostlyMark::NeverProduced { task, .. } => mask_advice(subject, *task, registers),
+        CostlyMark::NotForwarded { index } => update_advice(subject, *index),
+        CostlyMark::SentBefore { index, .. } => release_advice(subject, *index, registers),
+        CostlyMark::Unreached { index } => unreached_advice(subject, *index),
     }
 }
 
-/// The message about a step into a target.
-fn goes_into_words(alloc: Global, task: &str, into: &str, word: &str) -> Made<Words>
-    ensures { IfOk result (λ words. words ≡ goes_into_text task.now into.now word.now) }
-{
-    words!(in alloc; "task {task} goes on into task {into} without a stop; was {word} meant here?")
-}
-
-/// The message about a task that never runs.
-fn never_runs_words(alloc: Global, task: &str, start: &str) -> Made<Words>
-    ensures { IfOk result (λ words. words ≡ never_runs_text task.now start.now) }
-{
-    words!(in alloc; "task {task} never runs: no other task has it as a target, and the program starts at {start}")
-}
-
-/// The message about targets that no exit takes.
-fn not_taken_words(alloc: Global, task: &str, places: &str) -> Made<Words>
-    ensures { IfOk result (λ words. words ≡ not_taken_text task.now places.now) }
-{
-    words!(in alloc; "no exit of task {task} leads to {places}, so predicting {places} is always wrong")
-}
-
-/// What may be forgotten.
-fn stop_words(subject: &Subject, remark: &StopRemark) -> Made<Words>
-    ensures { IfOk result (λ words. words ≡ stop_text subject.now remark.now) }
-{
-    let alloc = subject.alloc();
+/// What is said of a stop, or a way to a task, that may be forgotten, and what to do.
+fn stop_advice(subject: &Subject, remark: &StopRemark) -> Made<(Words, Help)> {
     match remark {
-        StopRemark::NeverRuns(task) => {
-            let start = place_words(subject, subject.program().start().get())?;
-            never_runs_words(alloc, subject.task(*task), start.as_str())
-        }
+        StopRemark::NeverRuns(task) => never_running(subject, *task),
+        StopRemark::NotTaken(task) => targets_advice(subject, *task),
         StopRemark::NoExit(task) => {
-            let name = subject.task(*task);
-            words!(in alloc; "task {name} has targets, but never reaches a stop")
-        }
-        StopRemark::NotTaken(task) => {
-            let name = subject.task(*task);
-            let untaken = untaken(subject, *task)?;
-            let list = places_words(subject, &untaken)?;
-            not_taken_words(alloc, name, list.as_str())
+            let names = Names::of_task(subject, *task)?;
+            match step_out(subject, *task) {
+                Some((index, into)) => {
+                    Ok((
+                        names.filled(NO_EXIT.says)?,
+                        end_help(subject, *task, index, into)?,
+                    ))
+                }
+                None => names.said(NO_EXIT, Vec::new(subject.alloc())),
+            }
         }
         StopRemark::GoesInto { task, index, into } => {
-            let word = missing_stop(subject, *index);
-            goes_into_words(alloc, subject.task(*task), subject.task(*into), word)
+            let mut names = Names::of_task(subject, *task)?;
+            names.add("into", subject.task(*into))?;
+            names.add("word", stop_name(missing_stop(subject, *index)))?;
+            Ok((
+                names.filled(GOES_INTO)?,
+                end_help(subject, *task, *index, *into)?,
+            ))
         }
     }
 }
 
-/// What could be better.
-fn message_of(subject: &Subject, list: &[CostlyMark], remark: &Remark) -> Made<Words>
-    ensures { IfOk result (λ words. words ≡ message_of subject.now list.now remark.now) }
-{
+/// What is said of a remark, and what to do.
+fn advice(subject: &Subject, remark: &Remark) -> Made<(Words, Help)> {
     match remark {
-        Remark::Stop(remark) => stop_words(subject, remark),
-        Remark::Costly(mark) => costly_words(subject, list, mark),
+        Remark::Costly { mark, registers } => mark_advice(subject, mark, registers.as_slice()),
+        Remark::Stop(remark) => stop_advice(subject, remark),
     }
 }
 
-/// What to do about registers that were sent before: a release of these in place of theirs.
-fn before_help(subject: &Subject, index: u32, registers: &[u8]) -> Made<Help>
-    ensures { IfOk result (λ help. help ≡ before_help subject.now index registers.now) }
+/// The warning for a remark.
+fn warning(subject: &Subject, remark: &Remark) -> Made<Diagnostic>
+    ensures { IfOk result (λ said. Warns subject.now remark.now said) }
 {
-    let text = release_words(subject, index, registers)?;
-    let mut replacements = Vec::new(subject.alloc());
-    replacements.push(release_written(subject, index, text.as_str())?)?;
-    Ok(Help {
-        message: in_place(subject.alloc(), text.as_str(), "")?,
-        replacements: Listed::new(replacements),
-    })
-}
-
-/// The task that comes back from a call, if it is known.
-fn coming_words(subject: &Subject, task: Option<u32>) -> Made<Words>
-    ensures { IfOk result (λ words. words ≡ coming_text subject.now task) }
-{
-    match task {
-        Some(task) => {
-            let name = subject.task(task);
-            words!(in subject.alloc(); "task {name}")
-        }
-        None => Words::of(subject.alloc(), "the task that comes back"),
-    }
-}
-
-/// To let a task begin where a call may come back to.
-fn called_words(alloc: Global, line: u32, task: &str) -> Made<Words>
-    ensures { IfOk result (λ words. words ≡ called_text line task.now) }
-{
-    words!(in alloc; "let a task begin here, as a target of {task}: the call on line {line} may come back to it")
-}
-
-/// What to do about code after a call.
-fn after_call_words(subject: &Subject, call: u32) -> Made<Words>
-    ensures { IfOk result (λ words. words ≡ after_call_text subject.now call) }
-{
-    let line = subject.span(call).line;
-    let task = coming_words(subject, coming_back(subject, call))?;
-    called_words(subject.alloc(), line, task.as_str())
-}
-
-/// What to do about code that no task reaches: for the call before it, or else.
-fn stretch_words(subject: &Subject, index: u32, others: &str) -> Made<Words>
-    ensures { IfOk result (λ words. words ≡ stretch_text subject.now index others.now) }
-{
-    let before = index.saturating_sub(1);
-    if is_end(back(subject, before), index) {
-        return after_call_words(subject, before);
-    }
-    Words::of(subject.alloc(), others)
-}
-
-/// Words that propose to remove an instruction, unless a place is given as @n, which would then be another.
-fn removal<'w>(subject: &Subject, words: &'w str) -> &'w str
-    ensures { result.now ≡ removal subject.now words.now }
-{
-    if names_no_index(subject.rows()) {
-        words
-    } else {
-        ""
-    }
-}
-
-/// To let a task go on to code that no task reaches, with words that propose to remove it.
-fn onward_words(subject: &Subject, words: &str) -> Made<Words>
-    ensures { IfOk result (λ made. made ≡ onward_text subject.now words.now) }
-{
-    let rest = removal(subject, words);
-    words!(in subject.alloc(); "let a task go on to it{rest}")
-}
-
-/// To move an instruction that may be meant as a delay slot, or else.
-fn slot_or_else(subject: &Subject, index: u32, others: &str) -> Made<Words>
-    ensures { IfOk result (λ words. words ≡ slot_or_else subject.now index others.now) }
-{
-    let line = subject.span(index.saturating_sub(1)).line;
-    let rest = stretch_words(subject, index, others)?;
-    slot_words(subject.alloc(), "it", line, rest.as_str())
-}
-
-/// What to do about one instruction that no task reaches, and that may be meant as a delay slot.
-fn slot_unreached(subject: &Subject, index: u32) -> Made<Words>
-    ensures { IfOk result (λ words. words ≡ slot_unreached_text subject.now index) }
-{
-    let others = onward_words(subject, ", or remove it")?;
-    slot_or_else(subject, index, others.as_str())
-}
-
-/// What to do about code that no task reaches.
-fn unreached_words(subject: &Subject, index: u32) -> Made<Words>
-    ensures { IfOk result (λ words. words ≡ unreached_text subject.now index) }
-{
-    if is_slot(subject, index) {
-        return slot_unreached(subject, index);
-    }
-    let others = onward_words(
-        subject,
-        "; or remove it, up to the next instruction that a task reaches, if no label there is used",
-    )?;
-    stretch_words(subject, index, others.as_str())
-}
-
-/// What to do about a remark. Of registers of one create mask, and of one release, each help mends all of the list.
-fn help_of(subject: &Subject, list: &[CostlyMark], remark: &Remark) -> Made<Help>
-    ensures { IfOk result (λ help. help ≡ help_of subject.now list.now remark.now) }
-{
-    let alloc = subject.alloc();
-    match remark {
-        Remark::Costly(CostlyMark::NeverProduced { task, .. }) => {
-            let registers = produced(subject, list, *task)?;
-            create_help(subject, *task, &registers)
-        }
-        Remark::Costly(CostlyMark::NotForwarded { index }) => update_help(subject, *index),
-        Remark::Costly(CostlyMark::SentBefore { index, .. }) => {
-            let registers = still_released(subject, list, *index)?;
-            before_help(subject, *index, &registers)
-        }
-        Remark::Costly(CostlyMark::Unreached { index }) => {
-            Ok(in_words(alloc, unreached_words(subject, *index)?))
-        }
-        Remark::Stop(StopRemark::NeverRuns(task)) => never_runs_help(subject, *task),
-        Remark::Stop(StopRemark::NoExit(task)) => no_exit_help(subject, *task),
-        Remark::Stop(StopRemark::NotTaken(task)) => not_taken_help(subject, *task),
-        Remark::Stop(StopRemark::GoesInto { task, index, into }) => {
-            end_help(subject, *task, *index, *into)
-        }
-    }
-}
-
-/// The diagnostic for a remark.
-fn warning(subject: &Subject, list: &[CostlyMark], remark: &Remark) -> Made<Diagnostic>
-    ensures { IfOk result (λ said. said ≡ warning subject.now list.now remark.now) }
-{
-    let message = message_of(subject, list, remark)?;
-    let help = help_of(subject, list, remark)?;
+    let (message, help) = advice(subject, remark)?;
     Ok(Diagnostic {
         severity: Severity::Warning,
         code: code_of(remark),
@@ -456,24 +430,15 @@ fn warning(subject: &Subject, list: &[CostlyMark], remark: &Remark) -> Made<Diag
     })
 }
 
-/// The diagnostics for some remarks.
-fn all_of(subject: &Subject, list: &[CostlyMark], remarks: &[Remark]) -> Made<Vec<Diagnostic>>
-    ensures { IfOk result (λ said. said.items ≡ each (warning subject.now list.now) remarks.now) }
+/// The warnings for some remarks.
+fn warnings(subject: &Subject, remarks: &[Remark]) -> Made<Vec<Diagnostic>>
+    ensures { IfOk result (λ said. AllZip (Warns subject.now) remarks.now said.items) }
 {
     let mut said = Vec::new(subject.alloc());
     for remark in remarks {
-        said.push(warning(subject, list, remark)?)?;
+        let one = warning(subject, remark)?;
+        said.push(one)?;
     }
-    Ok(said)
-}
-
-/// The diagnostics for some remarks: for the first `MOST_SHOWN`, and how many more there are.
-fn warnings(subject: &Subject, list: &[CostlyMark], remarks: &[Remark]) -> Made<Vec<Diagnostic>>
-    ensures { IfOk result (λ said. said.items ≡ warnings subject.now list.now remarks.now) }
-{
-    let mut said = all_of(subject, list, first_of(remarks, MOST_SHOWN))?;
-    let more = remarks.len().saturating_sub(MOST_SHOWN);
-    add_more(subject.alloc(), &mut said, more, "warning", "warnings")?;
     Ok(said)
 }
 
@@ -491,7 +456,7 @@ fn add_of_step(subject: &Subject, list: &mut Vec<StopRemark>, task: u32) -> Made
     Ok(())
 }
 
-/// Adds what is remarked of the exits of a task.
+/// Adds what is remarked of the exits of a task, if it has targets.
 fn add_of_exits(subject: &Subject, list: &mut Vec<StopRemark>, task: u32) -> Made<()>
     ensures { OnOk result (list.new.items ≡ list.old.items ++ of_targets (targets_of subject.now task) subject.now task) }
 {
@@ -539,25 +504,15 @@ fn stop_remarks(subject: &Subject) -> Made<Vec<StopRemark>>
     Ok(list)
 }
 
-/// Adds the marks that cost speed to the remarks.
-fn add_costly(remarks: &mut Vec<Remark>, list: &[CostlyMark]) -> Made<()>
-    ensures { OnOk result (remarks.new.items ≡ remarks.old.items ++ each (λ mark. Remark.Costly mark) list.now) }
-{
-    for mark in list {
-        remarks.push(Remark::Costly(*mark))?;
-    }
-    Ok(())
-}
-
-/// All remarks: what may be forgotten, and then the marks that cost speed.
+/// All remarks: what may be forgotten, and then the marks that cost speed, of one create mask or one release all at once.
 fn all_remarks(alloc: Global, stops: &[StopRemark], list: &[CostlyMark]) -> Made<Vec<Remark>>
-    ensures { IfOk result (λ remarks. remarks.items ≡ each (λ stop. Remark.Stop stop) stops.now ++ each (λ mark. Remark.Costly mark) list.now) }
+    ensures { IfOk result (λ remarks. remarks.items ≡ each (λ stop. Remark.Stop stop) stops.now ++ told_marks list.now) }
 {
     let mut remarks = Vec::new(alloc);
     for stop in stops {
         remarks.push(Remark::Stop(*stop))?;
     }
-    add_costly(&mut remarks, list)?;
+    add_marks(alloc, &mut remarks, list)?;
     Ok(remarks)
 }
 
@@ -581,8 +536,11 @@ pub fn mark_warnings(
     let list = costly_marks(alloc, program, least)?;
     let subject = Subject::read(alloc, text, program, least)?;
     let stops = stop_remarks(&subject)?;
-    let told = told_marks(alloc, &list)?;
-    let remarks = all_remarks(alloc, &stops, &told)?;
-    let said = warnings(&subject, &list, &remarks)?;
+    let remarks = all_remarks(alloc, &stops, &list)?;
+    let shown = first_of(&remarks, MOST_SHOWN);
+    let mut said = warnings(&subject, shown)?;
+    let count = remarks.len();
+    let more = count.saturating_sub(MOST_SHOWN);
+    add_more(alloc, &mut said, more, "warning", "warnings")?;
     Ok(said)
 }

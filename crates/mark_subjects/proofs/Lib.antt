@@ -1,2 +1,2 @@
 pub mod PathSteps
-pub mod SpelledLines
+pub mod Paths

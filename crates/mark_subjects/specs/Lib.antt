@@ -1,9 +1,5 @@
-pub mod Labels
-pub mod Spellings
 pub mod Subjects
-pub mod MarkPlaces
 pub mod Parts
-pub mod Stops
 pub mod Targets
 pub mod Steps
 pub mod More

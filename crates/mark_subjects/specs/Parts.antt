@@ -1,29 +1,8 @@
--- The parts that diagnostics are made of.
-use Rattle.std.specs.Prelude.{ℕ, ◌-◌, Bool, ◌==◌, ◌&&◌, List, [], ◌∷◌, ◌++◌, codes, length, slice_get, unwrap_or, nat_eq, if◌then◌else◌, Option, Some, None}
+-- The paths that notes show.
+use Rattle.std.specs.Prelude.{ℕ, ◌-◌, Bool, ◌==◌, ◌&&◌, List, [], ◌∷◌, ◌++◌, flat_map, slice_get, unwrap_or, nat_eq, if◌then◌else◌}
 use Rattle.diagnostics.specs.declared.diagnostic.Span.{Span}
 use Rattle.diagnostics.specs.declared.diagnostic.Note.{Note}
-use Rattle.diagnostics.specs.declared.diagnostic.Help.{Help}
-use Rattle.diagnostics.specs.declared.diagnostic.Replacement.{Replacement}
 use Rattle.mark_subjects.specs.Subjects.{Judged, instruction_span}
-
--- a remedy in words alone, one that replaces a part of the text, and a list of a `.task` written anew
-abbrev pub in_words : (message : List ℕ) → Help
-in_words message = record { message = message; replacements = [] }
-
-abbrev pub by_text : (message : List ℕ) → Span → (text : List ℕ) → Help
-by_text message span text = record { message = message; replacements = record { span = span; text = text } ∷ [] }
-
-abbrev pub written : Span → (text : List ℕ) → Help
-written span text = by_text (codes "write " ++ text) span text
-
--- a part of the text is taken out, if it is there
-abbrev pub take_out : Option Span → List Replacement
-take_out None = []
-take_out (Some span) = record { span = span; text = [] } ∷ []
-
--- a note about an instruction, and one with a path that leads to it
-abbrev pub note_at : Judged → (index : ℕ) → (message : List ℕ) → Note
-note_at s index message = record { span = Some (instruction_span s index); message = message; path = [] }
 
 -- the steps of a path; the second instruction of a pseudo-instruction is no step of its own
 abbrev pub is_second : Judged → (before index : ℕ) → Bool
@@ -40,17 +19,17 @@ abbrev pub steps_of : Judged → List ℕ → List Span
 steps_of s [] = []
 steps_of s (i ∷ rest) = instruction_span s i ∷ steps_after s i rest
 
-abbrev pub path_note : Judged → (index : ℕ) → (message path : List ℕ) → Note
-path_note s index message path = record { span = Some (instruction_span s index); message = message; path = steps_of s path }
+-- the paths that notes show
+abbrev pub shown_path : List Span → List (List Span)
+shown_path [] = []
+shown_path (step ∷ steps) = (step ∷ steps) ∷ []
 
--- the ends of a path; of none, this index
+abbrev pub paths : List Note → List (List Span)
+paths notes = flat_map (λ n. shown_path n.path) notes
+
+-- the way to what is wrong from the task's entry, unless it stands there
 abbrev pub first_or : (index : ℕ) → List ℕ → ℕ
 first_or index path = unwrap_or (slice_get path 0) index
 
-abbrev pub last_or : (index : ℕ) → List ℕ → ℕ
-last_or index path = unwrap_or (slice_get path (length path - 1)) index
-
--- the way to what is wrong from the task's entry, unless it stands there
-abbrev pub way_notes : Judged → (index : ℕ) → (path : List ℕ) → List Note
-way_notes s index path =
-    if nat_eq (first_or index path) index then [] else path_note s (first_or index path) (codes "reached from here") path ∷ []
+abbrev pub way_paths : Judged → (index : ℕ) → (path : List ℕ) → List (List Span)
+way_paths s index path = if nat_eq (first_or index path) index then [] else shown_path (steps_of s path)

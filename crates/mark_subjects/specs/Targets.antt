@@ -2,7 +2,26 @@
 use Rattle.std.specs.Prelude.{ℕ, Bool, true, false, not, ◌&&◌, ◌||◌, ◌==◌, nat_eq, nat_lt, List, [], ◌∷◌, filter, length, is_some, Option, Some, None, if◌then◌else◌}
 use Rattle.std.specs.List.{list_any}
 use Rattle.std.specs.Option.{option_or, option_to_list}
-use Rattle.mark_subjects.specs.Subjects.{Judged, targets_of, task_at, is_entry, is_end, inner_end}
+use Rattle.task_descriptor.specs.declared.descriptor.Stop.{Stop}
+use Rattle.task_descriptor.specs.declared.descriptor.Stop.TheVariants as stop
+use Rattle.mark_subjects.specs.Subjects.{Judged, targets_of, task_at, is_entry, is_branch, stop_of, is_end, inner_end}
+
+-- the task that an inner edge leads into
+abbrev pub task_in : Judged → Option ℕ → Option ℕ
+task_in s None = None
+task_in s (Some j) = task_at s j
+
+abbrev pub into : Judged → (index : ℕ) → (taken : Bool) → Option ℕ
+into s i taken = task_in s (inner_end s i taken)
+
+-- the stop that ends a task on the edges that lead into tasks
+abbrev pub stop_by : (onward taken : Option ℕ) → Stop → (branch : Bool) → Stop
+stop_by (Some a) None stop.None true = stop.NotTaken
+stop_by None (Some b) stop.None true = stop.Taken
+stop_by _ _ _ _ = stop.Always
+
+abbrev pub missing_stop : Judged → (index : ℕ) → Stop
+missing_stop s i = stop_by (into s i false) (into s i true) (stop_of s i) (is_branch s i)
 
 -- the targets of a task where a task begins
 abbrev pub entries_listed : Judged → (task : ℕ) → List ℕ

@@ -1,11 +1,8 @@
 //! The parts that diagnostics are made of, and lists of registers and places in words.
 
-ghost use Rattle.std.specs.Prelude.{◌≡◌, ◌∷◌, [], IfOk, ℕ, Bool, ◌<◌, ◌++◌, if◌then◌else◌, codes, take, drop, OnOk};
-ghost use Rattle.mark_subjects.specs.Parts.{in_words, by_text, written, take_out, note_at, is_second, step_in, steps_after, steps_of, path_note, first_or, last_or, way_notes};
-ghost use Rattle.std.specs.List.{flat_map};
-ghost use Rattle.std.specs.Fmt.{decimal};
-ghost use Rattle.std.specs.String.{string_bytes};
-ghost use Rattle.mark_subjects.specs.Subjects.{register_text, registers_text, which, spot_text, unnamed_text, place_text, places_text, targets_text};
+ghost use Rattle.std.specs.Prelude.{◌≡◌, ◌∷◌, [], IfOk, ℕ, Bool, ◌<◌, ◌++◌, if◌then◌else◌, take, drop, OnOk};
+ghost use Rattle.mark_subjects.specs.Subjects.{which};
+ghost use Rattle.mark_subjects.specs.Parts.{is_second, step_in, steps_after, steps_of, paths, first_or, way_paths};
 ghost use Rattle.mark_subjects.specs.More.{more_message, more_note};
 
 use crate::subject::{Made, Subject};
@@ -17,9 +14,7 @@ use diagnostics::words::Words;
 use std::alloc::Global;
 
 /// What to do, in words alone.
-pub fn in_words(alloc: Global, message: Words) -> Help
-    ensures { result ≡ in_words message }
-{
+pub fn in_words(alloc: Global, message: Words) -> Help {
     let replacements = Listed::new(Vec::new(alloc));
     Help {
         message,
@@ -28,9 +23,7 @@ pub fn in_words(alloc: Global, message: Words) -> Help
 }
 
 /// What to do: a text to write in place of a part of the program text.
-pub fn by_text(alloc: Global, message: Words, span: Span, text: Words) -> Made<Help>
-    ensures { IfOk result (λ help. help ≡ by_text message span text) }
-{
+pub fn by_text(alloc: Global, message: Words, span: Span, text: Words) -> Made<Help> {
     let mut replacements = Vec::new(alloc);
     replacements.push(Replacement { span, text })?;
     Ok(Help {
@@ -40,17 +33,13 @@ pub fn by_text(alloc: Global, message: Words, span: Span, text: Words) -> Made<H
 }
 
 /// What to do: a list of a `.task` written anew.
-pub fn written(alloc: Global, span: Span, text: Words) -> Made<Help>
-    ensures { IfOk result (λ help. help ≡ written span text) }
-{
+pub fn written(alloc: Global, span: Span, text: Words) -> Made<Help> {
     let message = words!(in alloc; "write {text}")?;
     by_text(alloc, message, span, text)
 }
 
 /// That a part of the text is taken out, if there is one.
-pub fn take_out(alloc: Global, span: Option<Span>) -> Made<Vec<Replacement>>
-    ensures { IfOk result (λ list. list.items ≡ take_out span) }
-{
+pub fn take_out(alloc: Global, span: Option<Span>) -> Made<Vec<Replacement>> {
     let mut list = Vec::new(alloc);
     if let Some(span) = span {
         let text = Words::new(String::new(alloc));
@@ -61,7 +50,7 @@ pub fn take_out(alloc: Global, span: Option<Span>) -> Made<Vec<Replacement>>
 
 /// A note about an instruction.
 pub fn note_at(subject: &Subject, index: u32, message: Words) -> Note
-    ensures { result ≡ note_at subject.now index message }
+    ensures { result.path ≡ [] }
 {
     Note {
         span: Some(subject.span(index)),
@@ -116,7 +105,7 @@ fn steps_of(subject: &Subject, path: &[u32]) -> Made<Vec<Span>>
 
 /// A note about an instruction, with a path that leads to it.
 pub fn path_note(subject: &Subject, index: u32, message: Words, path: &[u32]) -> Made<Note>
-    ensures { IfOk result (λ note. note ≡ path_note subject.now index message path.now) }
+    ensures { IfOk result (λ note. note.path ≡ steps_of subject.now path.now) }
 {
     let spans = steps_of(subject, path)?;
     Ok(Note {
@@ -137,9 +126,7 @@ fn first_or(index: u32, path: &[u32]) -> u32
 }
 
 /// The last index of a path; of none, this one.
-pub fn last_or(index: u32, path: &[u32]) -> u32
-    ensures { result ≡ last_or index path.now }
-{
+pub fn last_or(index: u32, path: &[u32]) -> u32 {
     match path.get(path.len().saturating_sub(1)) {
         Some(last) => *last,
         None => index,
@@ -147,15 +134,18 @@ pub fn last_or(index: u32, path: &[u32]) -> u32
 }
 
 /// The way to what is wrong, unless it stands where the way begins.
+#[tactic(auto, using(crate::proofs::Paths::alone, crate::proofs::Paths::none_yet))]
 pub fn way_notes(subject: &Subject, index: u32, path: &[u32]) -> Made<Vec<Note>>
-    ensures { IfOk result (λ notes. notes.items ≡ way_notes subject.now index path.now) }
+    ensures { IfOk result (λ notes. paths notes.items ≡ way_paths subject.now index path.now) }
 {
     let mut notes = Vec::new(subject.alloc());
     let first = first_or(index, path);
-    if first != index {
-        let message = Words::of(subject.alloc(), "reached from here")?;
-        notes.push(path_note(subject, first, message, path)?)?;
+    if first == index {
+        return Ok(notes);
     }
+    let message = Words::of(subject.alloc(), "reached from here")?;
+    let note = path_note(subject, first, message, path)?;
+    notes.push(note)?;
     Ok(notes)
 }
 
@@ -182,106 +172,66 @@ fn add_if(list: &mut Vec<u8>, register: u8, belongs: bool) -> Made<()>
     Ok(())
 }
 
-/// Adds registers, each after a comma.
-fn add_registers(text: &mut String, subject: &Subject, registers: &[u8]) -> Made<()>
-    ensures { OnOk result (string_bytes text.new
-        ≡ string_bytes text.old ++ flat_map (λ r. codes "," ++ register_text subject.now r) registers.now) }
-{
-    for register in registers {
-        let name = subject.register(*register);
-        write!(text, ",{name}")?;
-    }
-    Ok(())
-}
-
 /// A list of registers.
-pub fn registers_words(subject: &Subject, registers: &[u8]) -> Made<Words>
-    ensures { IfOk result (λ words. words ≡ registers_text subject.now registers.now) }
-{
+pub fn registers_words(subject: &Subject, registers: &[u8]) -> Made<Words> {
     let [first, rest @ ..] = registers else {
         return Words::of(subject.alloc(), "-");
     };
     let mut text = String::new(subject.alloc());
     text.push_str(subject.register(*first))?;
-    add_registers(&mut text, subject, rest)?;
+    for register in rest {
+        let name = subject.register(*register);
+        write!(text, ",{name}")?;
+    }
     Ok(Words::new(text))
 }
 
 /// An instruction: its label, else its index.
-pub fn spot_words(subject: &Subject, index: u32) -> Made<Words>
-    ensures { IfOk result (λ words. words ≡ spot_text subject.now index) }
-{
+pub fn spot_words(subject: &Subject, index: u32) -> Made<Words> {
     match subject.label(index) {
         Some(label) => Words::of(subject.alloc(), label.as_str()),
         None => words!(in subject.alloc(); "@{index}"),
     }
 }
 
-/// A place without a label: its line; what is no instruction by its index, or in words.
-fn unnamed_words(subject: &Subject, index: u32) -> Made<Words>
-    ensures { IfOk result (λ words. words ≡ unnamed_text subject.now index) }
-{
+/// A place: the name of the task that begins there, else its label, else its line; what is no instruction by its index, or
+/// in words.
+pub fn place_words(subject: &Subject, index: u32) -> Made<Words> {
+    let alloc = subject.alloc();
+    if let Some(task) = subject.task_at(index) {
+        return Words::of(alloc, subject.task(task));
+    }
+    if let Some(label) = subject.label(index) {
+        return Words::of(alloc, label.as_str());
+    }
     let end = subject.code().len();
     if (index as usize) < end {
         let line = subject.span(index).line;
-        return words!(in subject.alloc(); "line {line}");
+        return words!(in alloc; "line {line}");
     }
     if index as usize == end {
-        return Words::of(subject.alloc(), "the end of the program");
+        return Words::of(alloc, "the end of the program");
     }
-    words!(in subject.alloc(); "@{index}")
-}
-
-/// A place: the name of the task that begins there, else its label, else its line.
-pub fn place_words(subject: &Subject, index: u32) -> Made<Words>
-    ensures { IfOk result (λ words. words ≡ place_text subject.now index) }
-{
-    if let Some(task) = subject.task_at(index) {
-        return Words::of(subject.alloc(), subject.task(task));
-    }
-    match subject.label(index) {
-        Some(label) => Words::of(subject.alloc(), label.as_str()),
-        None => unnamed_words(subject, index),
-    }
-}
-
-/// Adds a place after a comma.
-fn add_place(text: &mut String, subject: &Subject, index: u32) -> Made<()>
-    ensures { OnOk result (string_bytes text.new ≡ string_bytes text.old ++ (codes "," ++ place_text subject.now index)) }
-{
-    let place = place_words(subject, index)?;
-    write!(text, ",{place}")
-}
-
-/// Adds places, each after a comma.
-fn add_places(text: &mut String, subject: &Subject, places: &[u32]) -> Made<()>
-    ensures { OnOk result (string_bytes text.new
-        ≡ string_bytes text.old ++ flat_map (λ j. codes "," ++ place_text subject.now j) places.now) }
-{
-    for index in places {
-        add_place(text, subject, *index)?;
-    }
-    Ok(())
+    words!(in alloc; "@{index}")
 }
 
 /// A list of places.
-pub fn places_words(subject: &Subject, places: &[u32]) -> Made<Words>
-    ensures { IfOk result (λ words. words ≡ places_text subject.now places.now) }
-{
+pub fn places_words(subject: &Subject, places: &[u32]) -> Made<Words> {
     let [first, rest @ ..] = places else {
         return Words::of(subject.alloc(), "-");
     };
     let place = place_words(subject, *first)?;
     let mut text = String::new(subject.alloc());
     text.push_str(place.as_str())?;
-    add_places(&mut text, subject, rest)?;
+    for index in rest {
+        let place = place_words(subject, *index)?;
+        write!(text, ",{place}")?;
+    }
     Ok(Words::new(text))
 }
 
 /// `targets=` with these places.
-pub fn targets_words(subject: &Subject, places: &[u32]) -> Made<Words>
-    ensures { IfOk result (λ words. words ≡ targets_text subject.now places.now) }
-{
+pub fn targets_words(subject: &Subject, places: &[u32]) -> Made<Words> {
     let places = places_words(subject, places)?;
     words!(in subject.alloc(); "targets={places}")
 }

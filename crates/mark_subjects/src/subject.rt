@@ -31,11 +31,11 @@ pub struct Subject<'a> {
     places: SourceMap,
     labels: Vec<Option<Name>>,
     names: Vec<Words>,
+    no_index: bool,
     least: &'a Cert,
 }
 
 impl<'a> Model for Subject<'a> {
-    ghost use Rattle.std.specs.Prelude.{map as each};
     ghost use Rattle.annotated_asm.specs.Sources.{sources_in};
     ghost use Rattle.mark_subjects.specs.Subjects.{Judged};
 
@@ -43,23 +43,20 @@ impl<'a> Model for Subject<'a> {
 
     ghost view = { λ s. record {
       program = s.program.now;
-      rows = each (λ row. row.now) s.rows.items;
       sources = sources_in s.places;
-      labels = s.labels.items;
-      names = s.names.items;
       least = s.least.now;
     } };
 }
 
 ghost use Rattle.std.specs.Prelude.{◌≡◌, ◌<◌, map as each, Ok, IfOk};
 ghost use Rattle.std.specs.Option.{option_copied};
-ghost use Rattle.mips_instructions.specs.Words.{has};
 ghost use Rattle.annotated_asm.specs.ProgramText.{parse};
 ghost use Rattle.mask_certificate.specs.Lists.{mask_at};
 ghost use Rattle.task_graph.specs.Edges.{end_of};
+ghost use Rattle.mips_instructions.specs.Words.{has};
 ghost use Rattle.task_descriptor.specs.Listing.{is_conditional as is_conditional_of};
 ghost use Rattle.mips_instructions.specs.Instruction.{released};
-ghost use Rattle.mark_subjects.specs.Subjects.{IsJudged, label_at, register_text, task_name, targets_of, entries_of, task_at, is_entry, forwards, releases, is_branch, stop_of, is_end, exit_end, inner_end, first_byte, span_of, instruction_span, task_span, create_span, targets_span, target_in, target_span, column_after, after};
+ghost use Rattle.mark_subjects.specs.Subjects.{IsJudged, targets_of, entries_of, task_at, is_entry, releases, is_branch, stop_of, is_end, exit_end, inner_end, first_byte, span_of, instruction_span, task_span, create_span, targets_span, target_span};
 ghost use Rattle.program_tokens.specs.Lines.{lines};
 ghost use Rattle.annotated_asm.specs.Sources.{sources_in, sources_of};
 
@@ -80,6 +77,7 @@ impl<'a> Subject<'a> {
         let places = places_of(alloc, text, program)?;
         let labels = labels_of(alloc, &rows, &places.code)?;
         let names = names_in(alloc, &rows)?;
+        let no_index = names_no_index(&rows);
         Ok(Subject {
             alloc,
             program,
@@ -87,6 +85,7 @@ impl<'a> Subject<'a> {
             places,
             labels,
             names,
+            no_index,
             least,
         })
     }
@@ -125,10 +124,13 @@ impl<'a> Subject<'a> {
     }
 
     /// The lines of the text.
-    pub fn rows(&self) -> &[&'a [u8]]
-        ensures { each (λ row. row.now) result.now ≡ self.now.rows }
-    {
+    pub fn rows(&self) -> &[&'a [u8]] {
         &self.rows
+    }
+
+    /// Whether the text gives no place as @n, so that an instruction less moves none.
+    pub fn names_no_index(&self) -> bool {
+        self.no_index
     }
 
     /// The instructions that a task reaches, each with the registers that it may still write from there on.
@@ -146,9 +148,7 @@ impl<'a> Subject<'a> {
     }
 
     /// How the text writes a register; empty where there is none of this number.
-    pub fn register(&self, number: u8) -> &str
-        ensures { result.now ≡ register_text self.now number }
-    {
+    pub fn register(&self, number: u8) -> &str {
         match self.names.get(usize::from(number)) {
             Some(name) => name.as_str(),
             None => "",
@@ -156,9 +156,7 @@ impl<'a> Subject<'a> {
     }
 
     /// The name of a task; empty where there is none of this number.
-    pub fn task(&self, task: u32) -> &str
-        ensures { result.now ≡ task_name self.now task }
-    {
+    pub fn task(&self, task: u32) -> &str {
         match self.program.tasks().get(task as usize) {
             Some(descriptor) => descriptor.name.as_str(),
             None => "",
@@ -190,9 +188,7 @@ impl<'a> Subject<'a> {
     }
 
     /// The label of an instruction, if it has one.
-    pub fn label(&self, index: u32) -> Option<Name>
-        ensures { result ≡ label_at self.now index }
-    {
+    pub fn label(&self, index: u32) -> Option<Name> {
         match self.labels.get(index as usize) {
             Some(label) => *label,
             None => None,
@@ -200,9 +196,7 @@ impl<'a> Subject<'a> {
     }
 
     /// Whether an instruction has the forward bit.
-    pub fn forwards(&self, index: u32) -> bool
-        ensures { result ≡ forwards self.now index }
-    {
+    pub fn forwards(&self, index: u32) -> bool {
         match self.program.code().get(index as usize) {
             Some(marked) => marked.forward,
             None => false,
@@ -396,16 +390,12 @@ pub fn has_number(set: RegSet, number: u8) -> bool
 }
 
 /// The column `count` bytes further on.
-pub fn column_after(column: usize, count: usize) -> usize
-    ensures { result ≡ column_after column count }
-{
-    column + count.min(usize::MAX - column)
+pub fn column_after(column: usize, count: usize) -> usize {
+    column.saturating_add(count)
 }
 
 /// The place after a part of a line.
-pub fn after(span: Span) -> Span
-    ensures { result ≡ after span }
-{
+pub fn after(span: Span) -> Span {
     Span {
         line: span.line,
         column: column_after(span.column, span.width),
@@ -427,6 +417,11 @@ fn lines_of(alloc: Global, text: &[u8]) -> Made<Vec<&[u8]>>
             None => return Ok(list),
         }
     }
+}
+
+/// Whether no line gives a place as @n.
+fn names_no_index(rows: &[&[u8]]) -> bool {
+    rows.iter().all(|row| row.iter().all(|byte| *byte != b'@'))
 }
 
 /// The places of a text that spells a program.

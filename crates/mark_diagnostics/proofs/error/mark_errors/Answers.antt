@@ -1,16 +1,13 @@
 -- Where the marks are accepted there is no diagnostic, and where they are refused there is one.
-use Rattle.std.proofs.Common.{◌≡◌, ◌-◌, List, [], ◌++◌, Bool, true, false, length, take, ap, sym, ◌∙◌, subst, refl}
+use Rattle.std.proofs.Common.{◌≡◌, ◌-◌, List, [], ◌++◌, Bool, true, false, length, take, ap, sym, ◌∙◌, subst}
 use Rattle.std.specs.Prelude.{codes}
 use Rattle.std.specs.List.{AllZip, All}
-use Rattle.program_tokens.specs.Lines.{lines}
 use Rattle.task_descriptor.specs.Listing.{Listing}
 use Rattle.task_graph.specs.Soundness.{Sound}
 use Rattle.mark_checker.specs.declared.finding.Finding.{Finding}
 use Rattle.mark_checker.specs.Rules.{all_rules}
 use Rattle.annotator.specs.Least.{IsLeast}
 use Rattle.finding_paths.specs.Shown.{IsFinding}
-use Rattle.mark_subjects.specs.Labels.{labels_from}
-use Rattle.mark_subjects.specs.Spellings.{names_in}
 use Rattle.mark_subjects.specs.Subjects.{Judged}
 use Rattle.mark_diagnostics.specs.Told.{all_told, most_shown}
 use Rattle.mark_subjects.specs.More.{more_note}
@@ -24,8 +21,8 @@ returns-then-accepts c =
     let cert = c.args.least.now in
     let text = c.args.text.now in
     let fits = c.map_fits.ensures text p c.requires.spelled in
-    let s : Judged = record { program = p; rows = lines text; sources = fits.0; labels = labels_from (lines text) 0 fits.0.code; names = names_in (lines text); least = cert } in
-    nothing_wrong text c.new.result.items s (record { spelled = c.requires.spelled; rows = refl; places = fits.1; labels = refl; names = refl }) c.requires.least
+    let s : Judged = record { program = p; sources = fits.0; least = cert } in
+    nothing_wrong text c.new.result.items s (record { spelled = c.requires.spelled; places = fits.1 }) c.requires.least
     (c.accepts.ensures.accepted c.if-accepts.true).sound (c.accepts.ensures.exact.0 c.if-accepts.true) c.new.ensures.items
 
 wrong : (b : Bool) → b ≡ true → b ≡ false → ⊥

@@ -1,5 +1,4 @@
--- The first five of the findings that are reported together are the checker's, and are shown; and it is known whether a stop
--- is needless.
+-- The first five of the findings that are reported together are the checker's, and are shown.
 use Rattle.std.proofs.Common.{◌≡◌, List, take, ap, sym, ◌∙◌, subst}
 use Rattle.std.specs.List.{All}
 use Rattle.task_descriptor.specs.Listing.{Listing}
@@ -7,7 +6,7 @@ use Rattle.mark_checker.specs.declared.finding.Finding.{Finding}
 use Rattle.finding_paths.specs.declared.shown.ShownFinding.{ShownFinding}
 use Rattle.finding_paths.specs.Shown.{IsFinding, IsShown}
 use Rattle.mark_diagnostics.specs.Told.{about}
-use Rattle.mark_diagnostics.specs.Errors.{error_diagnostic}
+use Rattle.mark_diagnostics.specs.Errors.{IsError}
 use Rattle.mark_diagnostics.proofs.Telling.{found_about}
 use Rattle.mark_diagnostics.proofs.error.told_diagnostic.Goals as goal
 
@@ -28,9 +27,5 @@ returns c =
       shown = c.in_ok-shown.shown.items;
       first_five = c.in_ok-shown.ensures.findings ∙ five;
       each = subst (λ (p : Listing). All (λ (one : ShownFinding). IsShown p one.finding one.path) c.in_ok-shown.shown.items) c.program.ensures c.in_ok-shown.ensures.shown;
-      needless = c.in_ok-needless.needless;
-      whether = c.in_ok-needless.ensures;
-      is = c.in_ok-said.ensures
-          ∙ ap (λ (fs : List Finding). error_diagnostic s f c.in_ok-needless.needless fs c.deref-3.result.now) (c.deref-2.ensures.value ∙ c.in_ok-about.ensures)
-          ∙ ap (λ (ss : List ShownFinding). error_diagnostic s f c.in_ok-needless.needless (about s f) ss) c.deref-3.ensures.value;
+      is = subst (λ (ss : List ShownFinding). IsError s f ss c.in_ok-said.said) c.deref-3.ensures.value c.in_ok-said.ensures;
     }

@@ -1,23 +1,30 @@
--- The diagnostics are those for the remarks, in the text's own lines.
-use Rattle.std.proofs.Common.{◌≡◌, List, ◌++◌, map, ap, ◌∙◌}
+-- The diagnostics are those for the first remarks, in the text's own lines.
+use Rattle.std.proofs.Common.{◌≡◌, ◌-◌, List, ◌++◌, map, take, length, ap, arith, ◌∙◌, subst}
+use Rattle.std.specs.Prelude.{codes}
+use Rattle.std.specs.List.{AllZip}
 use Rattle.finding_paths.specs.declared.mark.CostlyMark.{CostlyMark}
 use Rattle.exit_diagnostics.specs.declared.remark.Remark.{Remark}
-use Rattle.exit_diagnostics.specs.declared.remark.Remark.TheVariants.{Stop, Costly}
+use Rattle.exit_diagnostics.specs.declared.remark.Remark.TheVariants.{Stop}
 use Rattle.exit_diagnostics.specs.declared.remark.StopRemark.{StopRemark}
 use Rattle.exit_diagnostics.specs.Remarks.{stop_remarks}
+use Rattle.mark_subjects.specs.More.{more_note}
+use Rattle.mark_diagnostics.specs.Told.{most_shown}
 use Rattle.mark_diagnostics.specs.Together.{told_marks}
-use Rattle.mark_diagnostics.specs.Warnings.{warnings}
+use Rattle.mark_diagnostics.specs.Warnings.{remarks, Warns}
 use Rattle.mark_diagnostics.proofs.warning.mark_warnings.Goals as goal
 
 pub returns : goal.returns
 returns c =
     let s = c.in_ok-subject.subject in
     let list = c.in_ok-list.list.items in
-    let told : c.in_ok-told.told.items ≡ told_marks list = c.in_ok-told.ensures ∙ ap (λ (ms : List CostlyMark). told_marks ms) c.deref.ensures.value in
-    let remarks : c.in_ok-remarks.remarks.items ≡ map (λ (r : StopRemark). Stop r) (stop_remarks s) ++ map (λ (m : CostlyMark). Costly m) (told_marks list) =
+    let all : c.in_ok-remarks.remarks.items ≡ remarks s list =
     c.in_ok-remarks.ensures
-    ∙ ap (λ (rs : List StopRemark). map (λ (r : StopRemark). Stop r) rs ++ map (λ (m : CostlyMark). Costly m) c.deref-3.result.now) (c.deref-2.ensures.value ∙ c.in_ok-stops.ensures)
-    ∙ ap (λ (ms : List CostlyMark). map (λ (r : StopRemark). Stop r) (stop_remarks s) ++ map (λ (m : CostlyMark). Costly m) ms) (c.deref-3.ensures.value ∙ told) in
+    ∙ ap (λ (rs : List StopRemark). map (λ (r : StopRemark). Stop r) rs ++ told_marks c.deref-2.result.now) (c.deref.ensures.value ∙ c.in_ok-stops.ensures)
+    ∙ ap (λ (ms : List CostlyMark). map (λ (r : StopRemark). Stop r) (stop_remarks s) ++ told_marks ms) c.deref-2.ensures.value in
+    let first : c.first_of-shown.result.now ≡ take most_shown (remarks s list) =
+    c.first_of-shown.ensures ∙ ap (take most_shown) (c.deref-3.ensures.value ∙ all) in
+    let count : c.len-count.result ≡ length (remarks s list) = omega (arith, c.len-count.ensures, c.in_ok-remarks.remarks.ok.0, ap length all) in
+    let more = c.saturating_sub-more.ensures ∙ ap (λ n. n - most_shown) count in
     record {
       judged = s;
       of_text = c.in_ok-subject.ensures.judged;
@@ -25,7 +32,7 @@ returns c =
       of_least = c.in_ok-subject.ensures.least;
       list = list;
       costly = c.in_ok-list.ensures;
-      is = c.in_ok-said.ensures
-          ∙ ap (λ (ms : List CostlyMark). warnings s ms c.deref-5.result.now) c.deref-4.ensures.value
-          ∙ ap (λ (rs : List Remark). warnings s list rs) (c.deref-5.ensures.value ∙ remarks);
+      first = c.in_ok-said.said.items;
+      warned = subst (λ (rs : List Remark). AllZip (Warns s) rs c.in_ok-said.said.items) first c.in_ok-said.ensures;
+      is = c.in_ok-add_more.ensures ∙ ap (λ n. c.in_ok-said.said.items ++ more_note n (codes "warning") (codes "warnings")) more;
     }
