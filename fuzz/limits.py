@@ -18,7 +18,7 @@ in the temporary folder and 3 GB of memory, 5 where the program writes JSON; it 
 With --gate: texts that take long, or much memory, where an answer is sought carelessly. Each run may take
 three times the processor's time of `check --least` of the same program, or a second if that is more, and 512 MB. A run that takes
 more is made again, twice, as other processes may have slowed it, and is ended some two seconds after its time. `explain` does
-not keep to this yet: warnings of many tasks that share their code take it some seconds. So no test runs this.
+not keep to this yet: millions of lines that begin with no mnemonic take it some seconds. So no test runs this.
 """
 import argparse
 import collections
