@@ -1,5 +1,5 @@
 -- Which bytes of an item are meant by what is wrong with it: a name, a list, or all of it.
-use Rattle.std.specs.Prelude.{ℕ, ◌-◌, List, length, slice_get, unwrap_or}
+use Rattle.std.specs.Prelude.{◌≡◌, ℕ, ◌-◌, List, length, slice_get, unwrap_or, IfSome}
 use Rattle.program_tokens.specs.declared.span.TokenSpan.{TokenSpan as Place}
 use Rattle.syntax_tree.specs.declared.item.SyntaxSpan.{SyntaxSpan}
 use Rattle.syntax_tree.specs.declared.item.Item.{Item}
@@ -7,8 +7,10 @@ use Rattle.syntax_tree.specs.declared.unknown_names.UsedAs.{UsedAs}
 use Rattle.syntax_tree.specs.declared.unknown_names.UsedAs.TheVariants as used
 use Rattle.syntax_tree.specs.declared.whole_faults.Limit.TheVariants.{Targets}
 use Rattle.syntax_tree.specs.Trees.{span_of}
-use Rattle.syntax_tree.specs.Details.{Parts, between, operand_spans, create_span, targets_span, target_spans}
+use Rattle.syntax_tree.specs.Details.{Parts, detail_of, between, operand_spans, create_span, targets_span, target_spans}
+use Rattle.operand_forms.specs.Rows.{line_at}
 use Rattle.diagnostics.specs.declared.diagnostic.Span.{Span}
+use Rattle.text_diagnostics.specs.declared.place.SeenTargets.{SeenTargets}
 use Rattle.text_diagnostics.specs.declared.mistake.Kind.{Kind}
 use Rattle.text_diagnostics.specs.declared.mistake.Kind.TheVariants.{TaskTwice, NoLabel, DataLabel, Passes, CreatesZero, NoInstruction, SameEntry}
 
@@ -45,3 +47,8 @@ item_span CreatesZero item d = create_span d
 item_span NoInstruction item d = name_span d
 item_span SameEntry item d = name_span d
 item_span kind item d = span_of item
+
+-- the targets that were read are those of the item of their number
+abbrev pub AreSeen : (rows : List (List ℕ)) → List Item → SeenTargets → Type 0
+AreSeen rows items seen =
+    IfSome seen.targets (λ spans. IfSome (slice_get items seen.item) (λ item. spans ≡ target_spans (detail_of (line_at rows item.line) item)))

@@ -1,10 +1,13 @@
 //! Diagnostics for a text that spells no program.
 
-ghost use Rattle.std.specs.Prelude.{◌≡◌, ◌++◌, ◌∷◌, [], take, map as each, IfOk, OnOk};
+ghost use Rattle.std.specs.Prelude.{◌≡◌, ◌++◌, ◌∷◌, [], take, map as each, IfOk, IfSome, OnOk};
 ghost use Rattle.std.specs.List.{flat_map, list_any};
 ghost use Rattle.std.specs.Option.{option_copied};
 ghost use Rattle.program_tokens.specs.Lines.{lines};
+ghost use Rattle.operand_forms.specs.Rows.{line_at};
+ghost use Rattle.syntax_tree.specs.Details.{detail_of, target_spans};
 ghost use Rattle.syntax_tree.specs.Trees.{tree_of};
+ghost use Rattle.text_diagnostics.specs.Places.{AreSeen};
 ghost use Rattle.text_diagnostics.specs.Refusals.{kind_code, note_text, note_at, item_at, error_of, line_diagnostic, item_diagnostic, diagnostic_by, said_at, said_of, no_task_error, no_task, told_of, told, build_code, told_as, is_on, tells, line_start, plain, with_first, refusal, text_diagnostics};
 
 use crate::faulty_line::FaultyLine;
@@ -13,7 +16,9 @@ use crate::known::{Known, known_in};
 use crate::message::{item_message, line_message};
 use crate::mistake::{Kind, Mistake};
 use crate::mistakes::mistakes;
-use crate::place::{item_span, place_in, shown_span, span_in};
+use crate::place::{
+    SeenTargets, Targets, item_span, place_in, see_targets, seen_at, shown_span, span_in,
+};
 use crate::start::{first_start, start_name, task_words};
 use annotated_asm::assembler::assemble;
 use annotated_asm::fault::AsmFault;
@@ -30,7 +35,6 @@ use operand_forms::rows::{line_at, lines_of, read};
 use operand_forms::slices::first;
 use program_statements::statement::Section;
 use std::alloc::{AllocError, Global};
-use syntax_tree::detail::read_detail;
 use syntax_tree::item::{Item, LineFaultKind};
 use syntax_tree::reading::syntax_tree;
 use syntax_tree::tree::TreeFault;
@@ -146,12 +150,13 @@ fn item_diagnostic(
     mistake: &Mistake,
     item: &Item,
     line: &[u8],
+    targets: &Targets,
 ) -> Result<Diagnostic, AllocError>
+    requires { IfSome targets.now (λ spans. spans ≡ target_spans (detail_of line.now item.now)) }
     ensures { IfOk result (λ said. said ≡ item_diagnostic items.now mistake.now item.now line.now) }
 {
     let kind = mistake.kind;
-    let detail = read_detail(alloc, line, item)?;
-    let span = shown_span(item_span(alloc, kind, item, &detail)?);
+    let span = shown_span(item_span(alloc, kind, item, line, targets)?);
     let name = bytes_at(line, place_in(span));
     let quotation = quoted(alloc, name)?;
     let message = item_message(alloc, kind, &quotation)?;
@@ -167,12 +172,14 @@ fn diagnostic_by(
     mistake: &Mistake,
     item: &Item,
     line: &[u8],
+    targets: &Targets,
 ) -> Result<Diagnostic, AllocError>
+    requires { IfSome targets.now (λ spans. spans ≡ target_spans (detail_of line.now item.now)) }
     ensures { IfOk result (λ said. said ≡ diagnostic_by mistake.now.kind items.now mistake.now item.now line.now) }
 {
     match mistake.kind {
         Kind::Line(kind, section) => line_diagnostic(alloc, kind, item.line, section, line),
-        _ => item_diagnostic(alloc, items, mistake, item, line),
+        _ => item_diagnostic(alloc, items, mistake, item, line, targets),
     }
 }
 
@@ -184,13 +191,16 @@ fn add_said_at(
     items: &[Item],
     mistake: &Mistake,
     item: Option<&Item>,
+    targets: &Targets,
 ) -> Result<(), AllocError>
+    requires { IfSome targets.now (λ spans. IfSome (option_copied item) (λ there. spans
+        ≡ target_spans (detail_of (line_at (each (λ row. row.now) rows.now) there.line) there))) }
     ensures { OnOk result (list.new.items
         ≡ list.old.items ++ said_at (each (λ row. row.now) rows.now) items.now mistake.now (option_copied item.entry)) }
 {
     if let Some(item) = item {
         let line = line_at(rows, item.line);
-        list.push(diagnostic_by(alloc, items, mistake, item, line)?)?;
+        list.push(diagnostic_by(alloc, items, mistake, item, line, targets)?)?;
     }
     Ok(())
 }
@@ -202,12 +212,15 @@ fn add_said(
     rows: &[&[u8]],
     items: &[Item],
     mistake: &Mistake,
+    seen: &SeenTargets,
 ) -> Result<(), AllocError>
+    requires number { seen.now.item ≡ mistake.now.item }
+    requires seen { AreSeen (each (λ row. row.now) rows.now) items.now seen.now }
     ensures { OnOk result (list.new.items
         ≡ list.old.items ++ said_of (each (λ row. row.now) rows.now) items.now mistake.now) }
 {
     let item = items.get(mistake.item);
-    add_said_at(alloc, list, rows, items, mistake, item)
+    add_said_at(alloc, list, rows, items, mistake, item, &seen.targets)
 }
 
 /// The diagnostics for mistakes.
@@ -221,8 +234,10 @@ fn all_said(
         ≡ flat_map (said_of (each (λ row. row.now) rows.now) items.now) found.now) }
 {
     let mut list = Vec::new(alloc);
+    let mut seen = see_targets(alloc, rows, items, 0)?;
     for mistake in found {
-        add_said(alloc, &mut list, rows, items, mistake)?;
+        seen = seen_at(alloc, rows, items, seen, mistake.item)?;
+        add_said(alloc, &mut list, rows, items, mistake, &seen)?;
     }
     Ok(list)
 }
