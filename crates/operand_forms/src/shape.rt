@@ -3,7 +3,8 @@
 ghost use Rattle.std.specs.Prelude.{◌≡◌, map};
 ghost use Rattle.operand_forms.specs.Shapes.{shape_in, shape_of, instruction_text, form_text, takes_none, range_of, range_text};
 
-use mips_instructions::instruction::{Form, Mnemonic};
+use mips_instructions::instruction::Form;
+use syntax_tree::mnemonics::named;
 
 /// What the operands of a statement are.
 #[derive(Clone, Copy, Debug, PartialEq, Eq)]
@@ -62,7 +63,7 @@ fn shape_in(rows: &[(&'static str, OperandShape)], word: &[u8]) -> Option<Operan
 pub fn shape_of(word: &[u8]) -> Option<OperandShape>
     ensures { result ≡ shape_of word.now }
 {
-    match Mnemonic::named(word) {
+    match named(word) {
         Some(mnemonic) => Some(OperandShape::Instruction(mnemonic.form())),
         None => shape_in(&DIRECTIVES, word),
     }

@@ -7,3 +7,5 @@ mod Fitting
 mod TokenSteps
 mod FirstFaults
 mod NumberedRows
+pub mod ByLength
+pub mod NoMnemonic

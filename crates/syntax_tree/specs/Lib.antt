@@ -7,4 +7,5 @@ pub mod UnknownNames
 pub mod Amounts
 pub mod WholeFaults
 pub mod Laws
+pub mod Mnemonics
 pub mod Examples

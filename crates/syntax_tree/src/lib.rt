@@ -7,6 +7,7 @@ pub mod detail;
 pub mod firsts;
 pub mod item;
 pub mod laws;
+pub mod mnemonics;
 pub mod program_items;
 pub mod reading;
 pub mod repeats;

@@ -2,11 +2,14 @@
 
 ghost use Rattle.std.specs.Prelude.{◌≡◌, ◌≤◌, ◌<◌, ◌↔◌, ◌+◌, ◌*◌, ◌^◌, ◌++◌, ◌∷◌, [], length, All, Ok, Err, IfOk, IfSome, IfNone, OnOk};
 ghost use Rattle.program_statements.specs.Statements.{statement_of};
+ghost use Rattle.program_statements.specs.Steps.{Gives};
 ghost use Rattle.program_tokens.specs.Lines.{lines};
 ghost use Rattle.annotated_asm.specs.Items.{labels_of, after_labels};
+ghost use Rattle.syntax_tree.specs.Mnemonics.{is_no_mnemonic, begins_nothing};
 ghost use Rattle.syntax_tree.specs.Trees.{item_between, label_items, statement_items, next_section, kind_of_fault, line_items, items_from, tokens_items, whole_line, tree_of};
 
 use crate::item::{Item, LineFaultKind, Said};
+use crate::mnemonics::named;
 use crate::spans::{column_at, line_of, read_line, read_places, width_between};
 use crate::tree::{SyntaxTree, TreeFault};
 use annotated_asm::assembler::MOST_TEXT;
@@ -115,6 +118,42 @@ fn add_statement(
     }
 }
 
+/// Whether a token is a name that is no mnemonic.
+fn is_no_mnemonic(token: &Token) -> bool
+    ensures { result ≡ is_no_mnemonic token.now }
+{
+    match token {
+        Token::Name(name) => named(name.bytes()).is_none(),
+        _ => false,
+    }
+}
+
+/// Whether tokens begin with one, so that they spell no statement of any section.
+fn begins_nothing(tokens: &[Token]) -> bool
+    ensures { result ≡ begins_nothing tokens.now }
+{
+    match tokens {
+        [first, ..] => is_no_mnemonic(first),
+        [] => false,
+    }
+}
+
+/// The statement that tokens spell in a section, or its first fault. Of a text without end most lines begin with no
+/// mnemonic: such a line is sought in a short list.
+#[tactic(auto, using(crate::proofs::NoMnemonic::nothing_begun))]
+fn statement_in(
+    alloc: Global,
+    section: Section,
+    tokens: &[Token],
+) -> Result<Statement, StatementError>
+    ensures { Gives (λ statement. statement) result (statement_of section tokens.now) }
+{
+    if begins_nothing(tokens) {
+        return Err(StatementError::Fault(StatementFault::Mnemonic));
+    }
+    statement_of(alloc, section, tokens)
+}
+
 /// Adds the items of a line of these tokens, and returns the section after it.
 #[tactic(auto, unfolding(crate::specs::Trees::tokens_items))]
 fn add_tokens(
@@ -131,7 +170,7 @@ fn add_tokens(
     ensures added { OnOk result (items.new.items ≡ items.old.items ++ tokens_items line section spans.now tokens.now) }
 {
     let (rest, number) = add_labels(items, line, section, spans, tokens)?;
-    match statement_of(alloc, section, rest) {
+    match statement_in(alloc, section, rest) {
         Ok(statement) => {
             let next = section_after(section, &statement);
             add_statement(items, line, section, spans, number, statement)?;

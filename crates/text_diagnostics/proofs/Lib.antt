@@ -1,2 +1,3 @@
 mod ToldFaults
 pub mod Refused
+pub mod NoDot

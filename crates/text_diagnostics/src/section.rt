@@ -71,9 +71,13 @@ pub(crate) fn reads(alloc: Global, section: Section, line: &[u8]) -> Result<bool
 }
 
 /// The section that a word names, if only in other assemblers.
+#[tactic(auto, using(crate::proofs::NoDot::no_dot))]
 fn section_named(word: &[u8]) -> Option<Section>
     ensures { result ≡ section_named word.now }
 {
+    if !word.starts_with(b".") {
+        return None;
+    }
     if word == ".text".as_bytes() || word == ".ktext".as_bytes() {
         return Some(Section::Text);
     }
