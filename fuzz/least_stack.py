@@ -5,7 +5,7 @@
 
 The system puts arguments and environment on the stack of the main thread, so they count for `ulimit -s`. Each command
 is run with three sizes of the environment, some times each, since the system draws where the stack begins: up to 8 KiB
-below its top. The limit is N KiB, by default 192, and what arguments and environment take. Another answer ends the
+below its top. The limit is N KiB, by default 200, and what arguments and environment take. Another answer ends the
 script with status 1. `--search` prints instead the least limit that suffices, and how much of it is not theirs.
 
 Needs python3 and Linux.
@@ -75,7 +75,7 @@ def cases(program):
 def main():
     parser = argparse.ArgumentParser(description=__doc__.splitlines()[0])
     parser.add_argument("program", type=pathlib.Path)
-    parser.add_argument("--kib", default=192, type=int)
+    parser.add_argument("--kib", default=200, type=int)
     parser.add_argument("--times", default=20, type=int)
     parser.add_argument("--search", action="store_true")
     args = parser.parse_args()
