@@ -2,3 +2,4 @@ pub mod SetLemmas
 pub mod ProductLemmas
 pub mod SpareLemmas
 pub mod RowLemmas
+pub mod ByLength

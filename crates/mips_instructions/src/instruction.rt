@@ -489,9 +489,30 @@ impl Mnemonic {
     pub fn named(word: &[u8]) -> Option<Mnemonic>
         ensures { result ≡ mnemonic_named word.now mnemonics }
     {
-        named_in(&MNEMONICS, word)
+        match word.len() {
+            1 => named_in(&OF_ONE, word),
+            2 => named_in(&OF_TWO, word),
+            _ => named_in(&MNEMONICS, word),
+        }
     }
 }
+
+/// The mnemonics of one letter: they are sought alone, since a text may have millions of lines of one letter.
+const OF_ONE: [Mnemonic; 1] = [Mnemonic::Jump];
+
+/// Those of two letters.
+const OF_TWO: [Mnemonic; 10] = [
+    Mnemonic::Three(ThreeKind::Or),
+    Mnemonic::Load(LoadKind::Lw),
+    Mnemonic::Load(LoadKind::Lh),
+    Mnemonic::Load(LoadKind::Lb),
+    Mnemonic::Store(StoreKind::Sw),
+    Mnemonic::Store(StoreKind::Sh),
+    Mnemonic::Store(StoreKind::Sb),
+    Mnemonic::JumpReg,
+    Mnemonic::LoadImmediate,
+    Mnemonic::LoadAddress,
+];
 
 /// The one of these mnemonics that has this word.
 fn named_in(mnemonics: &[Mnemonic], word: &[u8]) -> Option<Mnemonic>
