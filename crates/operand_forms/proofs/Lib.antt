@@ -12,3 +12,4 @@ pub mod FirstUnfit
 pub mod TextsNamed
 pub mod CodeLines
 mod Doubled
+pub mod NoDot

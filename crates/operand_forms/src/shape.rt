@@ -1,7 +1,7 @@
 //! What operands each statement takes.
 
 ghost use Rattle.std.specs.Prelude.{◌≡◌, map};
-ghost use Rattle.operand_forms.specs.Shapes.{shape_in, shape_of, instruction_text, form_text, takes_none, range_of, range_text};
+ghost use Rattle.operand_forms.specs.Shapes.{directives, shape_in, shape_of, instruction_text, form_text, takes_none, range_of, range_text};
 
 use mips_instructions::instruction::{Form, Mnemonic};
 
@@ -57,6 +57,17 @@ fn shape_in(rows: &[(&'static str, OperandShape)], word: &[u8]) -> Option<Operan
     None
 }
 
+/// What operands follow this word, if it is a directive. Most words have no dot: they are not compared.
+#[tactic(auto, using(crate::proofs::NoDot::no_directive))]
+fn directive_shape(word: &[u8]) -> Option<OperandShape>
+    ensures { result ≡ shape_in word.now directives }
+{
+    if !word.starts_with(b".") {
+        return None;
+    }
+    shape_in(&DIRECTIVES, word)
+}
+
 /// What operands follow this word, if it begins a statement.
 #[tactic(auto, unfolding(crate::specs::Shapes::shape_of))]
 pub fn shape_of(word: &[u8]) -> Option<OperandShape>
@@ -64,7 +75,7 @@ pub fn shape_of(word: &[u8]) -> Option<OperandShape>
 {
     match Mnemonic::named(word) {
         Some(mnemonic) => Some(OperandShape::Instruction(mnemonic.form())),
-        None => shape_in(&DIRECTIVES, word),
+        None => directive_shape(word),
     }
 }
 

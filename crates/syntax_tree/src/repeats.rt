@@ -38,10 +38,10 @@ fn add_task(alloc: Global, tasks: &mut Firsts, number: usize, said: &Said) -> Re
 }
 
 /// The tasks of a text, each with the number of the first item of its name.
-fn tasks_in(alloc: Global, items: &[Item]) -> Result<Firsts, AllocError>
+fn tasks_in(alloc: Global, items: &[Item], key: NameKey) -> Result<Firsts, AllocError>
     ensures { IfOk result (λ tasks. tasks ≡ tasks_in items.now) }
 {
-    let mut tasks = Firsts::new(alloc, NameKey::of(items));
+    let mut tasks = Firsts::new(alloc, key);
     for (number, item) in items.iter().enumerate() {
         add_task(alloc, &mut tasks, number, &item.said)?;
     }
@@ -63,9 +63,10 @@ fn start_in(items: &[Item]) -> Option<usize>
 pub fn defined_in(alloc: Global, items: &[Item]) -> Result<Defined, AllocError>
     ensures { IfOk result (λ defined. defined ≡ defined_in items.now) }
 {
+    let key = NameKey::of(items);
     Ok(Defined {
-        labels: labels_in(alloc, items)?,
-        tasks: tasks_in(alloc, items)?,
+        labels: labels_in(alloc, items, key)?,
+        tasks: tasks_in(alloc, items, key)?,
         start: start_in(items),
     })
 }

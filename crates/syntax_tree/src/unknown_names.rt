@@ -55,10 +55,10 @@ fn add_label(
 }
 
 /// The labels of a text, each with the number of the first item of its name.
-pub(crate) fn labels_in(alloc: Global, items: &[Item]) -> Result<Firsts, AllocError>
+pub(crate) fn labels_in(alloc: Global, items: &[Item], key: NameKey) -> Result<Firsts, AllocError>
     ensures { IfOk result (λ labels. labels ≡ labels_in items.now) }
 {
-    let mut labels = Firsts::new(alloc, NameKey::of(items));
+    let mut labels = Firsts::new(alloc, key);
     for (number, item) in items.iter().enumerate() {
         add_label(alloc, &mut labels, number, &item.said)?;
     }

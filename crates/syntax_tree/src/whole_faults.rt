@@ -2,12 +2,14 @@
 
 ghost use Rattle.std.specs.Prelude.{◌≡◌, ◌++◌, slice_get, IfOk, OnOk};
 ghost use Rattle.mips_instructions.specs.Words.{has};
+ghost use Rattle.syntax_tree.specs.Amounts.{amounts};
+ghost use Rattle.syntax_tree.specs.UnknownNames.{labels_in};
 ghost use Rattle.syntax_tree.specs.WholeFaults.{is_passed, section_limit, task_limit, limit_passed, creates_zero, entry_at, entry_of, entry_said, task_entries};
 
-use crate::amounts::{Amounts, amounts_before, with_said};
+use crate::amounts::{Amounts, with_said};
 use crate::firsts::Firsts;
 use crate::item::{Item, Said};
-use crate::unknown_names::{is_code_label, labels_in};
+use crate::unknown_names::is_code_label;
 use mips_instructions::number::RegSet;
 use program_statements::statement::{Section, Statement, Task};
 use std::alloc::{AllocError, Global};
@@ -167,19 +169,25 @@ fn add_said(
     }
 }
 
-/// Where the tasks begin whose names are labels of code, in the order of the text.
+/// Where the tasks begin whose names are labels of code, in the order of the text. `labels` are those of the text, each
+/// with the number of the first item of its name, and `all` is how much stands before each item.
 ///
 /// # Errors
 ///
 /// `AllocError` where memory was refused.
-pub fn task_entries(alloc: Global, items: &[Item]) -> Result<Vec<TaskEntry>, AllocError>
+pub fn task_entries(
+    alloc: Global,
+    items: &[Item],
+    labels: &Firsts,
+    all: &[Amounts],
+) -> Result<Vec<TaskEntry>, AllocError>
+    requires labels { labels.now ≡ labels_in items.now }
+    requires all { all.now ≡ amounts items.now }
     ensures { IfOk result (λ found. found.items ≡ task_entries items.now) }
 {
-    let labels = labels_in(alloc, items)?;
-    let all = amounts_before(alloc, items)?;
     let mut found = Vec::new(alloc);
     for (number, item) in items.iter().enumerate() {
-        add_said(&mut found, items, &labels, &all, number, &item.said)?;
+        add_said(&mut found, items, labels, all, number, &item.said)?;
     }
     Ok(found)
 }

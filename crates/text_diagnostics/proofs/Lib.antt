@@ -1,2 +1,4 @@
 mod ToldFaults
 pub mod Refused
+pub mod NoDot
+pub mod NoEntries

@@ -3,6 +3,8 @@
 ghost use Rattle.std.specs.Prelude.{◌≡◌, take, length, IfOk};
 ghost use Rattle.std.specs.List.{list_any};
 ghost use Rattle.syntax_tree.specs.ProgramItems.{code_items};
+ghost use Rattle.syntax_tree.specs.Amounts.{amounts};
+ghost use Rattle.syntax_tree.specs.UnknownNames.{labels_in};
 ghost use Rattle.syntax_tree.specs.WholeFaults.{task_entries};
 ghost use Rattle.text_diagnostics.specs.Knowledge.{is_task, is_fault, is_unplaced_said, is_unplaced, has_unplaced, known_in};
 
@@ -102,10 +104,17 @@ fn code_count(alloc: Global, items: &[Item]) -> Result<usize, AllocError>
 }
 
 /// Where the first tasks begin.
-fn first_entries(alloc: Global, items: &[Item]) -> Result<Vec<TaskEntry>, AllocError>
+fn first_entries(
+    alloc: Global,
+    items: &[Item],
+    labels: &Firsts,
+    all: &[Amounts],
+) -> Result<Vec<TaskEntry>, AllocError>
+    requires labels { labels.now ≡ labels_in items.now }
+    requires all { all.now ≡ amounts items.now }
     ensures { IfOk result (λ entries. entries.items ≡ take 1024 (task_entries items.now)) }
 {
-    let mut entries = task_entries(alloc, items)?;
+    let mut entries = task_entries(alloc, items, labels, all)?;
     entries.truncate(MOST_TASKS);
     Ok(entries)
 }
@@ -117,10 +126,12 @@ pub(crate) fn known_in(alloc: Global, items: &[Item]) -> Result<Known, AllocErro
 {
     let defined = defined_in(alloc, items)?;
     let is_placed = !has_unplaced(items, &defined);
+    let amounts = amounts_before(alloc, items)?;
+    let entries = first_entries(alloc, items, &defined.labels, &amounts)?;
     Ok(Known {
         defined,
-        amounts: Listed::new(amounts_before(alloc, items)?),
-        entries: Listed::new(first_entries(alloc, items)?),
+        amounts: Listed::new(amounts),
+        entries: Listed::new(entries),
         code: code_count(alloc, items)?,
         has_task: has_task(items),
         is_placed,

@@ -221,10 +221,14 @@ fn entry_by(known: &Known, number: usize, own: Option<&TaskEntry>) -> Option<(Ki
     beside(number, first_at(known.entries.as_slice(), own.entry))
 }
 
-/// How the task of an item begins where it should not.
+/// How the task of an item begins where it should not. In a text without tasks no name is looked up.
+#[tactic(auto, using(crate::proofs::NoEntries::no_entries))]
 fn bad_entry(known: &Known, number: usize, said: &Said) -> Option<(Kind, usize)>
     ensures { result ≡ bad_entry known.now number said.now }
 {
+    if known.entries.as_slice().is_empty() {
+        return None;
+    }
     if !known.is_read || repeated(&known.defined, number, said).is_some() {
         return None;
     }

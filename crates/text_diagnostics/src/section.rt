@@ -70,10 +70,14 @@ pub(crate) fn reads(alloc: Global, section: Section, line: &[u8]) -> Result<bool
     Ok(fault_in(alloc, section, line)?.is_none())
 }
 
-/// The section that a word names, if only in other assemblers.
+/// The section that a word names, if only in other assemblers. Most words have no dot: they are not compared.
+#[tactic(auto, using(crate::proofs::NoDot::no_dot))]
 fn section_named(word: &[u8]) -> Option<Section>
     ensures { result ≡ section_named word.now }
 {
+    if !word.starts_with(b".") {
+        return None;
+    }
     if word == ".text".as_bytes() || word == ".ktext".as_bytes() {
         return Some(Section::Text);
     }
