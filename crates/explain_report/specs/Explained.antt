@@ -10,8 +10,10 @@ use Rattle.text_diagnostics.specs.Refusals.{refusal}
 use Rattle.mark_diagnostics.specs.Errors.{AreMarkErrors}
 use Rattle.mark_diagnostics.specs.Warnings.{AreMarkWarnings}
 use Rattle.input_diagnostics.specs.declared.mistaken.Mistaken.{Mistaken}
-use Rattle.input_diagnostics.specs.MistakenTexts.{mistaken_kind, mistaken_error}
-use Rattle.input_diagnostics.specs.ScriptErrors.{script_errors}
+use Rattle.diagnostics.specs.declared.diagnostic.Source.TheVariants.{Program}
+use Rattle.input_diagnostics.specs.Advice.{IsErrorIn}
+use Rattle.input_diagnostics.specs.MistakenTexts.{mistaken_kind}
+use Rattle.input_diagnostics.specs.ScriptErrors.{AreScriptErrors}
 use Rattle.explain_report.specs.declared.explanation.Explanation.{Explanation}
 use Rattle.explain_report.specs.Beside.{IsCertificateSaid, is_silent}
 use Rattle.explain_report.specs.Order.{in_order}
@@ -26,10 +28,10 @@ abbrev pub AreWarned : (asked : Bool) → (text : List ℕ) → Listing → List
 AreWarned false text p said = said ≡ []
 AreWarned true text p said = (least : List (List (ℕ × ℕ))) × IsLeast p least × AreMarkWarnings text p least said
 
--- what is wrong with the text of an event script for a program, if a file of one is named
-abbrev pub script_said : (file : Option (List ℕ)) → Listing → (script : List ℕ) → List Diagnostic
-script_said None p script = []
-script_said (Some name) p script = script_errors p script
+-- what is said of the text of an event script for a program, if a file of one is named
+abbrev pub IsScriptSaid : (file : Option (List ℕ)) → Listing → (script : List ℕ) → List Diagnostic → Type 0
+IsScriptSaid None p script said = said ≡ []
+IsScriptSaid (Some name) p script said = AreScriptErrors p script said
 
 -- The diagnostics for a program: for its marks, the certificate, and the script. What could be better about marks is
 -- reported only where none is wrong, and leaves the status as it is.
@@ -39,24 +41,28 @@ pub record IsProgramExplained (cert_file script_file : Option (List ℕ)) (warni
   pub warned : List Diagnostic
   pub better : AreWarned (warnings && is_silent errors) text p warned
   pub beside : List Diagnostic
-  pub certified : IsCertificateSaid cert_file text p certificate beside
-  pub said : e.said ≡ in_order (errors ++ (warned ++ (beside ++ script_said script_file p script)))
+  pub certified : IsCertificateSaid cert_file p certificate beside
+  pub scripted : List Diagnostic
+  pub played : IsScriptSaid script_file p script scripted
+  pub said : e.said ≡ in_order (errors ++ (warned ++ (beside ++ scripted)))
   pub marked : e.has_wrong_marks ≡ not (is_silent errors)
-  pub status : e.status ≡ said_status (errors ++ (beside ++ script_said script_file p script))
+  pub status : e.status ≡ said_status (errors ++ (beside ++ scripted))
 
--- the diagnostics for a text that spells no program: only what it is, if it begins as a certificate or a script of
--- events does
-abbrev pub refused_by : Option Mistaken → (text : List ℕ) → AsmFault → List Diagnostic
-refused_by None text fault = refusal text fault
-refused_by (Some kind) text fault = mistaken_error kind text ∷ []
+-- The diagnostics for a text that spells no program: only what it is, if it begins as a certificate or a script of
+-- events does.
+abbrev pub IsRefusedBy : Option Mistaken → (text : List ℕ) → AsmFault → List Diagnostic → Type 0
+IsRefusedBy None text fault said = said ≡ refusal text fault
+IsRefusedBy (Some kind) text fault said = (d : Diagnostic) × IsErrorIn Program 1 d × (said ≡ d ∷ [])
 
-abbrev pub refused_said : (text : List ℕ) → AsmFault → List Diagnostic
-refused_said text fault = refused_by (mistaken_kind text) text fault
+pub record IsRefusedSaid (text : List ℕ) (fault : AsmFault) (e : Explanation) : Type 0 where
+  pub errors : List Diagnostic
+  pub wrong : IsRefusedBy (mistaken_kind text) text fault errors
+  pub is : e ≡ record { said = in_order errors; has_wrong_marks = false; status = 1 }
 
 abbrev pub IsReadExplained : (cert_file script_file : Option (List ℕ)) → (warnings : Bool) → (text certificate script : List ℕ) → Result Listing AsmFault → Explanation → Type 0
 IsReadExplained cert_file script_file warnings text certificate script (Ok p) e =
     IsProgramExplained cert_file script_file warnings text certificate script p e
-IsReadExplained cert_file script_file warnings text certificate script (Err fault) e = e ≡ record { said = in_order (refused_said text fault); has_wrong_marks = false; status = 1 }
+IsReadExplained cert_file script_file warnings text certificate script (Err fault) e = IsRefusedSaid text fault e
 
 -- the diagnostics for a program text, with warnings or without, and for a certificate and a script, if a file of one
 -- is named

@@ -4,4 +4,3 @@ pub mod Order
 pub mod Explained
 pub mod ExplainText
 pub mod LeftOvers
-pub mod Examples

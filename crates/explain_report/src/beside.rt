@@ -1,22 +1,17 @@
 //! What `explain` says of a certificate that is given beside a program.
-ghost use Rattle.std.specs.Prelude.{◌≡◌, ◌++◌, length, Ok, IfOk};
+ghost use Rattle.std.specs.Prelude.{◌≡◌, ◌↔◌, ◌≤◌, ◌++◌, [], length, Ok, IfOk};
 ghost use Rattle.std.specs.Option.{option_map};
 ghost use Rattle.std.specs.String.{string_bytes};
 ghost use Rattle.annotated_asm.specs.ProgramText.{parse};
 ghost use Rattle.mask_certificate.specs.CertificateReading.{cert_parse, names_of};
 ghost use Rattle.mark_checker.specs.Rules.{all_rules};
 ghost use Rattle.annotator.specs.Least.{IsLeast};
-ghost use Rattle.input_diagnostics.specs.CertificateErrors.{certificate_errors};
-ghost use Rattle.program_tokens.specs.Lines.{lines};
-ghost use Rattle.explain_report.specs.Inputs.{ArePlaces};
-ghost use Rattle.explain_report.specs.Beside.{IsCertificateSaid, IsFileSaid, IsFitSaid, IsFurtherSaid, is_silent, more_message, unfit_errors, unfit_message};
+ghost use Rattle.input_diagnostics.specs.CertificateErrors.{AreCertificateErrors};
+ghost use Rattle.explain_report.specs.Beside.{IsCertificateSaid, IsFileSaid, IsFitSaid, IsFurtherSaid, is_silent};
 
 use crate::inputs::{lines_of, spans_in};
-use diagnostics::diagnostic::{Diagnostic, Span};
-use diagnostics::words;
-use diagnostics::words::Words;
-use input_diagnostics::certificate::certificate_errors;
-use input_diagnostics::program_lines::ProgramLines;
+use diagnostics::diagnostic::Diagnostic;
+use input_diagnostics::certificate::{ProgramLines, certificate_errors};
 use input_diagnostics::unfit::unfit_error;
 use mark_checker::check::verdict;
 use mark_checker::finding::Finding;
@@ -37,7 +32,7 @@ pub(crate) fn certificate_said(
 ) -> Result<Vec<Diagnostic>, AllocError>
     requires spelled { parse text.now ≡ Ok program.now }
     requires least { IsLeast program.now least.now }
-    ensures { IfOk result (λ list. IsCertificateSaid (option_map string_bytes file.now) text.now
+    ensures { IfOk result (λ list. IsCertificateSaid (option_map string_bytes file.now)
         program.now certificate.now list.items) }
 {
     match file {
@@ -77,31 +72,19 @@ fn file_said(
 ) -> Result<Vec<Diagnostic>, AllocError>
     requires spelled { parse text.now ≡ Ok program.now }
     requires least { IsLeast program.now least.now }
-    ensures { IfOk result (λ list. IsFileSaid text.now program.now certificate.now list.items) }
+    ensures { IfOk result (λ list. IsFileSaid program.now certificate.now list.items) }
 {
     let code = spans_in(alloc, text, program)?;
-    let alone = alone_said(alloc, text, &code, program, least, certificate)?;
+    let rows = lines_of(alloc, text)?;
+    let lines = ProgramLines {
+        rows: &rows,
+        code: &code,
+    };
+    let alone = certificate_errors(alloc, certificate, program, lines, least)?;
     let silent = is_silent(&alone);
     let further = further_said(alloc, silent, program, least, certificate)?;
     let list = both(alone, further)?;
     Ok(list)
-}
-
-// What is wrong with the text of a certificate alone.
-fn alone_said(
-    alloc: Global,
-    text: &[u8],
-    code: &[Span],
-    program: &Program,
-    least: &Cert,
-    certificate: &[u8],
-) -> Result<Vec<Diagnostic>, AllocError>
-    ensures { IfOk result (λ list. list.items
-        ≡ certificate_errors program.now (record { rows = lines text.now; code = code.now }) least.now certificate.now) }
-{
-    let rows = lines_of(alloc, text)?;
-    let lines = ProgramLines::new(&rows, code);
-    certificate_errors(alloc, certificate, program, &lines, least)
 }
 
 // The diagnostics for a certificate beside the program's marks, where nothing is wrong with it alone.
@@ -130,7 +113,7 @@ fn fit_said(
     certificate: &[u8],
 ) -> Result<Vec<Diagnostic>, AllocError>
     requires { IsLeast program.now least.now }
-    ensures { IfOk result (λ list. IsFitSaid program.now certificate.now
+    ensures { IfOk result (λ list. IsFitSaid program.now
         (cert_parse certificate.now (names_of program.now)) list.items) }
 {
     match read(alloc, certificate, program) {
@@ -149,7 +132,7 @@ fn compared(
     cert: &Cert,
 ) -> Result<Vec<Diagnostic>, AllocError>
     requires { IsLeast program.now least.now }
-    ensures { IfOk result (λ list. IsFitSaid program.now text.now (Ok cert.now) list.items) }
+    ensures { IfOk result (λ list. IsFitSaid program.now (Ok cert.now) list.items) }
 {
     // Counted first, so that the two lists of findings never take memory together.
     let wanted = count(alloc, program, least)?;
@@ -177,34 +160,11 @@ fn unfit_errors(
     findings: &[Finding],
     wanted: usize,
 ) -> Result<Vec<Diagnostic>, AllocError>
-    ensures { IfOk result (λ list. list.items ≡ unfit_errors program.now text.now cert.now least.now findings.now wanted) }
+    ensures { IfOk result (λ list. (list.items ≡ []) ↔ (length findings.now ≤ wanted)) }
 {
     let mut list = Vec::new(alloc);
     if wanted < findings.len() {
-        let message = unfit_message(alloc, findings.len(), wanted)?;
-        let said = unfit_error(alloc, program, text, cert, least, findings, message)?;
-        list.push(said)?;
+        list.push(unfit_error(alloc, program, text, cert, least, findings, wanted)?)?;
     }
     Ok(list)
-}
-
-// How many findings the checker has with a certificate, and with the least one.
-fn more_message(alloc: Global, found: usize, least: usize) -> Result<Words, AllocError>
-    ensures { IfOk result (λ words. words ≡ more_message found least) }
-{
-    words!(in alloc; "a mask in this certificate is too large: check finds {found} faults with it, {least} with the least one")
-}
-
-// That the marks are right, or how many findings the checker has with a certificate, and with the least one.
-fn unfit_message(alloc: Global, found: usize, least: usize) -> Result<Words, AllocError>
-    ensures { IfOk result (λ words. words ≡ unfit_message found least) }
-{
-    if least == 0 {
-        Words::of(
-            alloc,
-            "the marks are right; a mask in this certificate is too large",
-        )
-    } else {
-        more_message(alloc, found, least)
-    }
 }

@@ -1,13 +1,13 @@
 //! What `explain` says, as diagnostics, of which each form is made.
-ghost use Rattle.std.specs.Prelude.{◌≡◌, ◌&&◌, ◌++◌, ◌∷◌, [], Ok, not, false, true, IfOk};
+ghost use Rattle.std.specs.Prelude.{◌≡◌, ◌&&◌, ◌++◌, Ok, Some, not, true, IfOk};
 ghost use Rattle.std.specs.Option.{option_map};
 ghost use Rattle.std.specs.String.{string_bytes};
 ghost use Rattle.annotated_asm.specs.ProgramText.{parse};
 ghost use Rattle.annotator.specs.Least.{IsLeast};
 ghost use Rattle.text_diagnostics.specs.Refusals.{refusal};
-ghost use Rattle.input_diagnostics.specs.MistakenTexts.{mistaken_error};
+ghost use Rattle.input_diagnostics.specs.MistakenTexts.{mistaken_kind};
 ghost use Rattle.explain_report.specs.Beside.{IsCertificateSaid, is_silent};
-ghost use Rattle.explain_report.specs.Explained.{AreWarned, IsExplained, IsProgramExplained, refused_said, said_status, script_said};
+ghost use Rattle.explain_report.specs.Explained.{AreWarned, IsExplained, IsProgramExplained, IsRefusedBy, IsRefusedSaid, IsScriptSaid, said_status};
 ghost use Rattle.explain_report.specs.Order.{in_order};
 
 use crate::beside::{both, certificate_said, is_silent};
@@ -65,28 +65,35 @@ pub fn explained(
 
 // What is wrong with a text that spells no program: only what it is, if it begins as a certificate or a script of events does.
 fn refused_said(alloc: Global, text: &[u8], fault: AsmFault) -> Result<Vec<Diagnostic>, AllocError>
-    ensures { IfOk result (λ list. list.items ≡ refused_said text.now fault) }
+    ensures { IfOk result (λ list. IsRefusedBy (mistaken_kind text.now) text.now fault list.items) }
 {
     match mistaken_kind(text) {
-        Some(kind) => mistaken_said(alloc, kind, text),
+        Some(kind) => mistaken_said(alloc, kind, text, fault),
         None => refusal(alloc, text, fault),
     }
 }
 
 // The diagnostic for a certificate or a script of events, as the only one.
-fn mistaken_said(alloc: Global, kind: Mistaken, text: &[u8]) -> Result<Vec<Diagnostic>, AllocError>
-    ensures { IfOk result (λ list. list.items ≡ mistaken_error kind text.now ∷ []) }
+fn mistaken_said(
+    alloc: Global,
+    kind: Mistaken,
+    text: &[u8],
+    fault: AsmFault,
+) -> Result<Vec<Diagnostic>, AllocError>
+    ensures { IfOk result (λ list. IsRefusedBy (Some kind) text.now fault list.items) }
 {
+    let said = mistaken_error(alloc, kind, text)?;
     let mut list = Vec::new(alloc);
-    list.push(mistaken_error(alloc, kind, text)?)?;
+    list.push(said)?;
     Ok(list)
 }
 
 // The diagnostics for a text that spells no program.
 fn refusal_explained(alloc: Global, text: &[u8], fault: AsmFault) -> Result<Explanation, AllocError>
-    ensures { IfOk result (λ explained. explained ≡ record { said = in_order (refused_said text.now fault); has_wrong_marks = false; status = 1 }) }
+    ensures { IfOk result (IsRefusedSaid text.now fault) }
 {
-    let said = in_order(alloc, refused_said(alloc, text, fault)?)?;
+    let errors = refused_said(alloc, text, fault)?;
+    let said = in_order(alloc, errors)?;
     Ok(Explanation {
         said: Listed::new(said),
         has_wrong_marks: false,
@@ -126,7 +133,7 @@ fn script_said(
     program: &Program,
     script: &[u8],
 ) -> Result<Vec<Diagnostic>, AllocError>
-    ensures { IfOk result (λ list. list.items ≡ script_said (option_map string_bytes file.now) program.now script.now) }
+    ensures { IfOk result (λ list. IsScriptSaid (option_map string_bytes file.now) program.now script.now list.items) }
 {
     match file {
         Some(_) => script_errors(alloc, script, program),

@@ -1,3 +1,1 @@
 pub mod Silence
-pub mod Indices
-pub mod Steps

@@ -1,11 +1,4 @@
-pub mod Saying
-pub mod Meant
-pub mod ScriptErrors
-pub mod MistakenTexts
-pub mod RefusedCertificates
-pub mod Larger
-pub mod Misfits
-pub mod Stale
-pub mod Unfit
+pub mod Advice
 pub mod CertificateErrors
-pub mod Examples
+pub mod MistakenTexts
+pub mod ScriptErrors

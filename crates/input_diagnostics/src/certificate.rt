@@ -1,19 +1,26 @@
 //! What is wrong with a certificate that is given beside a program.
 
-ghost use Rattle.std.specs.Prelude.{◌≡◌, ◌↔◌, [], IfOk};
-ghost use Rattle.mask_certificate.specs.CertificateReading.{cert_parse, names_of};
-ghost use Rattle.input_diagnostics.specs.CertificateErrors.{certificate_errors, Serves};
+ghost use Rattle.std.specs.Prelude.{IfOk};
+ghost use Rattle.input_diagnostics.specs.CertificateErrors.{AreCertificateErrors};
 
-use crate::compared::Compared;
-use crate::program_lines::ProgramLines;
+use crate::masks::{Compared, own_findings};
 use crate::refused::{digits_in, refused_error};
-use crate::stale::fit_errors;
-use diagnostics::diagnostic::Diagnostic;
+use diagnostics::diagnostic::{Diagnostic, Span};
 use mask_certificate::certificate::Cert;
 use mask_certificate::fault::CertFault;
 use mask_certificate::reading::read;
 use std::alloc::{AllocError, Global};
 use task_descriptor::program::Program;
+
+/// The lines of a program text, each without its LF, and where each instruction stands in them, index 0 first; of a
+/// place that is missing no line is named.
+#[derive(Clone, Copy)]
+pub struct ProgramLines<'a> {
+    /// The lines.
+    pub rows: &'a [&'a [u8]],
+    /// The places.
+    pub code: &'a [Span],
+}
 
 /// What is wrong with the text of a certificate that is given beside a program, of which these are the lines and the least
 /// certificate: why the text is refused; or that it is of another text, where a task has another number of instructions; or an
@@ -24,24 +31,32 @@ use task_descriptor::program::Program;
 /// # Errors
 ///
 /// `AllocError` where memory was refused.
-#[tactic(auto, using(crate::proofs::Silence::refused_said))]
-pub fn certificate_errors(
+pub fn certificate_errors<'x>(
     alloc: Global,
     text: &[u8],
-    program: &Program,
-    lines: &ProgramLines<'_>,
-    least: &Cert,
+    program: &'x Program,
+    lines: ProgramLines<'x>,
+    least: &'x Cert,
 ) -> Result<Vec<Diagnostic>, AllocError>
-    ensures said { IfOk result (λ list. list.items ≡ certificate_errors program.now lines.now least.now text.now) }
-    ensures silent { IfOk result (λ list. (list.items ≡ []) ↔ Serves program.now (cert_parse text.now (names_of program.now))) }
+    ensures { IfOk result (λ list. AreCertificateErrors program.now text.now list.items) }
 {
     match read(alloc, text, program) {
         Ok(cert) => {
-            let compared = Compared::new(program, &cert, least, digits_in(text), lines);
-            let list = fit_errors(alloc, &compared)?;
+            let findings = own_findings(alloc, program, &cert)?;
+            let compared = Compared {
+                program,
+                cert: &cert,
+                least,
+                digits: digits_in(text),
+                lines,
+            };
+            let list = compared.errors(alloc, &findings)?;
             Ok(list)
         }
         Err(CertFault::OutOfMemory) => Err(AllocError),
-        Err(fault) => refused_error(alloc, program, text, fault),
+        Err(fault) => {
+            let list = refused_error(alloc, program, text, fault)?;
+            Ok(list)
+        }
     }
 }

@@ -1,17 +1,13 @@
-//! Diagnostics about the texts that stand beside a program: a certificate and an event script.
+//! Diagnostics about the texts that stand beside a program: a certificate and an event script. Each kind of mistake is a
+//! row of advice.
 #![tactic(auto)]
 
+mod advice;
 pub mod certificate;
-mod compared;
-mod larger;
 mod lines;
+mod masks;
 mod meant;
-mod misfit;
 pub mod mistaken;
-pub mod program_lines;
-pub mod refused;
-mod saying;
+mod refused;
 pub mod script;
-pub mod slip;
-mod stale;
 pub mod unfit;

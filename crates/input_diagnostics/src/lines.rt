@@ -1,31 +1,18 @@
 //! The lines of a text.
 
-ghost use Rattle.std.specs.Prelude.{◌≡◌, ◌==◌, map as each, IfOk};
-ghost use Rattle.std.specs.List.{ends_with};
-ghost use Rattle.event_script.specs.EventScript.{lines};
-ghost use Rattle.input_diagnostics.specs.Saying.{row_at};
-
-use event_script::reading::next_line;
 use std::alloc::{AllocError, Global};
 
 /// The lines of a text, each without its LF, which the last may lack.
-pub(crate) fn lines_of(alloc: Global, text: &[u8]) -> Result<Vec<&[u8]>, AllocError>
-    ensures { IfOk result (λ list. each (λ line. line.now) list.items ≡ lines text.now) }
-{
+pub(crate) fn lines_of(alloc: Global, text: &[u8]) -> Result<Vec<&[u8]>, AllocError> {
     let mut list = Vec::new(alloc);
-    let mut rest = text;
-    while !rest.is_empty() {
-        let (line, behind) = next_line(rest);
-        list.push(line)?;
-        rest = behind;
+    for line in text.split_inclusive(|byte| *byte == b'\n') {
+        list.push(line.strip_suffix(b"\n").unwrap_or(line))?;
     }
     Ok(list)
 }
 
 /// The line of this number, counted from 1; nothing where there is none.
-pub(crate) fn row_at<'a>(rows: &[&'a [u8]], number: usize) -> &'a [u8]
-    ensures { result.now ≡ row_at (each (λ row. row.now) rows.now) number }
-{
+pub(crate) fn row_at<'a>(rows: &[&'a [u8]], number: usize) -> &'a [u8] {
     match rows.get(number.saturating_sub(1)) {
         Some(row) => row,
         None => &[],

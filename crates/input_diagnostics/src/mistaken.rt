@@ -3,17 +3,21 @@
 ghost use Rattle.std.specs.Prelude.{◌≡◌, map as each, IfOk};
 ghost use Rattle.std.specs.List.{list_any};
 ghost use Rattle.std.specs.Str.{bytes_eq};
-ghost use Rattle.input_diagnostics.specs.MistakenTexts.{first_row, mistaken_kind, mistaken_message, mistaken_help, mistaken_error};
+ghost use Rattle.diagnostics.specs.declared.diagnostic.Source.TheVariants.{Program};
+ghost use Rattle.input_diagnostics.specs.Advice.{IsErrorIn};
+ghost use Rattle.input_diagnostics.specs.MistakenTexts.{first_row, mistaken_kind};
 
-use crate::saying::{plain_error, span};
-use crate::script::VERBS;
+use crate::advice::{advice, span};
 use diagnostics::code::Code;
 use diagnostics::diagnostic::{Diagnostic, Source};
-use diagnostics::helps::in_words;
-use diagnostics::words::Words;
 use event_script::bad_line::first_word;
 use event_script::reading::next_line;
 use std::alloc::{AllocError, Global};
+
+/// The words that events begin with.
+pub(crate) const VERBS: [&str; 8] = [
+    "assign", "exec", "transfer", "drain", "squash", "retire", "fault", "drop",
+];
 
 /// What a text is that was given as a program.
 #[derive(Clone, Copy, Debug, PartialEq, Eq)]
@@ -60,36 +64,25 @@ pub fn mistaken_kind(text: &[u8]) -> Option<Mistaken>
     None
 }
 
-/// What a text is.
-fn mistaken_message(kind: Mistaken) -> &'static str
-    ensures { result.now ≡ mistaken_message kind }
-{
-    match kind {
-        Mistaken::Certificate => "this is a certificate, not a program",
-        Mistaken::Script => "this is a script of events, not a program",
-    }
-}
-
-/// The command that explains it.
-fn mistaken_help(kind: Mistaken) -> &'static str
-    ensures { result.now ≡ mistaken_help kind }
-{
-    match kind {
-        Mistaken::Certificate => "multiscalar explain PROGRAM --certificate FILE explains it",
-        Mistaken::Script => "multiscalar explain PROGRAM --script FILE explains it",
-    }
-}
-
 /// The diagnostic for a text that is no program, but a certificate or a script of events.
 ///
 /// # Errors
 ///
 /// `AllocError` where memory was refused.
 pub fn mistaken_error(alloc: Global, kind: Mistaken, text: &[u8]) -> Result<Diagnostic, AllocError>
-    ensures { IfOk result (λ said. said ≡ mistaken_error kind text.now) }
+    ensures { IfOk result (IsErrorIn Program 1) }
 {
-    let message = Words::of(alloc, mistaken_message(kind))?;
-    let help = in_words(alloc, Words::of(alloc, mistaken_help(kind))?);
+    let row = match kind {
+        Mistaken::Certificate => advice(
+            "this is a certificate, not a program",
+            "multiscalar explain PROGRAM --certificate FILE explains it",
+        ),
+        Mistaken::Script => advice(
+            "this is a script of events, not a program",
+            "multiscalar explain PROGRAM --script FILE explains it",
+        ),
+    };
     let at = span(1, 0, first_row(text).len());
-    Ok(plain_error(alloc, Source::Program, Code::Mnemonic, at, message, help))
+    let said = row.at(alloc, Source::Program, Code::Mnemonic, at, &[])?;
+    Ok(said)
 }

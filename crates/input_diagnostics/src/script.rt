@@ -1,22 +1,19 @@
 //! What is wrong with the text of an event script.
 
-ghost use Rattle.std.specs.Prelude.{◌≡◌, ◌↔◌, ◌<◌, ◌^◌, ◌++◌, ◌∷◌, [], if◌then◌else◌, length, map as each, false, slice_get, IfOk, OnOk};
-ghost use Rattle.std.specs.Option.{option_map};
-ghost use Rattle.event_script.specs.EventScript.{first_word, names_in, script_of, wrong_part};
-ghost use Rattle.event_script.specs.declared.fault.EventFault.TheVariants.{NoRegister};
-ghost use Rattle.diagnostics.specs.Helps.{by_text};
-ghost use Rattle.diagnostics.specs.declared.code.Code.TheVariants.{ScriptLine};
+ghost use Rattle.std.specs.Prelude.{◌≡◌, IfOk, IsSomeAnd, slice_get};
 ghost use Rattle.diagnostics.specs.declared.diagnostic.Source.TheVariants.{Script};
-ghost use Rattle.input_diagnostics.specs.Saying.{return_error};
-ghost use Rattle.input_diagnostics.specs.ScriptErrors.{form_help, verbs, part_span, slip_span, word_message, slip_message, meant_help, word_help, word_remedy, is_in_word, is_between, separator_help, event_text, exchanged_help, register_help, slip_help, code_of, line_error, ends_with_return, said_of, is_trace, trace_error, lines_errors, told_in, script_errors, IsRead};
+ghost use Rattle.input_diagnostics.specs.Advice.{IsErrorIn};
+ghost use Rattle.input_diagnostics.specs.ScriptErrors.{AreScriptErrors, BeginsWithFirst};
 
+use crate::advice::{
+    Group, MOST_SHOWN, Row, Slip, advice, alone, marked, mend, return_slip, separator, span,
+    stray_space,
+};
 use crate::lines::{lines_of, row_at};
-use crate::meant::{meant, names_of};
-use crate::saying::{MOST_SHOWN, plain_error, return_error, span};
-use crate::slip::{Slip, event_end, is_strict, slip_of};
+use crate::meant::{meant, names_of, register_meant};
+use crate::mistaken::VERBS;
 use diagnostics::code::Code;
-use diagnostics::diagnostic::{Diagnostic, Help, Source, Span};
-use diagnostics::helps::{by_text, in_words};
+use diagnostics::diagnostic::{Diagnostic, Source};
 use diagnostics::more::add_more;
 use diagnostics::quotation::{as_shown, quoted};
 use diagnostics::words;
@@ -27,432 +24,280 @@ use event_script::laws::refused_for_the_first;
 use std::alloc::{AllocError, Global};
 use task_descriptor::program::Program;
 
-/// The words that events begin with.
-pub(crate) const VERBS: [&str; 8] = [
-    "assign", "exec", "transfer", "drain", "squash", "retire", "fault", "drop",
+/// The words that events begin with, and how such an event is written.
+const EVENTS: [(&str, &str); 8] = [
+    ("assign", "write assign and the name of a task"),
+    ("exec", "write exec and a position, as in exec 0"),
+    (
+        "transfer",
+        "write transfer, a position and a register, as in transfer 1 $8",
+    ),
+    (
+        "drain",
+        "write drain, a position and a register, as in drain 0 $8",
+    ),
+    ("squash", "write squash and a position, as in squash 1"),
+    ("retire", "write retire alone"),
+    ("fault", "write fault alone"),
+    ("drop", "write drop and a position, as in drop 1"),
 ];
 
-/// What to do where a word can be the name of no task.
+/// How many bytes stand in front of the spaces before the first `:` or `#`.
+fn event_end(line: &[u8]) -> Option<usize> {
+    let end = line.iter().position(|byte| *byte == b':' || *byte == b'#')?;
+    let kept = line[..end].iter().rposition(|byte| *byte != b' ');
+    Some(kept.map_or(0, |last| last.saturating_add(1)))
+}
+
+/// What is wrong with a line that spells no event for this reason: the first that holds of an empty line, a byte order
+/// mark, what only `replay --strict` reads, a tab, a comma, a space too many, and a word.
+fn slip_of(
+    alloc: Global,
+    line: &[u8],
+    fault: EventFault,
+    is_near: bool,
+) -> Result<Slip, AllocError> {
+    let strict = if first_word(line) == b"step".as_slice() {
+        Some(0)
+    } else {
+        event_end(line)
+    };
+    if line.is_empty() {
+        return Ok(marked(0, 0, advice("the line is empty", "take the line out")));
+    }
+    if line.starts_with(b"\xef\xbb\xbf") {
+        let says = "the line begins with a byte order mark";
+        return Ok(marked(0, 3, mend(says, "remove it", "")));
+    }
+    if let Some(before) = strict {
+        let row = advice(
+            "expectations, comments and steps are for replay --strict",
+            "judge the script with replay --strict; to explain it, take them out of each line",
+        );
+        let width = line.len().saturating_sub(before);
+        return Ok(Slip {
+            before,
+            width,
+            row,
+            group: Group::Strict,
+        });
+    }
+    if let Some(before) = line.iter().position(|byte| *byte == b'\t') {
+        return Ok(separator(line, before, "an event has no tab"));
+    }
+    if let Some(before) = line.iter().position(|byte| *byte == b',') {
+        return Ok(separator(line, before, "an event has no comma"));
+    }
+    if let Some(before) = stray_space(line) {
+        return Ok(marked(
+            before,
+            1,
+            mend("one space too many", "remove this space", ""),
+        ));
+    }
+    let (before, word) = fault.part_of(line);
+    let is_register = register_meant(alloc, word)?.is_some();
+    if matches!(fault, EventFault::NoPosition) && is_register && is_number(third(line)) {
+        let says = "the position comes before the register";
+        let row = mend(says, "write {fix}", "{verb} {third} ${register}");
+        return Ok(marked(0, line.len(), row));
+    }
+    Ok(marked(
+        before,
+        word.len(),
+        word_row(fault, line, is_register, is_near),
+    ))
+}
+
+/// What is said of a word; `is_register`: it is a register's name in a program; `is_near`: it is nearly one that fits.
+fn word_row(fault: EventFault, line: &[u8], is_register: bool, is_near: bool) -> Row {
+    let form = form_help(first_word(line));
+    match fault {
+        EventFault::NoEvent if is_near => {
+            mend("{word} begins no event", "did you mean {fix}?", "{near}")
+        }
+        EventFault::NoTask if is_near => {
+            mend(
+                "the program has no task {word}",
+                "did you mean {fix}?",
+                "{near}",
+            )
+        }
+        EventFault::NoRegister if is_register => {
+            mend(
+                "an event names a register by its number",
+                "write {fix}",
+                "${register}",
+            )
+        }
+        EventFault::NoEvent => advice("{word} begins no event", form),
+        EventFault::TooFew => advice("a word is missing here", form),
+        EventFault::TooMany(_) => advice("this is more than the event takes", form),
+        EventFault::NoPosition => advice(
+            "{word} is not a position",
+            "write a number from 0 to 999 without leading zeros",
+        ),
+        EventFault::NoRegister => advice(
+            "{word} is not a register",
+            "write $ and the register's number, from $0 to $33, without leading zeros",
+        ),
+        EventFault::NoName => advice("{word} cannot be the name of a task", NAME_HELP),
+        EventFault::NoTask => advice("the program has no task {word}", NAME_HELP),
+    }
+}
+
 const NAME_HELP: &str = "write the name of a task of the program";
 
 /// How an event is written that begins with this word.
-fn form_help(verb: &[u8]) -> &'static str
-    ensures { result.now ≡ form_help verb.now }
-{
-    if verb == b"retire".as_slice() {
-        "write retire alone"
-    } else if verb == b"fault".as_slice() {
-        "write fault alone"
-    } else if verb == b"assign".as_slice() {
-        "write assign and the name of a task"
-    } else if verb == b"exec".as_slice() {
-        "write exec and a position, as in exec 0"
-    } else if verb == b"squash".as_slice() {
-        "write squash and a position, as in squash 1"
-    } else if verb == b"drop".as_slice() {
-        "write drop and a position, as in drop 1"
-    } else if verb == b"transfer".as_slice() {
-        "write transfer, a position and a register, as in transfer 1 $8"
-    } else if verb == b"drain".as_slice() {
-        "write drain, a position and a register, as in drain 0 $8"
-    } else {
-        "an event begins with assign, exec, transfer, drain, squash, retire, fault or drop"
-    }
+fn form_help(verb: &[u8]) -> &'static str {
+    let other = "an event begins with assign, exec, transfer, drain, squash, retire, fault or drop";
+    let event = EVENTS.iter().find(|event| event.0.as_bytes() == verb);
+    event.map_or(other, |event| event.1)
 }
 
-/// The part of a line that has a fault.
-fn part_span(number: usize, line: &[u8], fault: EventFault) -> Span
-    ensures { result ≡ part_span number (wrong_part fault line.now) }
-{
-    let (before, bytes) = fault.part_of(line);
-    span(number, before, bytes.len())
+/// The third word of a line.
+fn third(line: &[u8]) -> &[u8] {
+    EventFault::NoRegister.part_of(line).1
 }
 
-/// What is marked.
-fn slip_span(number: usize, line: &[u8], slip: Slip) -> Span
-    ensures { result ≡ slip_span number line.now slip }
-{
-    match slip {
-        Slip::Empty => span(number, 0, 0),
-        Slip::ByteOrderMark => span(number, 0, 3),
-        Slip::Strict(before) => span(number, before, line.len().saturating_sub(before)),
-        Slip::Tab(before) => span(number, before, 1),
-        Slip::Comma(before) => span(number, before, 1),
-        Slip::Space(before) => span(number, before, 1),
-        Slip::Named(_) => part_span(number, line, EventFault::NoRegister),
-        Slip::Exchanged(_) => span(number, 0, line.len()),
-        Slip::Word(fault) => part_span(number, line, fault),
-    }
+/// Whether a word is a position: 1 to 3 digits without leading zeros.
+fn is_number(word: &[u8]) -> bool {
+    (1..=3).contains(&word.len())
+        && !matches!(word, [b'0', _, ..])
+        && word.iter().all(|digit| digit.is_ascii_digit())
 }
 
-/// What is wrong with a word.
-fn word_message(alloc: Global, fault: EventFault, word: &[u8]) -> Result<Words, AllocError>
-    ensures { IfOk result (λ words. words ≡ word_message fault word.now) }
-{
-    let word = quoted(alloc, word)?;
-    match fault {
-        EventFault::NoEvent => words!(in alloc; "{word} begins no event"),
-        EventFault::TooFew => Words::of(alloc, "a word is missing here"),
-        EventFault::TooMany(_) => Words::of(alloc, "this is more than the event takes"),
-        EventFault::NoPosition => words!(in alloc; "{word} is not a position"),
-        EventFault::NoRegister => words!(in alloc; "{word} is not a register"),
-        EventFault::NoName => words!(in alloc; "{word} cannot be the name of a task"),
-        EventFault::NoTask => words!(in alloc; "the program has no task {word}"),
-    }
-}
-
-/// What is wrong.
-fn slip_message(alloc: Global, line: &[u8], slip: Slip) -> Result<Words, AllocError>
-    ensures { IfOk result (λ words. words ≡ slip_message line.now slip) }
-{
-    match slip {
-        Slip::Empty => Words::of(alloc, "the line is empty"),
-        Slip::ByteOrderMark => Words::of(alloc, "the line begins with a byte order mark"),
-        Slip::Strict(_) => Words::of(
-            alloc,
-            "expectations, comments and steps are for replay --strict",
-        ),
-        Slip::Tab(_) => Words::of(alloc, "an event has no tab"),
-        Slip::Comma(_) => Words::of(alloc, "an event has no comma"),
-        Slip::Space(_) => Words::of(alloc, "one space too many"),
-        Slip::Named(_) => Words::of(alloc, "an event names a register by its number"),
-        Slip::Exchanged(_) => Words::of(alloc, "the position comes before the register"),
-        Slip::Word(fault) => {
-            let (_, word) = fault.part_of(line);
-            word_message(alloc, fault, word)
-        }
-    }
-}
-
-/// What to do about a word: to write the one that is meant, if one is, or else these words.
-fn meant_help(alloc: Global, at: Span, words: &str, one: Option<&str>) -> Result<Help, AllocError>
-    ensures { IfOk result (λ help. help ≡ meant_help at words.now (option_map (λ one. one.now) one.entry)) }
-{
-    match one {
-        Some(one) => {
-            let message = words!(in alloc; "did you mean {one}?")?;
-            by_text(alloc, message, at, Words::of(alloc, one)?)
-        }
-        None => Ok(in_words(alloc, Words::of(alloc, words)?)),
-    }
-}
-
-/// What to do about a word.
-fn word_help(fault: EventFault, line: &[u8]) -> &'static str
-    ensures { result.now ≡ word_help fault line.now }
-{
-    match fault {
-        EventFault::NoPosition => "write a number from 0 to 999 without leading zeros",
-        EventFault::NoRegister => {
-            "write $ and the register's number, from $0 to $33, without leading zeros"
-        }
-        EventFault::NoName => NAME_HELP,
-        _ => form_help(first_word(line)),
-    }
-}
-
-/// What to do about a word that is wrong, missing, or too much.
-fn word_remedy(
+/// The word that is meant by a wrong verb or a wrong name; empty where none is.
+fn near_word(
     alloc: Global,
-    program: &Program,
-    at: Span,
-    line: &[u8],
+    names: &[&str],
+    word: &[u8],
     fault: EventFault,
-) -> Result<Help, AllocError>
-    ensures { IfOk result (λ help. help ≡ word_remedy program.now at line.now fault) }
-{
+) -> Result<Words, AllocError> {
     match fault {
-        EventFault::NoTask => {
-            let (_, word) = fault.part_of(line);
-            let names = names_of(alloc, program.tasks())?;
-            meant_help(alloc, at, NAME_HELP, meant(word, &names))
-        }
-        EventFault::NoEvent => {
-            let verb = first_word(line);
-            meant_help(alloc, at, form_help(verb), meant(verb, &VERBS))
-        }
-        _ => Ok(in_words(alloc, Words::of(alloc, word_help(fault, line))?)),
+        EventFault::NoTask => Words::of(alloc, meant(word, names).unwrap_or("")),
+        EventFault::NoEvent => Words::of(alloc, meant(word, &VERBS).unwrap_or("")),
+        _ => Words::of(alloc, ""),
     }
 }
 
-/// What to do about a part: to remove it, in these words.
-pub(crate) fn remove_help(alloc: Global, words: &str, at: Span) -> Result<Help, AllocError>
-    ensures { IfOk result (λ help. help ≡ by_text words.now at []) }
-{
-    let message = Words::of(alloc, words)?;
-    let nothing = Words::of(alloc, "")?;
-    by_text(alloc, message, at, nothing)
-}
-
-/// A byte of a line.
-fn byte_at(line: &[u8], place: usize) -> Option<u8>
-    ensures { result ≡ slice_get line.now place }
-{
-    line.get(place).copied()
-}
-
-/// Whether a byte is part of a word.
-fn is_in_word(byte: Option<u8>) -> bool
-    ensures { result ≡ is_in_word byte }
-{
-    match byte {
-        Some(byte) => !(byte == b' ' || byte == b'\t' || byte == b','),
-        None => false,
-    }
-}
-
-/// Whether a tab or a comma with `before` bytes in front of it separates two words.
-pub(crate) fn is_between(line: &[u8], before: usize) -> bool
-    ensures { result ≡ is_between line.now before }
-{
-    is_in_word(byte_at(line, before.saturating_sub(1)))
-        && is_in_word(byte_at(line, before.saturating_add(1)))
-}
-
-/// What to do about a tab or a comma.
-pub(crate) fn separator_help(alloc: Global, between: bool, at: Span) -> Result<Help, AllocError>
-    ensures { IfOk result (λ help. help ≡ separator_help between at) }
-{
-    if !between {
-        return remove_help(alloc, "remove it", at);
-    }
-    let message = Words::of(alloc, "write a space in its place")?;
-    by_text(alloc, message, at, Words::of(alloc, " ")?)
-}
-
-/// An event of a verb, a position and a register.
-fn event_text(
-    alloc: Global,
-    verb: &[u8],
-    position: &[u8],
-    register: u8,
-) -> Result<Words, AllocError>
-    ensures { IfOk result (λ words. words ≡ event_text verb.now position.now register) }
-{
-    let verb = as_shown(alloc, verb)?;
-    let position = as_shown(alloc, position)?;
-    words!(in alloc; "{verb} {position} ${register}")
-}
-
-/// What to do about a register in front of the position: to exchange them.
-fn exchanged_help(alloc: Global, at: Span, line: &[u8], register: u8) -> Result<Help, AllocError>
-    ensures { IfOk result (λ help. help ≡ exchanged_help at (first_word line.now) (wrong_part NoRegister line.now).bytes register) }
-{
-    let (_, position) = EventFault::NoRegister.part_of(line);
-    let text = event_text(alloc, first_word(line), position, register)?;
-    by_text(alloc, words!(in alloc; "write {text}")?, at, text)
-}
-
-/// What to do about a register's name.
-fn register_help(alloc: Global, at: Span, number: u8) -> Result<Help, AllocError>
-    ensures { IfOk result (λ help. help ≡ register_help at number) }
-{
-    let message = words!(in alloc; "write ${number}")?;
-    by_text(alloc, message, at, words!(in alloc; "${number}")?)
-}
-
-/// What to do.
-fn slip_help(
-    alloc: Global,
-    program: &Program,
-    at: Span,
-    line: &[u8],
-    slip: Slip,
-) -> Result<Help, AllocError>
-    ensures { IfOk result (λ help. help ≡ slip_help program.now at line.now slip) }
-{
-    match slip {
-        Slip::Empty => Ok(in_words(alloc, Words::of(alloc, "take the line out")?)),
-        Slip::ByteOrderMark => remove_help(alloc, "remove it", at),
-        Slip::Strict(_) => {
-            let words =
-                "judge the script with replay --strict; to explain it, take them out of each line";
-            Ok(in_words(alloc, Words::of(alloc, words)?))
-        }
-        Slip::Tab(before) => separator_help(alloc, is_between(line, before), at),
-        Slip::Comma(before) => separator_help(alloc, is_between(line, before), at),
-        Slip::Space(_) => remove_help(alloc, "remove this space", at),
-        Slip::Named(number) => register_help(alloc, at, number),
-        Slip::Exchanged(number) => exchanged_help(alloc, at, line, number),
-        Slip::Word(fault) => word_remedy(alloc, program, at, line, fault),
-    }
-}
-
-/// What a diagnostic is an instance of.
-fn code_of(fault: EventFault) -> Code
-    ensures { result ≡ code_of fault }
-{
-    match fault {
-        EventFault::NoTask => Code::ScriptTaskName,
-        _ => Code::ScriptLine,
-    }
-}
-
-/// The diagnostic for a line that spells no event.
+/// The error for a line that spells no event, and with which others it is told.
 fn line_error(
     alloc: Global,
-    program: &Program,
+    names: &[&str],
     line: &[u8],
     bad: &BadLine,
-) -> Result<Diagnostic, AllocError>
-    ensures { IfOk result (λ said. said ≡ line_error program.now line.now bad.now) }
+) -> Result<(Diagnostic, Group), AllocError>
+    ensures { IfOk result (λ said. IsErrorIn Script bad.now.line said.0) }
 {
-    let slip = slip_of(alloc, line, bad.fault)?;
-    let at = slip_span(bad.line, line, slip);
-    let message = slip_message(alloc, line, slip)?;
-    let help = slip_help(alloc, program, at, line, slip)?;
-    let code = code_of(bad.fault);
-    Ok(plain_error(alloc, Source::Script, code, at, message, help))
+    let (_, wrong) = bad.fault.part_of(line);
+    let near = near_word(alloc, names, wrong, bad.fault)?;
+    let slip = match return_slip(line) {
+        Some(slip) => slip,
+        None => slip_of(alloc, line, bad.fault, !near.as_str().is_empty())?,
+    };
+    let register = match register_meant(alloc, wrong)? {
+        Some(register) => words!(in alloc; "{}", register.get())?,
+        None => Words::of(alloc, "")?,
+    };
+    let words = [
+        ("word", quoted(alloc, wrong)?),
+        ("near", near),
+        ("verb", as_shown(alloc, first_word(line))?),
+        ("third", as_shown(alloc, third(line))?),
+        ("register", register),
+    ];
+    let is_task = matches!(bad.fault, EventFault::NoTask) && slip.group != Group::Returns;
+    let code = if is_task {
+        Code::ScriptTaskName
+    } else {
+        Code::ScriptLine
+    };
+    let at = span(bad.line, slip.before, slip.width);
+    let said = slip.row.at(alloc, Source::Script, code, at, &words)?;
+    Ok((said, slip.group))
 }
 
-/// Whether a line ends with CR.
-pub(crate) fn ends_with_return(line: &[u8]) -> bool
-    ensures { result ≡ ends_with_return line.now }
-{
-    matches!(line, [.., b'\r'])
-}
-
-/// The diagnostics for some lines that spell no event.
-fn said_of(
+/// Adds the errors for further lines that spell no event, after one of this group: only one for all lines that end
+/// with CR, and one for all that have what only `replay --strict` reads.
+fn add_others(
     alloc: Global,
-    program: &Program,
+    list: &mut Vec<Diagnostic>,
+    names: &[&str],
     rows: &[&[u8]],
-    list: &[BadLine],
-) -> Result<Vec<Diagnostic>, AllocError>
-    ensures { IfOk result (λ said. said.items ≡ said_of program.now (each (λ row. row.now) rows.now) false false list.now) }
-{
-    let mut said = Vec::new(alloc);
-    let mut returned = false;
-    let mut strict = false;
-    for bad in list {
-        let line = row_at(rows, bad.line);
-        if ends_with_return(line) {
-            add_return(alloc, &mut said, returned, bad.line, line)?;
-            returned = true;
-        } else {
-            let is_one = is_strict(slip_of(alloc, line, bad.fault)?);
-            add_line(alloc, &mut said, strict && is_one, program, line, bad)?;
-            strict = strict || is_one;
+    bad: &[BadLine],
+    group: Group,
+) -> Result<(), AllocError> {
+    let mut has_returns = group == Group::Returns;
+    let mut has_strict = group == Group::Strict;
+    for bad in bad {
+        let (said, group) = line_error(alloc, names, row_at(rows, bad.line), bad)?;
+        let is_told = match group {
+            Group::Returns => has_returns,
+            Group::Strict => has_strict,
+            _ => false,
+        };
+        if !is_told {
+            list.push(said)?;
         }
+        has_returns = has_returns || group == Group::Returns;
+        has_strict = has_strict || group == Group::Strict;
     }
+    Ok(())
+}
+
+/// The error for a trace that begins with this line.
+fn trace_error(alloc: Global, line: &[u8]) -> Result<Diagnostic, AllocError>
+    ensures { IfOk result (IsErrorIn Script 1) }
+{
+    let row = advice(
+        "this is a trace, not a script of events",
+        "run --emit script writes one; add --with-values to judge it with replay --strict",
+    );
+    let at = span(1, 0, line.len());
+    let said = row.at(alloc, Source::Script, Code::ScriptLine, at, &[])?;
     Ok(said)
 }
 
-/// Adds the diagnostic for a line that ends with CR, unless one was added before.
-fn add_return(
-    alloc: Global,
-    said: &mut Vec<Diagnostic>,
-    told: bool,
-    number: usize,
-    line: &[u8],
-) -> Result<(), AllocError>
-    ensures { OnOk result (said.new.items
-        ≡ said.old.items ++ (if told then [] else return_error Script ScriptLine number line.now ∷ [])) }
-{
-    if !told {
-        let code = Code::ScriptLine;
-        said.push(return_error(alloc, Source::Script, code, number, line)?)?;
-    }
-    Ok(())
-}
-
-/// Adds the diagnostic for another line that spells no event, unless one was added before that covers it.
-fn add_line(
-    alloc: Global,
-    said: &mut Vec<Diagnostic>,
-    told: bool,
-    program: &Program,
-    line: &[u8],
-    bad: &BadLine,
-) -> Result<(), AllocError>
-    ensures { OnOk result (said.new.items
-        ≡ said.old.items ++ (if told then [] else line_error program.now line.now bad.now ∷ [])) }
-{
-    if !told {
-        said.push(line_error(alloc, program, line, bad)?)?;
-    }
-    Ok(())
-}
-
 /// Whether a text that begins with this line is a trace.
-fn is_trace(line: &[u8]) -> bool
-    ensures { result ≡ is_trace line.now }
-{
+fn is_trace(line: &[u8]) -> bool {
     line.starts_with(b"1 ") && event_end(line).is_some()
 }
 
-/// The diagnostic for a trace that begins with this line.
-fn trace_error(alloc: Global, line: &[u8]) -> Result<Diagnostic, AllocError>
-    ensures { IfOk result (λ said. said ≡ trace_error line.now) }
-{
-    let message = Words::of(alloc, "this is a trace, not a script of events")?;
-    let words = "run --emit script writes one; add --with-values to judge it with replay --strict";
-    let help = in_words(alloc, Words::of(alloc, words)?);
-    let at = span(1, 0, line.len());
-    Ok(plain_error(alloc, Source::Script, Code::ScriptLine, at, message, help))
-}
-
-/// The diagnostic for a trace that begins with this line, as the only one.
-fn trace_alone(alloc: Global, line: &[u8]) -> Result<Vec<Diagnostic>, AllocError>
-    ensures { IfOk result (λ list. list.items ≡ trace_error line.now ∷ []) }
-{
-    let mut list = Vec::new(alloc);
-    list.push(trace_error(alloc, line)?)?;
-    Ok(list)
-}
-
-/// The diagnostics for the lines that are shown, and how many more there are of `count`.
-fn lines_errors(
+/// The errors for the lines that spell no event, of which these are the first, and how many more there are of `count`.
+fn errors_in(
     alloc: Global,
     program: &Program,
-    rows: &[&[u8]],
-    shown: &[BadLine],
+    text: &[u8],
+    bad: &[BadLine],
     count: usize,
 ) -> Result<Vec<Diagnostic>, AllocError>
-    ensures { IfOk result (λ list. list.items ≡ lines_errors program.now (each (λ row. row.now) rows.now) shown.now count) }
+    ensures { IfOk result (λ list. BeginsWithFirst bad.now list.items) }
 {
-    let mut list = said_of(alloc, program, rows, shown)?;
+    let [first, others @ ..] = bad else {
+        return Ok(Vec::new(alloc));
+    };
+    let rows = lines_of(alloc, text)?;
+    let line = row_at(&rows, first.line);
+    if first.line == 1 && is_trace(line) {
+        let list = alone(alloc, trace_error(alloc, line)?)?;
+        return Ok(list);
+    }
+    let names = names_of(alloc, program.tasks())?;
+    let (said, group) = line_error(alloc, &names, line, first)?;
+    let mut list = alone(alloc, said)?;
+    let mut rest = Vec::new(alloc);
+    add_others(alloc, &mut rest, &names, &rows, others, group)?;
     let more = count.saturating_sub(MOST_SHOWN);
     let (one, many) = ("line that spells no event", "lines that spell no event");
-    add_more(alloc, &mut list, Source::Script, more, one, many)?;
-    Ok(list)
-}
-
-/// The diagnostics for a text of these lines, of which `count` spell no event.
-fn told_in(
-    alloc: Global,
-    program: &Program,
-    rows: &[&[u8]],
-    shown: &[BadLine],
-    count: usize,
-) -> Result<Vec<Diagnostic>, AllocError>
-    ensures { IfOk result (λ list. list.items ≡ told_in program.now (each (λ row. row.now) rows.now) shown.now count) }
-{
-    let first = row_at(rows, 1);
-    if is_trace(first) {
-        trace_alone(alloc, first)
-    } else {
-        lines_errors(alloc, program, rows, shown, count)
-    }
-}
-
-/// What is wrong with the text of an event script.
-fn errors_of(alloc: Global, text: &[u8], program: &Program) -> Result<Vec<Diagnostic>, AllocError>
-    ensures { IfOk result (λ list. list.items ≡ script_errors program.now text.now) }
-{
-    let (bad, count) = bad_lines(alloc, text, program, MOST_SHOWN)?;
-    if count == 0 {
-        return Ok(Vec::new(alloc));
-    }
-    let rows = lines_of(alloc, text)?;
-    let list = told_in(alloc, program, &rows, &bad, count)?;
+    add_more(alloc, &mut rest, Source::Script, more, one, many)?;
+    list.append(&mut rest)?;
     Ok(list)
 }
 
 /// What is wrong with the text of an event script for a program: an error for each line that spells no event, but only
 /// one for all lines that end with CR, and one for all that have what only `replay --strict` reads; of the first 1,000
-/// such lines, and how many more there are. Of a trace, that it is one. There is none exactly where the script can be
-/// read.
+/// such lines, and how many more there are. Of a trace, that it is one.
 ///
 /// # Errors
 ///
@@ -462,10 +307,10 @@ pub fn script_errors(
     text: &[u8],
     program: &Program,
 ) -> Result<Vec<Diagnostic>, AllocError>
-    ensures said { IfOk result (λ list. list.items ≡ script_errors program.now text.now) }
-    ensures silent { IfOk result (λ list. (list.items ≡ []) ↔ IsRead (script_of program.now text.now)) }
+    ensures { IfOk result (λ list. AreScriptErrors program.now text.now list.items) }
 {
     refused_for_the_first();
-    let list = errors_of(alloc, text, program)?;
+    let (bad, count) = bad_lines(alloc, text, program, MOST_SHOWN)?;
+    let list = errors_in(alloc, program, text, &bad, count)?;
     Ok(list)
 }

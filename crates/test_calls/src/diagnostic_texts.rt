@@ -10,8 +10,7 @@ use diagnostics::listed::Listed;
 use diagnostics::quotation::quoted;
 use diagnostics::text::text_of;
 use diagnostics::words::Words;
-use input_diagnostics::certificate::certificate_errors;
-use input_diagnostics::program_lines::ProgramLines;
+use input_diagnostics::certificate::{ProgramLines, certificate_errors};
 use input_diagnostics::script::script_errors;
 use shown_names::name::shown_name;
 use shown_names::shell::shell_word;
@@ -97,9 +96,12 @@ fn a_certificate_is_judged(rt: HostRuntime) {
     let program = assembled(&rt, rt.alloc(), COUNT);
     let least = certify(rt.alloc(), &program).ok();
     let least = least.expect(&rt, "room for a certificate");
-    let lines = ProgramLines::new(&ROWS, &[]);
+    let lines = ProgramLines {
+        rows: &[],
+        code: &[],
+    };
     let text = COUNT_CERTIFICATE_LACKING.as_bytes();
-    let list = certificate_errors(rt.alloc(), text, &program, &lines, &least).ok();
+    let list = certificate_errors(rt.alloc(), text, &program, lines, &least).ok();
     let list = list.expect(&rt, "room");
     let told = list.as_slice();
     assert!(rt; told.len() == 1);

@@ -1,7 +1,8 @@
--- The first line with a fault is always reported.
-use Rattle.input_diagnostics.proofs.Silence.{silent_list}
+-- The first line with a fault is told of first.
+use Rattle.std.proofs.Common.{◌∙◌}
+use Rattle.input_diagnostics.proofs.Silence.{script_told}
 use Rattle.input_diagnostics.proofs.script.script_errors.Goals as goal
 
-pub returns-clause-silent : goal.returns-clause-silent
-returns-clause-silent c =
-    silent_list c.args.program.now c.args.text.now _ c.in_ok-list.ensures (c.refused_for_the_first.ensures c.args.program.now c.args.text.now)
+pub returns : goal.returns
+returns c =
+    script_told c.args.program.now c.args.text.now _ _ (c.deref.ensures.value ∙ c.in_ok-bad.ensures.first) c.in_ok-list.ensures (c.refused_for_the_first.ensures c.args.program.now c.args.text.now)
