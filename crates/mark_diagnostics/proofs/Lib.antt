@@ -1,5 +1,4 @@
 mod Counting
-mod Groups
 mod Numbers
 mod Ranges
 mod Telling

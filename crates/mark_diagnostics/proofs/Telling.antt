@@ -1,8 +1,9 @@
 -- What is reported is found in the program, and nothing is reported exactly where nothing is found.
-use Rattle.std.proofs.Common.{◌≡◌, ℕ, zero, suc, ◌+◌, ◌-◌, ◌≤◌, ◌<◌, Bool, true, false, cond, if◌then◌else◌, List, [], ◌∷◌, ◌++◌, Option, Some, None, IfSome, length, take, filter, refl, sym, ◌∙◌, ap, subst, arith, length-append}
+use Rattle.std.proofs.Common.{◌≡◌, ℕ, zero, suc, ◌+◌, ◌-◌, ◌≤◌, ◌<◌, Bool, true, false, cond, if◌then◌else◌, List, [], ◌∷◌, ◌++◌, Option, Some, None, IfSome, length, take, get_or, filter, refl, sym, ◌∙◌, ap, subst, arith, length-append}
 use Rattle.std.specs.Prelude.{Contains, codes, not, slice_get}
 use Rattle.std.specs.List.{find, flat_map, range_with_len, All, AllZip}
 use Rattle.std.specs.Option.{option_to_list}
+use Rattle.std.proofs.lemmas.Grind.{common_steps}
 use Rattle.std.proofs.lemmas.Option.{slice_get_within}
 use Rattle.std.proofs.lemmas.List.Elements.{All-nil, All-cons, All-head, All-tail, All-append, All-weaker, All-contains_itself, All-take, All-filter}
 use Rattle.task_descriptor.specs.Listing.{Listing, registers}
@@ -158,9 +159,13 @@ more_zip R [] (z ∷ ys) x y h k = absurd h
 more_zip R (w ∷ xs) [] x y h k = absurd h
 more_zip R (w ∷ xs) (z ∷ ys) x y h k = (h.0, more_zip R xs ys x y h.1 k)
 
-pub zip_more : {A B : Type 0} (R : A → B → Type 0) (xs : List A) (ys : List B) (i : ℕ) (x : A) (y : B) → take (i + 1) xs ≡ take i xs ++ x ∷ [] → AllZip R (take i xs) ys → R x y
+take_more : {X : Type 0} (xs : List X) (i : ℕ) (x : X) → i < length xs → x ≡ get_or xs i x → take (i + 1) xs ≡ take i xs ++ x ∷ []
+take_more xs i x below is = grind (arith, common_steps)
+
+-- what is said of one more
+pub zip_more : {A B : Type 0} (R : A → B → Type 0) (xs : List A) (ys : List B) (i : ℕ) (x : A) (y : B) → i < length xs → x ≡ get_or xs i x → AllZip R (take i xs) ys → R x y
     → AllZip R (take (i + 1) xs) (ys ++ y ∷ [])
-zip_more {A} R xs ys i x y e h k = subst (λ (zs : List A). AllZip R zs (ys ++ y ∷ [])) (sym e) (more_zip R (take i xs) ys x y h k)
+zip_more {A} R xs ys i x y below is h k = subst (λ (zs : List A). AllZip R zs (ys ++ y ∷ [])) (sym (take_more xs i x below is)) (more_zip R (take i xs) ys x y h k)
 
 -- the marks are accepted, and there is no diagnostic
 pub nothing_wrong : (text : List ℕ) (list : List Diagnostic) (s : Judged) → IsJudged text s → IsLeast s.program s.least

@@ -1,15 +1,10 @@
 -- The diagnostic for one finding more.
-use Rattle.std.proofs.Common.{◌≡◌, ℕ, ◌+◌, ◌<◌, List, [], ◌∷◌, ◌++◌, take, length, get_or, subst, sym, arith}
+use Rattle.std.proofs.Common.{◌+◌, List, take, subst, sym}
 use Rattle.std.specs.List.{AllZip}
-use Rattle.std.proofs.lemmas.Grind.{common_steps}
-use Rattle.mark_checker.specs.declared.finding.Finding.{Finding}
 use Rattle.diagnostics.specs.declared.diagnostic.Diagnostic.{Diagnostic}
 use Rattle.mark_diagnostics.specs.Errors.{Says}
 use Rattle.mark_diagnostics.proofs.Telling.{zip_more}
 use Rattle.mark_diagnostics.proofs.error.told_diagnostics.Goals as goal
-
-take_more : (xs : List Finding) (i : ℕ) (x : Finding) → i < length xs → x ≡ get_or xs i x → take (i + 1) xs ≡ take i xs ++ x ∷ []
-take_more xs i x below is = grind (arith, common_steps)
 
 pub loop-finding-preserved : goal.loop-finding-preserved
 loop-finding-preserved c =
@@ -18,4 +13,4 @@ loop-finding-preserved c =
     let i = c.loop-finding.finding-index in
     let x = c.finding-item.result in
     subst (λ (ds : List Diagnostic). AllZip says (take (i + 1) fs) ds) (sym c.in_ok-push.ensures.items)
-    (zip_more says fs c.loop-finding.list.items i x c.in_ok-said.said (take_more fs i x c.loop-finding-test.true c.finding-item.is) c.loop-finding.invariant c.in_ok-said.ensures)
+    (zip_more says fs c.loop-finding.list.items i x c.in_ok-said.said c.loop-finding-test.true c.finding-item.is c.loop-finding.invariant c.in_ok-said.ensures)
