@@ -10,7 +10,8 @@ on; then one call in 10 or in 100, by a seed, from a drawn one on. For texts at 
 where there are too many calls, those that are refused are drawn. Last, the address
 space and the stack of the process are limited. Each run must either print the case's own bytes
 with its own status, or print nothing, end with status 2 and say one line on standard error:
-`OutOfMemory`, or the file, where the growth was one of reading it (`explain` and `check --least` add the reason). Anything else
+`OutOfMemory`, or the file, where the growth was one of reading it (`explain` and `check --least` add the reason). A trace of
+`replay`, which is written while the events are played, may also be cut, and the line is then `PartWritten`. Anything else
 (a crash, a run that does not end, half an answer, another status) is told, and
 the script ends with status 1. If the minutes do not suffice, the runs are drawn.
 
@@ -343,6 +344,11 @@ class Case:
         again = self.bench.plain(["replay", *self.words[1:3], str(events), "--units", units, "--emit", self.emit])
         return again.out == as_replayed(ended.out) or OTHER_TRACE
 
+    def is_begun(self, ended):
+        """True of a beginning of the trace of a replay, which is written while the events are played."""
+        is_trace = self.words[0] == "replay" and self.words[-2] == "--emit" and self.words[-1] in TRACES
+        return is_trace and (ended.status, ended.told) == (2, b"multiscalar: 4 PartWritten\n") and self.right[1].startswith(ended.out)
+
     def judge(self, row, ended, what):
         """Puts what a run answered into the row."""
         lines = [b"multiscalar: 1 OutOfMemory\n", b"multiscalar: 4 OutOfMemory\n"]
@@ -355,6 +361,8 @@ class Case:
             row.seen("want of memory", self.words, what)
         elif (ended.status, ended.out) == (2, b"") and ended.told in [f"multiscalar: file {path}{self.reason}\n".encode() for path in self.files]:
             row.seen("want of memory, file named", self.words, what)
+        elif self.is_begun(ended):
+            row.seen("want of memory, a beginning written", self.words, what)
         elif ended.status is None:
             row.seen("did not end", self.words, what, True)
         else:

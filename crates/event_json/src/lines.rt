@@ -4,6 +4,7 @@ ghost use Rattle.std.specs.Prelude.{◌≡◌, [], ◌∷◌, ◌++◌, ◌<◌,
 ghost use Rattle.std.specs.String.{string_bytes};
 ghost use Rattle.json.specs.Print.{print};
 ghost use Rattle.machine_model.specs.Answer.{play};
+ghost use Rattle.result_files.specs.Writing.{Grows};
 ghost use Rattle.sequencer.specs.Machines.{state};
 ghost use Rattle.event_trace.specs.Entries.{places_of};
 ghost use Rattle.event_json.specs.Fields.{line_of};
@@ -24,12 +25,14 @@ use annotated_asm::position::Position;
 use event_trace::change::Change;
 use event_trace::places::places;
 use event_trace::ring::Ring;
+use event_trace::streaming::{StreamFault, pass_on, stream_entries};
 use event_trace::telling::{Telling, add_entries};
 use machine_model::event::{Event, Refused, Standing};
 use mark_checker::accept::Accepted;
 use sequencer::machine::Machine;
 use shown_names::name::shown_name;
 use std::alloc::{AllocError, Global};
+use std::io::Write;
 use task_descriptor::program::Program;
 
 /// The trace of some events on a machine of `units` units that is at the start of an accepted program, as lines of
@@ -53,38 +56,6 @@ pub fn lines(
     ensures { IfOk result (λ text. string_bytes text
         ≡ json_text name.now source accepted.now.program (places_of program_text.now) units events.now last) }
 {
-    let (text, _) = lines_and_standing(
-        alloc,
-        accepted,
-        name,
-        source,
-        units,
-        program_text,
-        events,
-        last,
-    )?;
-    Ok(text)
-}
-
-/// The lines of some events, as `lines` writes them, and how the run stands after them. An error says that memory
-/// was refused.
-pub fn lines_and_standing(
-    alloc: Global,
-    accepted: &Accepted,
-    name: &str,
-    source: EventSource,
-    units: u32,
-    program_text: &[u8],
-    events: &[Event],
-    last: LastLine,
-) -> Result<(String, Standing), AllocError>
-    requires some { 0 < units }
-    requires few { units ≤ 16 }
-    requires room { source ≡ EventSource.Steps → length events.now < 2 ^ 31 }
-    ensures text { IfOk result (λ told. string_bytes told.0
-        ≡ json_text name.now source accepted.now.program (places_of program_text.now) units events.now last) }
-    ensures standing { IfOk result (λ told. told.1 ≡ (play accepted.now.program units events.now).state.outcome) }
-{
     let program = accepted.program();
     let places = places(alloc, program_text)?;
     let steps = steps_of(alloc, source, events)?;
@@ -98,7 +69,43 @@ pub fn lines_and_standing(
     write_first_line(alloc, &mut text, name, source, program, units)?;
     let machine = add_entries(alloc, &mut text, accepted, units, events, &telling)?;
     write_last_line(alloc, &mut text, program, &machine, last)?;
-    Ok((text, machine.outcome()))
+    Ok(text)
+}
+
+/// Writes the lines of the events of a script, as `lines` makes them, while the events are played. Answers how the run
+/// stands after them.
+///
+/// # Errors
+///
+/// A part may have been written.
+pub fn stream_script<W: Write>(
+    alloc: Global,
+    writer: &mut W,
+    accepted: &Accepted,
+    name: &str,
+    units: u32,
+    program_text: &[u8],
+    events: &[Event],
+) -> Result<Standing, StreamFault>
+    requires some { 0 < units }
+    requires few { units ≤ 16 }
+    ensures standing { IfOk result (λ standing. standing ≡ (play accepted.now.program units events.now).state.outcome) }
+    ensures grows { Grows (W.contents writer.old) (W.contents writer.new) }
+{
+    let program = accepted.program();
+    let places = places(alloc, program_text)?;
+    let telling = InObjects {
+        alloc,
+        program,
+        places: &places,
+        steps: &[],
+    };
+    let mut text = String::new(alloc);
+    write_first_line(alloc, &mut text, name, EventSource::Script, program, units)?;
+    let machine = stream_entries(alloc, &mut text, writer, accepted, units, events, &telling)?;
+    write_last_line(alloc, &mut text, program, &machine, LastLine::AsItStands)?;
+    pass_on(&mut text, 0, writer)?;
+    Ok(machine.outcome())
 }
 
 /// An object of JSON on a line. An instruction is named by its index and by its line in the program text.

@@ -11,6 +11,7 @@ pub mod laws;
 pub mod places;
 mod registers;
 pub mod ring;
+pub mod streaming;
 pub mod telling;
 pub mod text;
 pub mod told;

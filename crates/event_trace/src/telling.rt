@@ -118,7 +118,7 @@ fn write_entries<'a, T: Telling>(
 }
 
 /// Adds the text for the next event on a walk.
-fn write_entry<'a, T: Telling>(
+pub(crate) fn write_entry<'a, T: Telling>(
     alloc: Global,
     text: &mut String,
     walk: Walk<'a>,

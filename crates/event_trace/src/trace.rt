@@ -3,6 +3,7 @@
 ghost use Rattle.std.specs.Prelude.{◌≡◌, ◌<◌, ◌≤◌, IfOk};
 ghost use Rattle.std.specs.String.{string_bytes};
 ghost use Rattle.machine_model.specs.Answer.{play};
+ghost use Rattle.result_files.specs.Writing.{Grows};
 ghost use Rattle.event_trace.specs.Entries.{places_of};
 ghost use Rattle.event_trace.specs.Trace.{trace_text};
 
@@ -10,12 +11,14 @@ use crate::change::Change;
 use crate::ending::write_end;
 use crate::places::places;
 use crate::ring::Ring;
+use crate::streaming::{StreamFault, pass_on, stream_entries};
 use crate::telling::{Telling, entries};
 use crate::text::{write_refused, write_taken};
 use annotated_asm::position::Position;
 use machine_model::event::{Event, Refused, Standing};
 use mark_checker::accept::Accepted;
 use std::alloc::{AllocError, Global};
+use std::io::Write;
 use task_descriptor::program::Program;
 
 /// The trace of some events on a machine of `units` units that is at the start of an accepted program: each event in
@@ -34,25 +37,6 @@ pub fn trace(
     ensures { IfOk result (λ text. string_bytes text
         ≡ trace_text accepted.now.program (places_of program_text.now) units events.now) }
 {
-    let (text, _) = trace_and_standing(alloc, accepted, units, program_text, events)?;
-    Ok(text)
-}
-
-/// The trace of some events, as `trace` writes it, and how the run stands after them. An error says that memory
-/// was refused.
-pub fn trace_and_standing(
-    alloc: Global,
-    accepted: &Accepted,
-    units: u32,
-    program_text: &[u8],
-    events: &[Event],
-) -> Result<(String, Standing), AllocError>
-    requires some { 0 < units }
-    requires few { units ≤ 16 }
-    ensures text { IfOk result (λ traced. string_bytes traced.0
-        ≡ trace_text accepted.now.program (places_of program_text.now) units events.now) }
-    ensures standing { IfOk result (λ traced. traced.1 ≡ (play accepted.now.program units events.now).state.outcome) }
-{
     let program = accepted.program();
     let places = places(alloc, program_text)?;
     let telling = InWords {
@@ -61,7 +45,39 @@ pub fn trace_and_standing(
     };
     let (mut text, machine) = entries(alloc, accepted, units, events, &telling)?;
     write_end(&mut text, program, &machine)?;
-    Ok((text, machine.outcome()))
+    Ok(text)
+}
+
+/// Writes the trace of some events, as `trace` makes it, while the events are played. Answers how the run stands after
+/// them.
+///
+/// # Errors
+///
+/// A part may have been written.
+pub fn stream_trace<W: Write>(
+    alloc: Global,
+    writer: &mut W,
+    accepted: &Accepted,
+    units: u32,
+    program_text: &[u8],
+    events: &[Event],
+) -> Result<Standing, StreamFault>
+    requires some { 0 < units }
+    requires few { units ≤ 16 }
+    ensures standing { IfOk result (λ standing. standing ≡ (play accepted.now.program units events.now).state.outcome) }
+    ensures grows { Grows (W.contents writer.old) (W.contents writer.new) }
+{
+    let program = accepted.program();
+    let places = places(alloc, program_text)?;
+    let telling = InWords {
+        program,
+        places: &places,
+    };
+    let mut text = String::new(alloc);
+    let machine = stream_entries(alloc, &mut text, writer, accepted, units, events, &telling)?;
+    write_end(&mut text, program, &machine)?;
+    pass_on(&mut text, 0, writer)?;
+    Ok(machine.outcome())
 }
 
 /// The words of a script, and lines for a reader. An instruction is named by its line in the program text.

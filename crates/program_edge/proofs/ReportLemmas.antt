@@ -5,6 +5,7 @@ use Rattle.std.specs.Io.KnownBytes.{Keeps}
 use Rattle.jobs.specs.declared.job.Job.{Job}
 use Rattle.jobs.specs.declared.job.Texts.{Texts}
 use Rattle.report_texts.specs.OutputTexts.{Report}
+use Rattle.verdict_report.specs.Delivering.{is_cut}
 use Rattle.verdict_report.specs.JobTexts.{IsDone, IsReportOf}
 use Rattle.std.specs.String.{string_bytes}
 use Rattle.std.specs.declared.alloc.Global.{Global}
@@ -62,7 +63,7 @@ shown audience job texts report said ending old new told right (inl h) = inl (re
 shown audience job texts report said ending old new told right (inr h) = inr (record {
   fault = serve.Write;
   output = h.output;
-  nothing = λ other. absurd (other refl);
+  nothing = λ whole. absurd (false≢true (sym whole));
   begun = λ _. record { report = report; right = right; begun = h.begun };
   told = h.told;
   files = h.files;
@@ -108,10 +109,7 @@ done_unheard audience job texts ending old new h done is_told kept same = record
   files = same;
 }
 
-memory_is_no_write : serve.OutOfMemory ≡ serve.Write → ⊥
-memory_is_no_write e = cc
-
--- a job that was not done for another fault than `Write`
+-- a job that was not done for want of memory
 pub not_done : (job : Job) (texts : Texts) (fault : ServeFault) (ending : Answered) (old new : World)
     → fault ≡ serve.OutOfMemory → IsTold (Serve fault) ending.status ending.is_told old.output new.output old.errors new.errors
     → Same old.files new.files → IsNotDone job texts ending old new
@@ -119,7 +117,7 @@ not_done job texts fault ending old new is told same = record {
   fault = fault;
   output = old.output;
   nothing = λ _. Keeps-refl old.output;
-  begun = λ e. absurd (memory_is_no_write (sym is ∙ e));
+  begun = λ cut. absurd (false≢true (sym (ap is_cut is) ∙ cut));
   told = told;
   files = same;
 }

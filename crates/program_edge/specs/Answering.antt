@@ -1,5 +1,5 @@
 -- How the program ends, for what it was asked and what its files hold.
-use Rattle.std.specs.Prelude.{◌≡◌, ◌≢◌, ◌⊎◌, ◌&&◌, ℕ, Bool, true, false, List, [], ◌∷◌, Option, Some, None, Result, Ok, Err}
+use Rattle.std.specs.Prelude.{◌≡◌, ◌⊎◌, ◌&&◌, ℕ, Bool, true, false, List, [], ◌∷◌, Option, Some, None, Result, Ok, Err}
 use Rattle.std.specs.Io.KnownBytes.{Appends, Keeps}
 use Rattle.std.specs.String.{string_bytes}
 use Rattle.std.specs.declared.string.String.{String}
@@ -9,10 +9,10 @@ use Rattle.jobs.specs.declared.job.Texts.{Texts}
 use Rattle.command_line.specs.declared.request.Request.{Request}
 use Rattle.report_texts.specs.OutputTexts.{Report}
 use Rattle.verdict_report.specs.declared.fault.ServeFault.{ServeFault}
-use Rattle.verdict_report.specs.declared.fault.ServeFault.TheVariants as serve
 use Rattle.verdict_report.specs.CurveProgress.{IsProgress, progress_lines}
+use Rattle.verdict_report.specs.Delivering.{is_cut}
 use Rattle.verdict_report.specs.JobTexts.{IsCutOff, IsDone, IsReportOf}
-use Rattle.verdict_report.specs.Writing.{Begins}
+use Rattle.result_files.specs.Writing.{Begins}
 use Rattle.result_files.specs.Files.{ChangesAt, Same}
 use Rattle.result_files.specs.declared.unwritten.Unwritten.{Unwritten}
 use Rattle.shown_names.specs.Shown.{shown}
@@ -30,13 +30,13 @@ use Rattle.program_edge.specs.Several.{IsEach}
 use Rattle.program_edge.specs.Streams.{IsBroken, IsToldAlone, World}
 use Rattle.program_edge.specs.Telling.{IsTold, unread_fault}
 
--- the job was not done: before the fault is reported, after Write a beginning of its report was written, after
--- another fault nothing
+-- the job was not done: before the fault is reported, after Write and PartWritten a beginning of its report was written,
+-- after another fault nothing
 pub record IsNotDone (job : Job) (texts : Texts) (ending : Answered) (old new : World) : Type 0 where
   pub fault : ServeFault
   pub output : Option (List ℕ)
-  pub nothing : fault ≢ serve.Write → Keeps old.output output
-  pub begun : fault ≡ serve.Write → IsCutOff job texts old.output output
+  pub nothing : is_cut fault ≡ false → Keeps old.output output
+  pub begun : is_cut fault ≡ true → IsCutOff job texts old.output output
   pub told : IsTold (Serve fault) ending.status ending.is_told output new.output old.errors new.errors
   pub files : Same old.files new.files
 

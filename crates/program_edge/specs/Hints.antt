@@ -7,7 +7,7 @@ use Rattle.jobs.specs.declared.job.Job.TheVariants.{Explain}
 use Rattle.report_texts.specs.OutputTexts.{Report}
 use Rattle.shown_names.specs.Shell.{shell_word}
 use Rattle.shown_names.specs.Shown.{shown}
-use Rattle.verdict_report.specs.Writing.{Begins}
+use Rattle.result_files.specs.Writing.{Begins}
 use Rattle.program_edge.specs.Refusals.{last_line}
 
 -- `explain` says more of a program of which this is the last line

@@ -3,7 +3,7 @@ use Rattle.std.specs.Prelude.{◌≡◌, ◌⊎◌, ℕ, List, Option, false}
 use Rattle.std.specs.Io.KnownBytes.{Appends}
 use Rattle.report_texts.specs.OutputTexts.{Report}
 use Rattle.verdict_report.specs.declared.fault.ServeFault.TheVariants as serve
-use Rattle.verdict_report.specs.Writing.{Begins}
+use Rattle.result_files.specs.Writing.{Begins}
 use Rattle.result_files.specs.Files.{Files, Same}
 use Rattle.program_edge.specs.declared.fault.Fault.{Fault}
 use Rattle.program_edge.specs.declared.fault.Fault.TheVariants.{Serve}

@@ -15,7 +15,7 @@ use Rattle.clap.specs.Values.{kind_of}
 use Rattle.command_line.specs.declared.words.UsageFault.{UsageFault}
 use Rattle.command_line.specs.declared.words.UsageFault.TheVariants as usage
 use Rattle.verdict_report.specs.FaultText.{serve_fault_text}
-use Rattle.verdict_report.specs.Writing.{Begins}
+use Rattle.result_files.specs.Writing.{Begins}
 use Rattle.result_files.specs.declared.unwritten.Unwritten.{Unwritten}
 use Rattle.result_files.specs.declared.unwritten.Unwritten.TheVariants.{Link}
 use Rattle.result_files.specs.Refusals.{link_reason, unwritten_words}

@@ -2,7 +2,7 @@
 ghost use Rattle.std.specs.Prelude.{◌≡◌, ◌≢◌, Err, IfOk, OnErr};
 ghost use Rattle.verdict_report.specs.CurveProgress.{IsProgress, progress_lines};
 ghost use Rattle.verdict_report.specs.JobTexts.{IsReportOf};
-ghost use Rattle.verdict_report.specs.Writing.{Begins};
+ghost use Rattle.result_files.specs.Writing.{Begins};
 ghost use Rattle.shown_names.specs.Shown.{shown};
 ghost use Rattle.program_edge.specs.Hints.{hint_for};
 
@@ -66,7 +66,7 @@ pub(crate) fn report_of<R: Threads + Wait + Sync>(
     match serve(rt, alloc, job, texts, &mut bytes) {
         Ok(status) => Ok(Written { bytes, status }),
         // What is written to memory fails only where there is no more of it.
-        Err(ServeFault::Write) => Err(ServeFault::OutOfMemory),
+        Err(ServeFault::Write | ServeFault::PartWritten) => Err(ServeFault::OutOfMemory),
         Err(fault) => Err(fault),
     }
 }

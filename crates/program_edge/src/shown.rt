@@ -2,12 +2,12 @@
 ghost use Rattle.std.specs.Prelude.{◌≡◌, OnOk};
 ghost use Rattle.std.specs.Io.KnownBytes.{Appends};
 ghost use Rattle.shown_names.specs.Shown.{shown, shown_as, shown_byte};
-ghost use Rattle.verdict_report.specs.Writing.{Begins};
+ghost use Rattle.result_files.specs.Writing.{Begins};
 
+use result_files::writing::{write_bytes, write_text};
 use shown_names::letters::{escaped, is_printable, is_printed, is_readable};
 use std::io;
 use std::io::Write;
-use verdict_report::writing::{write_bytes, write_text};
 
 // Writes a name as it is shown. It takes no memory, since a fault may be that there is none.
 pub(crate) fn write_shown<W: Write>(name: &str, writer: &mut W) -> io::Result<()>

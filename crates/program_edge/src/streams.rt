@@ -1,12 +1,12 @@
 //! Writing to a stream, so that it has arrived.
 ghost use Rattle.std.specs.Prelude.{OnOk};
 ghost use Rattle.std.specs.Io.KnownBytes.{Appends};
-ghost use Rattle.verdict_report.specs.Writing.{Begins};
+ghost use Rattle.result_files.specs.Writing.{Begins};
 ghost use Rattle.program_edge.specs.Hints.{IsSaid};
 
+use result_files::writing::write_bytes;
 use std::io;
 use std::io::Write;
-use verdict_report::writing::write_bytes;
 
 // Writes a hint, so that it has arrived; answers whether it was written whole.
 pub(crate) fn say<E: Write>(hint: &[u8], errors: &mut E) -> bool

@@ -2,7 +2,7 @@
 ghost use Rattle.std.specs.Prelude.{◌≡◌, ◌∷◌, ◌++◌, [], OnOk, codes};
 ghost use Rattle.std.specs.Io.KnownBytes.{Appends};
 ghost use Rattle.std.specs.String.{string_bytes};
-ghost use Rattle.verdict_report.specs.Writing.{Begins};
+ghost use Rattle.result_files.specs.Writing.{Begins};
 ghost use Rattle.result_files.specs.Refusals.{link_reason};
 ghost use Rattle.shown_names.specs.Shown.{shown};
 ghost use Rattle.program_edge.specs.Telling.{IsTold, file_words, folder_reason, name_of, said_of, unread_program_words, unread_words, unwritten_reason};
@@ -11,9 +11,9 @@ use crate::fault::Fault;
 use crate::shown::write_shown;
 use crate::unread::{Unread, UnreadReason};
 use result_files::unwritten::Unwritten;
+use result_files::writing::write_text;
 use std::io;
 use std::io::Write;
-use verdict_report::writing::write_text;
 
 /// How the program ends.
 #[derive(Clone, Copy, Debug, PartialEq, Eq)]

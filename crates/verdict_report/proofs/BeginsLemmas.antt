@@ -2,7 +2,7 @@
 use Rattle.std.proofs.Common.{◌∙◌, sym, ap, ℕ, List, [], ◌++◌, Option, append_assoc, append-nil}
 use Rattle.std.specs.Io.KnownBytes.{Appends, Keeps}
 use Rattle.std.proofs.KnownBytes.{Appends-kept, Appends-trans}
-use Rattle.verdict_report.specs.Writing.{Begins}
+use Rattle.result_files.specs.Writing.{Begins}
 
 pub whole : (a b : Option (List ℕ)) (text : List ℕ) → Appends a b text → Begins a b text
 whole a b text h = record { written = text; left = []; parts = sym (append-nil text); added = h }

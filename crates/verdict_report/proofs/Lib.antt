@@ -2,3 +2,4 @@ mod Addresses
 mod CurveLemmas
 mod Plays
 pub mod BeginsLemmas
+pub mod Told

@@ -7,7 +7,7 @@ use Rattle.jobs.specs.declared.job.Job.TheVariants.{Curve}
 use Rattle.jobs.specs.declared.job.Texts.{Texts}
 use Rattle.report_texts.specs.CertificateTexts.{OfCertificate}
 use Rattle.report_texts.specs.JudgedTexts.{Judgement, refused, accepted, judgement}
-use Rattle.verdict_report.specs.Writing.{Begins}
+use Rattle.result_files.specs.Writing.{Begins}
 
 -- `done` runs of `of` are done of the program of this name
 abbrev pub run_line : (name : List ℕ) → (done of : ℕ) → List ℕ

@@ -1,6 +1,5 @@
 -- What a job writes for its texts, and the status.
 use Rattle.std.specs.Prelude.{◌≡◌, ℕ, List, Option}
-use Rattle.std.specs.Io.KnownBytes.{Appends}
 use Rattle.std.specs.Option.{option_map}
 use Rattle.std.specs.String.{string_bytes}
 use Rattle.report_texts.specs.OutputTexts.{Report}
@@ -10,7 +9,7 @@ use Rattle.report_texts.specs.CheckText.{check_text}
 use Rattle.verdict_report.specs.ReplayText.{IsReplayText}
 use Rattle.verdict_report.specs.RunText.{IsRunText}
 use Rattle.verdict_report.specs.CurveText.{IsCurveText}
-use Rattle.verdict_report.specs.Writing.{Begins}
+use Rattle.verdict_report.specs.Delivering.{IsAdded, IsBegun}
 use Rattle.report_texts.specs.AnnotateText.{IsAnnotateReport}
 use Rattle.report_texts.specs.CertificateTexts.{OfCertificate}
 use Rattle.demonstration.specs.DemonstrateText.{IsDemonstrateReport}
@@ -44,14 +43,9 @@ IsReportOf (Curve source units budget predict emit) texts report =
 IsReportOf (Demonstrate units steps emit) texts report = IsDemonstrateReport units steps emit texts.program.items report
 
 -- a job is done: a report of it was added to what the writer holds, and the status is its
-pub record IsDone (job : Job) (texts : Texts) (status : ℕ) (old new : Option (List ℕ)) : Type 0 where
-  pub report : Report
-  pub right : IsReportOf job texts report
-  pub answered : status ≡ report.status
-  pub written : Appends old new report.bytes
+abbrev pub IsDone : Job → Texts → (status : ℕ) → (old new : Option (List ℕ)) → Type 0
+IsDone job texts status old new = IsAdded (IsReportOf job texts) status old new
 
--- the writer failed: what was written is a prefix of a report of the job
-pub record IsCutOff (job : Job) (texts : Texts) (old new : Option (List ℕ)) : Type 0 where
-  pub report : Report
-  pub right : IsReportOf job texts report
-  pub begun : Begins old new report.bytes
+-- it could not be written whole: what was written is a beginning of a report of the job
+abbrev pub IsCutOff : Job → Texts → (old new : Option (List ℕ)) → Type 0
+IsCutOff job texts old new = IsBegun (IsReportOf job texts) old new

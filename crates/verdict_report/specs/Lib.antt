@@ -1,5 +1,6 @@
 pub mod FaultText
-pub mod Writing
+pub mod Delivering
+pub mod Prepared
 pub mod MachineText
 pub mod ReplayText
 pub mod RunText

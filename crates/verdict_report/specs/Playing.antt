@@ -7,6 +7,8 @@ use Rattle.jobs.specs.declared.job.ReplayEmit.{ReplayEmit}
 use Rattle.jobs.specs.declared.job.ReplayEmit.TheVariants as emit
 use Rattle.verdict_report.specs.declared.replay_form.MachineForm.{MachineForm}
 use Rattle.verdict_report.specs.declared.replay_form.MachineForm.TheVariants as of_machine
+use Rattle.verdict_report.specs.declared.replay_form.ToldForm.{ToldForm}
+use Rattle.verdict_report.specs.declared.replay_form.ToldForm.TheVariants as told
 use Rattle.verdict_report.specs.declared.replay_form.ReplayForm.{ReplayForm}
 use Rattle.verdict_report.specs.declared.replay_form.ReplayForm.TheVariants as form
 
@@ -22,7 +24,10 @@ machine_emit of_machine.Picture = emit.Picture
 machine_emit of_machine.Timeline = emit.Timeline
 machine_emit of_machine.State = emit.State
 
+abbrev pub told_emit : ToldForm → ReplayEmit
+told_emit told.Trace = emit.Trace
+told_emit told.Lines = emit.Json
+
 abbrev pub emit_of : ReplayForm → ReplayEmit
-emit_of form.Trace = emit.Trace
-emit_of form.Lines = emit.Json
+emit_of (form.Told of) = told_emit of
 emit_of (form.OfMachine of) = machine_emit of

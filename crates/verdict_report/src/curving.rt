@@ -5,7 +5,7 @@ ghost use Rattle.speed_curve.specs.Curve.{AreRows};
 ghost use Rattle.verdict_report.specs.RunText.{predictor_of as predictor_by};
 ghost use Rattle.verdict_report.specs.CurveText.{IsCurveReport, IsCurveText, end_status as end_status_of, rows_status as rows_status_of};
 ghost use Rattle.verdict_report.specs.CurveProgress.{IsSaidIf, curve_lines, run_lines};
-ghost use Rattle.verdict_report.specs.Writing.{Begins};
+ghost use Rattle.result_files.specs.Writing.{Begins};
 ghost use Rattle.report_texts.specs.CertificateTexts.{OfCertificate};
 ghost use Rattle.report_texts.specs.JudgedTexts.{judgement};
 

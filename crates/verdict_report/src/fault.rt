@@ -15,6 +15,10 @@ pub enum ServeFault {
     /// 3: the threads of `run` returned another machine; nothing was written. No job answers this.
     #[error("3 Foreign")]
     Foreign,
+    /// 4: memory ran out while a text was written that is made on the way; what was written is a beginning of the
+    /// job's text.
+    #[error("4 PartWritten")]
+    PartWritten,
 }
 
 impl ServeFault {
@@ -29,6 +33,7 @@ impl ServeFault {
             ServeFault::OutOfMemory => "1 OutOfMemory",
             ServeFault::Write => "2 Write",
             ServeFault::Foreign => "3 Foreign",
+            ServeFault::PartWritten => "4 PartWritten",
         }
     }
 }

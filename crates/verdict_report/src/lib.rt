@@ -18,4 +18,3 @@ pub mod running;
 pub mod scheduled;
 pub mod serve;
 mod telling;
-pub mod writing;

@@ -19,13 +19,20 @@ pub(crate) enum MachineForm {
     State,
 }
 
+/// What is written of each event, with what it changed, while the events are played.
+#[derive(Clone, Copy, Debug, PartialEq, Eq)]
+pub(crate) enum ToldForm {
+    /// Lines for a reader.
+    Trace,
+    /// Lines of JSON.
+    Lines,
+}
+
 /// What is written for the events of a script.
 #[derive(Clone, Copy, Debug, PartialEq, Eq)]
 pub(crate) enum ReplayForm {
-    /// Each event with what it changed, as lines for a reader: written while the events are played.
-    Trace,
-    /// Each event with what it changed, as lines of JSON.
-    Lines,
+    /// Each event with what it changed.
+    Told(ToldForm),
     /// The machine that the events leave.
     OfMachine(MachineForm),
 }
@@ -35,8 +42,8 @@ pub(crate) fn form_of(emit: ReplayEmit) -> ReplayForm
     ensures { emit_of result ≡ emit }
 {
     match emit {
-        ReplayEmit::Trace => ReplayForm::Trace,
-        ReplayEmit::Json => ReplayForm::Lines,
+        ReplayEmit::Trace => ReplayForm::Told(ToldForm::Trace),
+        ReplayEmit::Json => ReplayForm::Told(ToldForm::Lines),
         ReplayEmit::Answers => ReplayForm::OfMachine(MachineForm::Answers),
         ReplayEmit::Summary => ReplayForm::OfMachine(MachineForm::Summary),
         ReplayEmit::Picture => ReplayForm::OfMachine(MachineForm::Picture),

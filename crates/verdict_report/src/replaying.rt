@@ -7,20 +7,21 @@ ghost use Rattle.jobs.specs.declared.job.ReplayEmit.TheVariants as emit;
 ghost use Rattle.sequencer.specs.Machines.{SameRing, state, units_of};
 ghost use Rattle.report_texts.specs.CertificateTexts.{OfCertificate};
 ghost use Rattle.verdict_report.specs.MachineText.{machine_text};
+ghost use Rattle.result_files.specs.Writing.{Grows};
 ghost use Rattle.verdict_report.specs.Playing.{machine_emit, played_so_far};
+ghost use Rattle.verdict_report.specs.Prepared.{LeadsTo, told_status};
 ghost use Rattle.verdict_report.specs.ReplayText.{IsEventsReport, IsReplayText, IsScriptReport, answers_text, first_events};
 
 use crate::event_text::{refused_script, write_answers};
 use crate::machine_text::{picture_of, standing_status_of, summary_of, timeline_of, write_machine};
-use crate::replay_form::{MachineForm, ReplayForm, form_of};
+use crate::replay_form::{MachineForm, ReplayForm, ToldForm, form_of};
 use event_json::clock::Clock;
-use event_json::last_line::LastLine;
-use event_json::lines::lines_and_standing;
-use event_json::source::EventSource;
+use event_json::lines::stream_script;
 use event_script::fault::ScriptFault;
 use event_script::reading::read;
 use event_trace::ring::Ring;
-use event_trace::trace::trace_and_standing;
+use event_trace::streaming::StreamFault;
+use event_trace::trace::stream_trace;
 use jobs::job::{CertificateSource, ReplayEmit, Texts};
 use limits::ranges::{Budget, Units};
 use machine_model::event::{Event, Refused};
@@ -30,7 +31,17 @@ use report_texts::judging::{Judged, judge};
 use report_texts::report::JobReport;
 use sequencer::machine::Machine;
 use std::alloc::{AllocError, Global};
+use std::io::Write;
 use strict_replay::stand::stand;
+
+/// A replay before anything of it is written.
+#[derive(Drop)]
+pub(crate) enum Prepared {
+    /// What is to be written.
+    Whole(JobReport),
+    /// The events to play for an accepted program, which are to be told meanwhile.
+    Told(ToldForm, Accepted, Vec<Event>),
+}
 
 /// What `replay` writes for a program text, the name of the program, the text of its certificate and the text of a
 /// script, on a machine of `units` units: for all events, or for the first `until`.
@@ -45,123 +56,138 @@ pub fn replay(
     ensures { IfOk result (λ report. OfCertificate source texts.now.program.items texts.now.certificate (λ certificate.
         IsReplayText emit units until texts.now.program.items certificate texts.now.script.items report)) }
 {
+    match prepare(alloc, source, units, emit, until, texts)? {
+        Prepared::Whole(report) => Ok(report),
+        Prepared::Told(form, accepted, events) => {
+            told_report(alloc, units, form, texts, &accepted, events.as_slice())
+        }
+    }
+}
+
+/// Judges the texts of a replay, and plays its events, if what is to be written is not told on the way.
+pub(crate) fn prepare(
+    alloc: Global,
+    source: CertificateSource,
+    units: Units,
+    emit: ReplayEmit,
+    until: Option<Budget>,
+    texts: &Texts,
+) -> Result<Prepared, AllocError>
+    ensures { IfOk result (LeadsTo (λ report. OfCertificate source texts.now.program.items texts.now.certificate (λ certificate.
+        IsReplayText emit units until texts.now.program.items certificate texts.now.script.items report)) units) }
+{
     match judge(alloc, source, texts)? {
-        Judged::Refused(report) => Ok(report),
+        Judged::Refused(report) => Ok(Prepared::Whole(report)),
         Judged::Accepted(accepted) => {
             let name = texts.name.as_str();
             let text = texts.program.as_slice();
-            replay_script(
+            prepare_script(
                 alloc,
                 units,
                 emit,
                 until,
                 name,
                 text,
-                &accepted,
+                accepted,
                 &texts.script,
             )
         }
     }
 }
 
-// What `replay` writes for an accepted program with its name and text, and the text of a script.
-fn replay_script(
+// The same for an accepted program with its name and text, and the text of a script.
+fn prepare_script(
     alloc: Global,
     units: Units,
     emit: ReplayEmit,
     until: Option<Budget>,
     name: &str,
     text: &[u8],
-    accepted: &Accepted,
+    accepted: Accepted,
     script: &[u8],
-) -> Result<JobReport, AllocError>
-    ensures { IfOk result (λ report. IsScriptReport emit units until accepted.now.program (script_of accepted.now.program script.now) report) }
+) -> Result<Prepared, AllocError>
+    ensures { IfOk result (LeadsTo (IsScriptReport emit units until accepted.program (script_of accepted.program script.now)) units) }
 {
     match read(alloc, script, accepted.program()) {
-        Ok(events) => {
-            let played = first_events(events.as_slice(), until);
-            replay_events(alloc, units, emit, name, text, accepted, played)
-        }
+        Ok(events) => match form_of(emit) {
+            ReplayForm::Told(form) => {
+                Ok(Prepared::Told(form, accepted, first_events(events, until)))
+            }
+            ReplayForm::OfMachine(form) => {
+                let played = first_events(events, until);
+                let report = machine_report(
+                    alloc,
+                    units,
+                    form,
+                    name,
+                    text,
+                    &accepted,
+                    played.as_slice(),
+                )?;
+                Ok(Prepared::Whole(report))
+            }
+        },
         Err(ScriptFault::OutOfMemory) => Err(AllocError),
-        Err(fault) => refused_script(alloc, fault),
+        Err(fault) => Ok(Prepared::Whole(refused_script(alloc, fault)?)),
     }
+}
+
+// What is told of events, whole.
+fn told_report(
+    alloc: Global,
+    units: Units,
+    form: ToldForm,
+    texts: &Texts,
+    accepted: &Accepted,
+    events: &[Event],
+) -> Result<JobReport, AllocError>
+    ensures { IfOk result (λ report. report.status ≡ told_status units accepted.now.program events.now) }
+{
+    let mut bytes = Vec::new(alloc);
+    match write_told(alloc, units, form, texts, accepted, events, &mut bytes) {
+        Ok(status) => Ok(JobReport::new(bytes, status)),
+        // What is written to memory fails only where there is no more of it.
+        Err(_) => Err(AllocError),
+    }
+}
+
+/// Writes what is told of events while they are played, and answers the status that they leave.
+///
+/// # Errors
+///
+/// A part may have been written.
+pub(crate) fn write_told<W: Write>(
+    alloc: Global,
+    units: Units,
+    form: ToldForm,
+    texts: &Texts,
+    accepted: &Accepted,
+    events: &[Event],
+    writer: &mut W,
+) -> Result<u8, StreamFault>
+    ensures status { IfOk result (λ status. status ≡ told_status units accepted.now.program events.now) }
+    ensures grows { Grows (W.contents writer.old) (W.contents writer.new) }
+{
+    let text = texts.program.as_slice();
+    let name = texts.name.as_str();
+    let standing = match form {
+        ToldForm::Trace => stream_trace(alloc, writer, accepted, units.get(), text, events)?,
+        ToldForm::Lines => {
+            stream_script(alloc, writer, accepted, name, units.get(), text, events)?
+        }
+    };
+    Ok(standing_status_of(standing))
 }
 
 // The events that are played.
-fn first_events(events: &[Event], until: Option<Budget>) -> &[Event]
-    ensures { result.now ≡ first_events until events.now }
+fn first_events(events: Vec<Event>, until: Option<Budget>) -> Vec<Event>
+    ensures { result.items ≡ first_events until events.items }
 {
-    match until {
-        None => events,
-        Some(most) => first_of(events, most.get() as usize),
+    let mut events = events;
+    if let Some(most) = until {
+        events.truncate(most.get() as usize);
     }
-}
-
-// The first events, at most `most`.
-fn first_of(events: &[Event], most: usize) -> &[Event]
-    ensures { result.now ≡ take most events.now }
-{
-    &events[..most.min(events.len())]
-}
-
-// What `replay` writes for an accepted program with its name and text, and events.
-fn replay_events(
-    alloc: Global,
-    units: Units,
-    emit: ReplayEmit,
-    name: &str,
-    text: &[u8],
-    accepted: &Accepted,
-    events: &[Event],
-) -> Result<JobReport, AllocError>
-    ensures { IfOk result (λ report. IsEventsReport emit units accepted.now.program events.now report) }
-{
-    match form_of(emit) {
-        ReplayForm::Trace => trace_report(alloc, units, text, accepted, events),
-        ReplayForm::Lines => lines_report(alloc, units, name, text, accepted, events),
-        ReplayForm::OfMachine(form) => {
-            machine_report(alloc, units, form, name, text, accepted, events)
-        }
-    }
-}
-
-// The trace of the events, which has no name.
-fn trace_report(
-    alloc: Global,
-    units: Units,
-    text: &[u8],
-    accepted: &Accepted,
-    events: &[Event],
-) -> Result<JobReport, AllocError>
-    ensures { IfOk result (λ report. IsEventsReport emit.Trace units accepted.now.program events.now report) }
-{
-    let (trace, standing) = trace_and_standing(alloc, accepted, units.get(), text, events)?;
-    Ok(JobReport::new(trace.into_bytes(), standing_status_of(standing)))
-}
-
-// The trace of the events in JSON: an object on each line.
-fn lines_report(
-    alloc: Global,
-    units: Units,
-    name: &str,
-    text: &[u8],
-    accepted: &Accepted,
-    events: &[Event],
-) -> Result<JobReport, AllocError>
-    ensures { IfOk result (λ report. IsEventsReport emit.Json units accepted.now.program events.now report) }
-{
-    let last = LastLine::AsItStands;
-    let (lines, standing) = lines_and_standing(
-        alloc,
-        accepted,
-        name,
-        EventSource::Script,
-        units.get(),
-        text,
-        events,
-        last,
-    )?;
-    Ok(JobReport::new(lines.into_bytes(), standing_status_of(standing)))
+    events
 }
 
 // What is written for the machine that the events leave.

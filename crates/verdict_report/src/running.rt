@@ -1,5 +1,5 @@
 //! The job `run`.
-ghost use Rattle.std.specs.Prelude.{◌≡◌, ◌≢◌, ◌<◌, ◌≤◌, ◌^◌, Err, Ok, IfOk, length};
+ghost use Rattle.std.specs.Prelude.{◌≡◌, ◌<◌, ◌≤◌, ◌^◌, Err, Ok, IfOk, OnErr, length};
 ghost use Rattle.sequencer.specs.Machines.{state, units_of};
 ghost use Rattle.verdict_report.specs.RunText.{IsRunReport, IsRunText, ending_status, ending_text};
 ghost use Rattle.report_texts.specs.CertificateTexts.{OfCertificate};
@@ -54,8 +54,7 @@ pub fn run<R: Threads + Wait + Sync>(
 ) -> Result<JobReport, ServeFault>
     ensures report { IfOk result (λ report. OfCertificate source texts.now.program.items texts.now.certificate (λ certificate.
         IsRunText extent.schedule extent.units extent.budget predict.now emit texts.now.program.items certificate report)) }
-    ensures fault { result ≢ Err ServeFault.Write }
-    ensures own { result ≢ Err ServeFault.Foreign }
+    ensures memory { OnErr result (result ≡ Err ServeFault.OutOfMemory) }
 {
     match judge(alloc, source, texts)? {
         Judged::Refused(report) => Ok(report),
@@ -79,8 +78,7 @@ fn run_accepted<R: Threads + Wait + Sync>(
     accepted: &Accepted,
 ) -> Result<JobReport, ServeFault>
     ensures report { IfOk result (λ report. IsRunReport extent.schedule extent.units extent.budget predict.now emit accepted.now.program report) }
-    ensures fault { result ≢ Err ServeFault.Write }
-    ensures own { result ≢ Err ServeFault.Foreign }
+    ensures memory { OnErr result (result ≡ Err ServeFault.OutOfMemory) }
 {
     let ran = run_scheduled(rt, alloc, extent, predict, accepted)?;
     let units = extent.units;

@@ -1,5 +1,5 @@
 //! A run of an accepted program, by threads or in steps.
-ghost use Rattle.std.specs.Prelude.{◌≡◌, ◌≢◌, ◌≤◌, Err, IfOk, None, length, min};
+ghost use Rattle.std.specs.Prelude.{◌≡◌, ◌≤◌, Err, IfOk, OnErr, None, length, min};
 ghost use Rattle.sequencer.specs.Machines.{units_of};
 ghost use Rattle.threaded_runner.specs.Reports.{AreLate};
 ghost use Rattle.verdict_report.specs.RunText.{IsRunOf, IsScheduled, predictor_of};
@@ -36,8 +36,7 @@ pub fn run_scheduled<'a, R: Threads + Wait + Sync>(
     ensures over { IfOk result (λ ran. (ran.machine.accepted ≡ accepted.now) × (units_of ran.machine ≤ 16) × (units_of ran.machine ≡ extent.units)) }
     ensures run { IfOk result (λ ran. IsRunOf accepted.now.program extent.units extent.budget (run_of ran)) }
     ensures scheduled { IfOk result (λ ran. IsScheduled extent.schedule accepted.now.program extent.units extent.budget predict.now (run_of ran)) }
-    ensures fault { result ≢ Err ServeFault.Write }
-    ensures own { result ≢ Err ServeFault.Foreign }
+    ensures memory { OnErr result (result ≡ Err ServeFault.OutOfMemory) }
 {
     match extent.schedule {
         Schedule::Threads => run_by_threads(rt, alloc, extent, predict, accepted),
@@ -56,8 +55,7 @@ fn run_by_threads<'a, R: Threads + Wait + Sync>(
     ensures over { IfOk result (λ ran. (ran.machine.accepted ≡ accepted.now) × (units_of ran.machine ≤ 16) × (units_of ran.machine ≡ extent.units)) }
     ensures run { IfOk result (λ ran. IsRunOf accepted.now.program extent.units extent.budget (run_of ran)) }
     ensures threads { IfOk result (λ ran. (ran.steps ≡ None) × AreLate extent.budget (run_of ran).history) }
-    ensures fault { result ≢ Err ServeFault.Write }
-    ensures own { result ≢ Err ServeFault.Foreign }
+    ensures memory { OnErr result (result ≡ Err ServeFault.OutOfMemory) }
 {
     let predictor = predictor_of(alloc, predict)?;
     let Report {
@@ -84,8 +82,7 @@ fn run_with<'a, R: Threads + Wait + Sync>(
     ensures run { IfOk result (λ report. IsRunOf accepted.now.program extent.units extent.budget (run_by_threads_of report)) }
     ensures threads { IfOk result (λ report. length report.counts.items ≡ min extent.workers extent.units) }
     ensures late { IfOk result (λ report. AreLate extent.budget report.machine.history) }
-    ensures fault { result ≢ Err ServeFault.Write }
-    ensures own { result ≢ Err ServeFault.Foreign }
+    ensures memory { OnErr result (result ≡ Err ServeFault.OutOfMemory) }
 {
     let threads = threads_of(extent.workers, extent.units);
     match run_by(

@@ -1,33 +1,44 @@
-//! Doing a job: its text is built whole, and then written.
-ghost use Rattle.std.specs.Prelude.{◌≡◌, ◌≢◌, Err, IfOk, OnOk, OnErr};
+//! Doing a job: its text is built whole, and then written; a trace is written while its events are played.
+ghost use Rattle.std.specs.Prelude.{◌≡◌, ◌≢◌, ◌⊎◌, Err, true, false, IfOk, IfErr, OnOk, OnErr};
 ghost use Rattle.std.specs.Io.KnownBytes.{Appends, Keeps};
 ghost use Rattle.verdict_report.specs.CurveProgress.{IsProgress, progress_lines};
+ghost use Rattle.report_texts.specs.CertificateTexts.{OfCertificate};
+ghost use Rattle.result_files.specs.Writing.{Grows};
+ghost use Rattle.verdict_report.specs.Delivering.{IsAdded, IsBegun, is_cut};
 ghost use Rattle.verdict_report.specs.JobTexts.{IsCutOff, IsDone, IsReportOf};
-ghost use Rattle.verdict_report.specs.Writing.{Begins};
+ghost use Rattle.verdict_report.specs.Prepared.{told_status};
+ghost use Rattle.verdict_report.specs.ReplayText.{IsReplayText};
+ghost use Rattle.result_files.specs.Writing.{Begins};
 
 use crate::curving::{ToldReport, curve, curve_told};
 use crate::fault::ServeFault;
 use crate::ran::Extent;
-use crate::replaying::replay;
+use crate::replay_form::ToldForm;
+use crate::replaying::{Prepared, prepare, replay, write_told};
 use crate::running::run;
-use crate::writing::write_bytes;
 use demonstration::report::demonstrate;
+use event_trace::streaming::StreamFault;
 use explain_report::explaining::explain;
-use jobs::job::{Job, Texts};
+use jobs::job::{CertificateSource, Job, ReplayEmit, Texts};
+use limits::ranges::{Budget, Units};
+use machine_model::event::Event;
+use mark_checker::accept::Accepted;
 use report_texts::annotating::annotate;
 use report_texts::checking::check;
 use report_texts::printing::print;
 use report_texts::report::JobReport;
 use report_texts::sequential::seq;
+use result_files::writing::write_bytes;
 use std::alloc::Global;
 use std::io::Write;
 use std::sync::Wait;
 use std::thread::Threads;
 use strict_replay::replaying::replay_strictly;
 
-/// Does a job: builds its text whole, writes it, and returns the status of the program, 0 to 3. Memory may
-/// run out at any point; nothing is written then. Where the writer fails, what was written is a
-/// prefix of the text. `check` and `run` make threads.
+/// Does a job: builds its text whole, writes it, and returns the status of the program, 0 to 3. What `replay` tells of
+/// each event is written while the events are played, so that it takes no memory that grows with them. Memory may
+/// run out at any point; nothing is written then, unless the fault is `PartWritten`. Where the writer fails, what was
+/// written is a beginning of the text. `check` and `run` make threads.
 pub fn serve<W: Write, R: Threads + Wait + Sync>(
     rt: &R,
     alloc: Global,
@@ -37,13 +48,101 @@ pub fn serve<W: Write, R: Threads + Wait + Sync>(
 ) -> Result<u8, ServeFault>
     ensures done { IfOk result (λ status. IsDone job.now texts.now status
         (W.contents writer.old) (W.contents writer.new)) }
-    ensures nothing { OnErr result (result ≢ Err ServeFault.Write →
+    ensures nothing { IfErr result (λ fault. is_cut fault ≡ false →
         Keeps (W.contents writer.old) (W.contents writer.new)) }
-    ensures begun { result ≡ Err ServeFault.Write →
-        IsCutOff job.now texts.now (W.contents writer.old) (W.contents writer.new) }
+    ensures begun { IfErr result (λ fault. is_cut fault ≡ true →
+        IsCutOff job.now texts.now (W.contents writer.old) (W.contents writer.new)) }
     ensures own { result ≢ Err ServeFault.Foreign }
 {
-    let report = report_of(rt, alloc, job, texts)?;
+    match job {
+        Job::Replay {
+            certificate,
+            units,
+            emit,
+            until,
+        } => write_replay(alloc, *certificate, *units, *emit, *until, texts, writer),
+        _ => {
+            let report = report_of(rt, alloc, job, texts)?;
+            write_report(writer, &report)
+        }
+    }
+}
+
+// Does the job `replay`.
+fn write_replay<W: Write>(
+    alloc: Global,
+    source: CertificateSource,
+    units: Units,
+    emit: ReplayEmit,
+    until: Option<Budget>,
+    texts: &Texts,
+    writer: &mut W,
+) -> Result<u8, ServeFault>
+    ensures done { IfOk result (λ status. IsAdded (λ report. OfCertificate source texts.now.program.items texts.now.certificate (λ certificate.
+        IsReplayText emit units until texts.now.program.items certificate texts.now.script.items report)) status
+        (W.contents writer.old) (W.contents writer.new)) }
+    ensures nothing { IfErr result (λ fault. is_cut fault ≡ false →
+        Keeps (W.contents writer.old) (W.contents writer.new)) }
+    ensures begun { IfErr result (λ fault. is_cut fault ≡ true →
+        IsBegun (λ report. OfCertificate source texts.now.program.items texts.now.certificate (λ certificate.
+        IsReplayText emit units until texts.now.program.items certificate texts.now.script.items report))
+        (W.contents writer.old) (W.contents writer.new)) }
+    ensures own { result ≢ Err ServeFault.Foreign }
+{
+    match prepare(alloc, source, units, emit, until, texts)? {
+        Prepared::Whole(report) => write_report(writer, &report),
+        Prepared::Told(form, accepted, events) => {
+            tell_events(
+                alloc,
+                units,
+                form,
+                texts,
+                &accepted,
+                events.as_slice(),
+                writer,
+            )
+        }
+    }
+}
+
+// Writes what is told of events while they are played, so that it arrives.
+fn tell_events<W: Write>(
+    alloc: Global,
+    units: Units,
+    form: ToldForm,
+    texts: &Texts,
+    accepted: &Accepted,
+    events: &[Event],
+    writer: &mut W,
+) -> Result<u8, ServeFault>
+    ensures status { IfOk result (λ status. status ≡ told_status units accepted.now.program events.now) }
+    ensures grows { Grows (W.contents writer.old) (W.contents writer.new) }
+    ensures cut { IfErr result (λ fault. (fault ≡ ServeFault.Write) ⊎ (fault ≡ ServeFault.PartWritten)) }
+{
+    match write_told(alloc, units, form, texts, accepted, events, writer) {
+        Ok(status) => match writer.flush() {
+            Ok(()) => Ok(status),
+            Err(_) => Err(ServeFault::Write),
+        },
+        Err(fault) => Err(cut_fault(fault)),
+    }
+}
+
+// The fault of a text that could not be written whole.
+fn cut_fault(fault: StreamFault) -> ServeFault
+    ensures { (result ≡ ServeFault.Write) ⊎ (result ≡ ServeFault.PartWritten) }
+{
+    match fault {
+        StreamFault::Write => ServeFault::Write,
+        StreamFault::OutOfMemory => ServeFault::PartWritten,
+    }
+}
+
+// Writes a report whole, and answers its status.
+fn write_report<W: Write>(writer: &mut W, report: &JobReport) -> Result<u8, ServeFault>
+    ensures whole { IfOk result (λ status. (status ≡ report.now.status) × Appends (W.contents writer.old) (W.contents writer.new) report.now.bytes) }
+    ensures part { IfErr result (λ fault. (fault ≡ ServeFault.Write) × Begins (W.contents writer.old) (W.contents writer.new) report.now.bytes) }
+{
     deliver(writer, report.bytes())?;
     Ok(report.status())
 }
@@ -63,8 +162,7 @@ pub fn report_told<E: Write, R: Threads + Wait + Sync>(
     ensures said { IfOk result (λ told. IsProgress job.now texts.now name.now told.is_told
         (E.contents errors.old) (E.contents errors.new)) }
     ensures begun { Begins (E.contents errors.old) (E.contents errors.new) (progress_lines job.now name.now) }
-    ensures fault { result ≢ Err ServeFault.Write }
-    ensures own { result ≢ Err ServeFault.Foreign }
+    ensures memory { OnErr result (result ≡ Err ServeFault.OutOfMemory) }
 {
     match job {
         Job::Curve {
@@ -102,8 +200,7 @@ fn report_of<R: Threads + Wait + Sync>(
     texts: &Texts,
 ) -> Result<JobReport, ServeFault>
     ensures report { IfOk result (λ report. IsReportOf job.now texts.now report) }
-    ensures fault { result ≢ Err ServeFault.Write }
-    ensures own { result ≢ Err ServeFault.Foreign }
+    ensures memory { OnErr result (result ≡ Err ServeFault.OutOfMemory) }
 {
     let program = texts.program.as_slice();
     match job {

@@ -3,9 +3,9 @@ ghost use Rattle.std.specs.Prelude.{◌≡◌, IfOk, OnOk};
 ghost use Rattle.std.specs.Io.KnownBytes.{Appends};
 ghost use Rattle.std.specs.String.{string_bytes};
 ghost use Rattle.verdict_report.specs.CurveProgress.{IsSaidIf, run_line};
-ghost use Rattle.verdict_report.specs.Writing.{Begins};
+ghost use Rattle.result_files.specs.Writing.{Begins};
 
-use crate::writing::write_text;
+use result_files::writing::write_text;
 use std::alloc::{AllocError, Global};
 use std::io;
 use std::io::Write;

@@ -2,7 +2,7 @@
 use Rattle.std.proofs.Common.{◌++◌, ◌+◌, List, ℕ, drop, get_or, subst, sym}
 use Rattle.std.proofs.KnownBytes.{Appends-trans}
 use Rattle.shown_names.specs.Shown.{shown_as, shown_byte}
-use Rattle.verdict_report.specs.Writing.{Begins}
+use Rattle.result_files.specs.Writing.{Begins}
 use Rattle.verdict_report.proofs.BeginsLemmas.{first, next}
 use Rattle.program_edge.proofs.ShownLemmas.{after_byte, at_byte}
 use Rattle.program_edge.proofs.shown.write_escaped.Goals as goal

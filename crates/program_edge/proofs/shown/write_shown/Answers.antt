@@ -2,7 +2,7 @@
 use Rattle.std.proofs.Common.{◌≡◌, ◌∙◌, true, List, ℕ, OnOk, subst, sym}
 use Rattle.std.specs.Io.KnownBytes.{Appends}
 use Rattle.shown_names.specs.Shown.{is_printable, is_readable}
-use Rattle.verdict_report.specs.Writing.{Begins}
+use Rattle.result_files.specs.Writing.{Begins}
 use Rattle.program_edge.proofs.ShownLemmas.{all_printed}
 use Rattle.program_edge.proofs.shown.write_shown.Goals as goal
 

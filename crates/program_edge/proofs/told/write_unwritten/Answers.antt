@@ -1,7 +1,7 @@
 -- The reason names the file that the link leads to.
 use Rattle.std.proofs.Common.{◌≡◌, ◌∙◌, ap, sym, subst, List, ℕ, OnOk}
 use Rattle.std.specs.Io.KnownBytes.{Appends}
-use Rattle.verdict_report.specs.Writing.{Begins}
+use Rattle.result_files.specs.Writing.{Begins}
 use Rattle.result_files.specs.Refusals.{link_reason}
 use Rattle.shown_names.specs.Shown.{shown}
 use Rattle.program_edge.specs.Telling.{file_words, unwritten_reason}

@@ -2,8 +2,8 @@
 use Rattle.std.proofs.Common.{◌≡◌, ◌∙◌, ℕ, ◌-◌, List, ◌++◌, length, take, drop, sym, ap, append_assoc, take-append-drop}
 use Rattle.std.proofs.KnownBytes.{Appends-kept, Appends-trans}
 use Rattle.std.proofs.lemmas.List.{take_rest}
-use Rattle.verdict_report.proofs.writing.write_bytes.Goals as goal
-use Rattle.verdict_report.proofs.writing.write_bytes.Goals.{in-Ok, in-Err+else-ne}
+use Rattle.result_files.proofs.writing.write_bytes.Goals as goal
+use Rattle.result_files.proofs.writing.write_bytes.Goals.{in-Ok, in-Err+else-ne}
 
 moves_front : (all done rest : List ℕ) (n : ℕ) → all ≡ done ++ rest → all ≡ (done ++ take n rest) ++ take (length rest - n) (drop n rest)
 moves_front all done rest n e =

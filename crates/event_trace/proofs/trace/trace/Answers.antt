@@ -10,11 +10,11 @@ use Rattle.event_trace.specs.Entries.{entries_from, entry_of}
 use Rattle.event_trace.specs.Ending.{end_text}
 use Rattle.event_trace.specs.Trace.{trace_text}
 use Rattle.event_trace.specs.TraceText.{taken_text, refused_text}
-use Rattle.event_trace.proofs.trace.trace_and_standing.Goals as goal
+use Rattle.event_trace.proofs.trace.trace.Goals as goal
 
-pub returns-clause-text : goal.returns-clause-text
+pub returns : goal.returns
 unfolding trace_text
-returns-clause-text c =
+returns c =
     let p = c.args.accepted.now.program in
     let units = c.args.units in
     let events = c.args.events.now in
@@ -30,6 +30,3 @@ returns-clause-text c =
     (c.in_ok-text.ensures.told
     ∙ ap (λ (q : Listing). told q c.deref.result.now) c.program-program.ensures.value
     ∙ ap (λ (places : List Position). told p places) (c.deref.ensures.value ∙ c.in_ok-places.ensures))
-
-pub returns-clause-standing : goal.returns-clause-standing
-returns-clause-standing c = c.outcome.ensures.value ∙ ap (λ (s : State). s.outcome) c.in_ok-text.ensures.machine

@@ -15,11 +15,11 @@ use Rattle.event_json.specs.Json.{json_text}
 use Rattle.event_json.specs.Times.{steps_of}
 use Rattle.shown_names.specs.Shown.{shown}
 use Rattle.event_json.proofs.Tokens.{three_texts}
-use Rattle.event_json.proofs.lines.lines_and_standing.Goals as goal
+use Rattle.event_json.proofs.lines.lines.Goals as goal
 
-pub returns-clause-text : goal.returns-clause-text
+pub returns : goal.returns
 unfolding json_text
-returns-clause-text c =
+returns c =
     let p = c.args.accepted.now.program in
     let units = c.args.units in
     let events = c.args.events.now in
@@ -41,6 +41,3 @@ returns-clause-text c =
     (c.in_ok-write_last_line.ensures
     ∙ ap (λ (q : Listing). three ++ line_of (end_json q last (state machine))) c.program-program.ensures.value
     ∙ ap (λ (t : State). three ++ line_of (end_json p last t)) c.in_ok-machine.ensures.machine)
-
-pub returns-clause-standing : goal.returns-clause-standing
-returns-clause-standing c = c.outcome.ensures.value ∙ ap (λ (s : State). s.outcome) c.in_ok-machine.ensures.machine

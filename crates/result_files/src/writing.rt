@@ -1,7 +1,7 @@
 //! Writing bytes, so that it is known what was written where the writer failed.
 ghost use Rattle.std.specs.Prelude.{◌≡◌, OnOk};
 ghost use Rattle.std.specs.Io.KnownBytes.{Appends};
-ghost use Rattle.verdict_report.specs.Writing.{Begins};
+ghost use Rattle.result_files.specs.Writing.{Begins, Grows};
 
 use std::io;
 use std::io::{ErrorKind, Write};
@@ -44,4 +44,20 @@ pub fn write_bytes<W: Write>(bytes: &[u8], writer: &mut W) -> io::Result<()>
         }
     }
     Err(io::Error::from(ErrorKind::Interrupted))
+}
+
+/// Writes what a text holds, and empties it, where it has at least `least` bytes.
+///
+/// # Errors
+///
+/// Those of `write_bytes`.
+pub fn write_off<W: Write>(text: &mut String, least: usize, writer: &mut W) -> io::Result<()>
+    ensures { Grows (W.contents writer.old) (W.contents writer.new) }
+{
+    if text.len() < least {
+        return Ok(());
+    }
+    write_text(text.as_str(), writer)?;
+    text.clear();
+    Ok(())
 }
