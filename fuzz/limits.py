@@ -16,9 +16,10 @@ second of the processor, and one for each 30 MB that are read and written. Needs
 in the temporary folder and 3 GB of memory, 5 where the program writes JSON; it is no part of the tests.
 
 With --gate: texts that take long, or much memory, where an answer is sought carelessly. Each run may take
-three times the processor's time of `check --least` of the same program, or a second if that is more, and 512 MB. A run that takes
-more is made again, twice, as other processes may have slowed it, and is ended some two seconds after its time. `explain` does
-not keep to this yet: millions of lines that begin with no mnemonic take it some seconds. So no test runs this.
+three times the processor's time of `check --least` of the same program (SLOWER has one that may take more), or a second if that is
+more, which a slower machine has longer, and 512 MB; a trace of a
+long script 26 MB, as it is written while its events are played. A run that takes more is made again, twice, as other processes may
+have slowed it, and is ended some two seconds after its time. `.ci/run` runs this after `rt ci`.
 """
 import argparse
 import collections
@@ -350,6 +351,12 @@ def many_tasks(folder, traces):
 # What a run of `worst` may take: this many times what `check --least` of its program takes, but no less than a second; and millions of bytes.
 # A run that takes more is made again, until it was made this often.
 TIMES, LEAST_SECONDS, GATE_MEMORY, TRIES = 3, 1, 512, 3
+# `explain` of two million labels of one name in one line reads them once more, with their places: five times.
+SLOWER = {("one label many times", "explain"): 5}
+# In how many seconds the interpreter counts to ten million on the machine whose second is meant.
+COUNTED = 0.3
+# Of a run that writes on the way.
+STREAM_MEMORY = 26
 
 
 def ring(tasks, mark=""):
@@ -358,8 +365,18 @@ def ring(tasks, mark=""):
     return marks + "".join(f"T{k}: addiu $8,$8,1{mark}\nnop\nnop\nj T{(k + 1) % tasks} !s\n" for k in range(tasks))
 
 
+def long_traces(folder):
+    """Traces that are written while their events are played. First of all, since what a run takes counts from what this process has."""
+    program, events = COUNT / "program.s", folder / "long.events"
+    events.write_text("fault\n" * 600_000)
+    for emit in ("trace", "json"):
+        yield "the trace of a long script", ["replay", program, COUNT / "certificate.cert2", events, "--emit", emit], program, STREAM_MEMORY
+
+
 def worst(folder):
     """The texts that were found to take longest: their names, the words of the runs, and the program of each."""
+    yield from long_traces(folder)
+
     def written(name, text):
         path = folder / f"{name.replace(' ', '-')}.s"
         path.write_bytes(text if isinstance(text, bytes) else text.encode())
@@ -414,9 +431,17 @@ def worst_inputs(folder):
     yield "a long search", ["demonstrate", loop, "--steps", "1000000"], loop
 
 
-def is_dear(ended, most):
+def is_dear(ended, most, memory):
     """Whether a run took more of the processor's time, or more memory, than it may, or ended as none does."""
-    return ended.status not in (0, 1, 2, 3) or ended.processor > most or ended.memory > GATE_MEMORY
+    return ended.status not in (0, 1, 2, 3) or ended.processor > most or ended.memory > memory
+
+
+def second():
+    """How many seconds of the processor are meant by a second: more on a slower machine, never less than one."""
+    begin = time.process_time()
+    for _ in range(10_000_000):
+        pass
+    return max(1, (time.process_time() - begin) / COUNTED) * LEAST_SECONDS
 
 
 def gate(program, only=""):
@@ -425,20 +450,21 @@ def gate(program, only=""):
     wrong, count, begin, least = 0, 0, time.monotonic(), {}
     with tempfile.TemporaryDirectory(prefix="multiscalar-limits-") as name:
         folder = pathlib.Path(name)
-        for kind, words, text in worst(folder):
+        for kind, words, text, *memory in worst(folder):
+            memory = (memory or [GATE_MEMORY])[0]
             if only not in f"{kind} {words[0]}":
                 continue
             if text not in least:
                 least[text] = ran(program, ["check", "--least", str(text)], folder).processor
-            most = max(LEAST_SECONDS, TIMES * least[text])
             for _ in range(TRIES):
+                most = max(second(), SLOWER.get((kind, words[0]), TIMES) * least[text])
                 ended = ran(program, [str(word) for word in words], folder, most)
-                if not is_dear(ended, most):
+                if not is_dear(ended, most, memory):
                     break
             count += 1
-            if is_dear(ended, most):
+            if is_dear(ended, most, memory):
                 wrong += 1
-                print(f"wrong: {kind}: {' '.join(str(word).replace(name, '.') for word in words)}: status {ended.status}, {ended.processor:.1f} s of {most:.1f}, {ended.memory:.0f} MB of {GATE_MEMORY}", flush=True)
+                print(f"wrong: {kind}: {' '.join(str(word).replace(name, '.') for word in words)}: status {ended.status}, {ended.processor:.1f} s of {most:.1f}, {ended.memory:.0f} MB of {memory}", flush=True)
     print(f"limits: {count} runs, {wrong} wrong ({time.monotonic() - begin:.0f} s)")
     return 1 if wrong else 0
 
