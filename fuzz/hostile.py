@@ -17,6 +17,7 @@ import argparse
 import collections
 import concurrent.futures
 import hashlib
+import json
 import multiprocessing
 import os
 import pathlib
@@ -33,45 +34,40 @@ HERE = pathlib.Path(__file__).resolve().parent
 sys.path.insert(0, str(HERE / "entry"))
 import costly_marks
 import curve
+import demonstrate
 import explain
 import faults
 import marks
 import picture
 import sarif
 import seeds
-from model import (CertFault, Fault, ScriptFault, Steps, accepted_program, allowed_script, annotate_text, assemble, certify, check_text,
-                   least_cert, print_text, replay_text, run_text, seq_text, traced_run, verdict)
+import timeline
+import waveform
+from model import (Fault, ScriptFault, Steps, accepted_program, allowed_script, annotate_text, assemble, certify, check_text,
+                   least_cert, print_text, replay_text, run_text, script_parse, seq_text, strict_text, traced_run, verdict)
 
 UNITS, BUDGETS = (1, 2, 3, 4, 16), (1, 7, 60, 400, 3000)
 EMITS, PREDICTS = ("text", "cert", "keep"), ("first", "last", "1,0", "3,1,2,0,15")
 RUN_EMITS = ("report", "script", "summary", "svg")
-# The least and the greatest number of files; `--least` stands in the place of one of `check`, `run`, `replay` and `curve`.
-FILES = {"seq": (1, 1), "print": (1, 1), "annotate": (1, 1), "explain": (1, 1), "check": (1, 2), "run": (1, 2), "replay": (2, 3), "curve": (1, 2)}
-# `explain` and `check --least` take more programs.
-MOST_FILES = 4096
-NUMBERS = {"budget": 1000000, "units": 16, "workers": 16}
+# The least and the greatest number of files; `--least` stands in the place of one of `check`, `run`, `replay` and `curve`. `explain` and
+# `check --least` take any number of programs.
+FILES = {"seq": (1, 1), "print": (1, 1), "annotate": (1, 1), "explain": (1, 1), "check": (1, 2), "run": (1, 2), "replay": (2, 3), "curve": (1, 2),
+         "demonstrate": (1, 1)}
+NUMBERS = {"budget": 1000000, "units": 16, "workers": 16, "until": 1000000, "steps": 1000000}
 # Options that have no value.
-FLAGS = ("least", "no-warnings")
-OPTIONS = {"seq": ("budget",), "print": (), "annotate": ("emit",), "explain": ("certificate", "no-warnings", "format"), "check": ("least", "workers"),
-           "replay": ("least", "units", "emit"), "run": ("least", "schedule", "units", "workers", "budget", "predict", "emit"),
-           "curve": ("least", "units", "budget", "predict")}
-CHOICES = {"annotate": (*EMITS, "marks"), "replay": ("answers", "summary", "svg", "trace"), "run": (*RUN_EMITS, "trace")}
-# Of a program whose help names them, these are tried, too.
-NEWER = {"run": ("json",), "replay": ("json",), "curve": ("table", "svg")}
+FLAGS = ("least", "no-warnings", "in-place", "report", "strict", "with-values", "progress")
+OPTIONS = {"seq": ("budget",), "print": (), "annotate": ("emit", "in-place", "report"), "explain": ("certificate", "script", "no-warnings", "format", "color"),
+           "check": ("least", "workers"), "replay": ("least", "units", "emit", "until", "strict"), "demonstrate": ("units", "steps", "emit"),
+           "run": ("least", "schedule", "units", "workers", "budget", "predict", "emit", "axis", "with-values"),
+           "curve": ("least", "units", "budget", "predict", "emit", "progress")}
+CHOICES = {"annotate": (*EMITS, "marks"), "replay": ("answers", "summary", "svg", "trace", "json", "perfetto", "state"),
+           "run": (*RUN_EMITS, "trace", "json", "perfetto", "waits", "vcd"), "curve": ("table", "svg"), "demonstrate": ("events", "svg")}
+VALUES = {"schedule": ("threads", "steps"), "format": ("text", "sarif", "json"), "color": ("auto", "always", "never"), "axis": ("events", "steps")}
 VERSION = "multiscalar 0.1.0 (proved with rattle-kit-13f logic dac8208d650f15bf)\n"
 # The first byte of a case picks one of so many jobs, but for its highest bit.
 JOBS = 24
 # The model goes no further than so many events, and says nothing of longer runs but how they may end.
 MODEL_EVENTS = 6000
-
-
-def learn(program):
-    """Adds the values of --emit that the help of the program names."""
-    for name, values in NEWER.items():
-        told = subprocess.run([program, name, "--help"], capture_output=True, text=True).stdout
-        if re.search(rf"--emit <.*?\b{values[-1]}\b", told, re.S) and values[-1] not in CHOICES.get(name, ()):
-            CHOICES[name] = (*CHOICES.get(name, ()), *values)
-            OPTIONS[name] = tuple({*OPTIONS[name], "emit"})
 
 
 def parts_of(case):
@@ -88,15 +84,15 @@ def parts_of(case):
 
 
 def jobs_of(case):
-    """The words of each call that a case stands for, and its three texts."""
+    """The words of each call that a case stands for, and its texts by the names of their files."""
     if len(case) < 2:
-        return [], []
+        return [], {}
     job, options = case[0] % 128 % JOBS, case[1]
     first, *others = parts_of(case[2:])
     if job == 6:
         words = first[:4095].split(b"\0")[0]
-        return [words.split(b"\n")[:-1] if words.endswith(b"\n") else words.split(b"\n") if words else []], others
-    return [[w.encode() for w in call] for call in calls_of(job, options)], [first, *others[:2]]
+        return [words.split(b"\n")[:-1] if words.endswith(b"\n") else words.split(b"\n") if words else []], dict(zip("pcs", others))
+    return [[w.encode() for w in call] for call in calls_of(job, options)], dict(zip("pcs", [first, *others[:2]]))
 
 
 def calls_of(job, options):
@@ -121,11 +117,10 @@ def calls_of(job, options):
 
 def newer_calls(job, options, units, budget, guess):
     """The calls of the jobs from 16 on: `curve`, the log of `explain`, marks in the text, and traces."""
-    json = ["json"] if options & 32 and "json" in CHOICES["run"] else []
-    emit = ["--emit", *(json or ["trace"])]
+    emit = ["--emit", "json" if options & 32 else "trace"]
     traced = ["run", *units, *budget, *guess, *emit]
     by_steps = ["run", "--schedule", "steps", "--least", *units, "--budget", "600", "--predict", PREDICTS[options // 5 % 4]]
-    drawn = ["--emit", "svg"] if options & 64 and "svg" in CHOICES.get("curve", ()) else []
+    drawn = ["--emit", "svg"] if options & 64 else []
     return {16: [["curve", *units, *budget, *guess, *drawn, *(["--least", "p"] if options & 128 else ["p", "c"])]],
             17: [["explain", "--format", "sarif", *(["--no-warnings"] if options & 32 else []), *(["--certificate", "c"] if options & 16 else []), "p"]],
             18: [["annotate", "--emit", "marks", "p"]],
@@ -157,40 +152,53 @@ def asked(words):
     while at < len(rest):
         word = rest[at]
         at += 1
-        if not plain and word == "--":
-            plain = True
-        elif not plain and word.startswith("--"):
-            key, has, value = word[2:].partition("=")
-            if key == "help":
-                return None if has else "help"
-            if key not in OPTIONS[name] or key in options or key in FLAGS and has:
+        if plain or not word.startswith("-") or word == "-":
+            if name not in ("explain", "check") and len(files) == FILES[name][1]:
                 return None
-            if not has and key not in FLAGS:
-                if at == len(rest) or rest[at].startswith("-") and rest[at] != "-":
-                    return None
-                value, at = rest[at], at + 1
-            if not is_value(name, key, value):
-                # a number is judged where it stands, the other values after all words
-                if key in NUMBERS:
-                    return None
-                value = None
-            options[key] = value
-        elif not plain and word.startswith("-") and word != "-":
-            return "help" if word[1] == "h" else None
-        elif len(files) == (MOST_FILES if name in ("explain", "check") else FILES[name][1]):
-            return None
-        else:
             files.append(word)
-    if len(files) > 1 and (name == "explain" or name == "check" and "least" in options):
-        certified = "certificate" in options or options.get("format") == "sarif"
-        return None if certified or files.count("-") > 1 or None in options.values() else (name, options, files)
-    if "certificate" in options:
-        return None if len(files) != 1 or [*files, options["certificate"]].count("-") > 1 or None in options.values() else (name, options, [*files, options["certificate"]])
+            continue
+        if word == "--":
+            plain = True
+            continue
+        key, has, value = word[2:].partition("=")
+        if word[1] == "o":
+            key, has, value = "output", word[2:], word[2:].removeprefix("=")
+        elif word[1] != "-":
+            return "help" if word[1] == "h" else None
+        if key == "help":
+            return None if has else "help"
+        if key not in (*OPTIONS[name], "output") or key in options or key in FLAGS and has:
+            return None
+        if not has and key not in FLAGS:
+            if at == len(rest) or rest[at].startswith("-") and rest[at] != "-":
+                return None
+            value, at = rest[at], at + 1
+        if not is_value(name, key, value):
+            # a number is judged where it stands, the other values after all words
+            if key in NUMBERS:
+                return None
+            value = None
+        options[key] = value
     least, most = FILES[name]
     wants = most - ("least" in options) if "least" in OPTIONS[name] else max(least, len(files))
-    if len(files) != wants or files.count("-") > 1 or None in options.values():
+    is_of_several = len(files) > 1 and (name == "explain" or "least" in options)
+    inputs = [*files, *(options[it] for it in ("certificate", "script") if it in options)]
+    if None in options.values() or not fit(name, options, files) or inputs.count("-") > 1 or len(files) != wants and not (is_of_several and name in ("explain", "check")):
         return None
     return name, options, files
+
+
+def fit(name, options, files):
+    """Whether options go with one another and with so many files."""
+    emit, in_steps = options.get("emit"), options.get("schedule") == "steps"
+    if len(files) > 1 and (name == "explain" or name == "check" and "least" in options):
+        return not {"certificate", "script"} & {*options} and options.get("format", "text") == "text" and options.get("output", "-") == "-"
+    if "in-place" in options:
+        return "output" not in options and files != ["-"] and emit in (None, "marks", "text")
+    if "strict" in options:
+        return emit in (None, "answers") and "until" not in options
+    return name != "run" or ((in_steps or emit not in ("waits", "vcd")) and ("with-values" not in options or emit == "script")
+                             and ("axis" not in options or emit == "svg" and (in_steps or options["axis"] == "events")))
 
 
 def is_value(name, key, value):
@@ -198,17 +206,16 @@ def is_value(name, key, value):
         return bool(re.fullmatch(r"\+?[0-9]+", value)) and 1 <= int(value) <= NUMBERS[key]
     if key == "emit":
         return value in CHOICES[name]
-    if key == "schedule":
-        return value in ("threads", "steps")
-    if key == "format":
-        return value in ("text", "sarif")
-    if key == "certificate":
+    if key in VALUES:
+        return value in VALUES[key]
+    if key != "predict":
         return True
-    return key in FLAGS or value in ("first", "last") or bool(re.fullmatch(r"[0-9]{1,2}(,[0-9]{1,2}){0,63}", value)) and all(int(it) <= 15 for it in value.split(","))
+    return value in ("first", "last") or bool(re.fullmatch(r"[0-9]{1,2}(,[0-9]{1,2}){0,63}", value)) and all(int(it) <= 15 for it in value.split(","))
 
 
-def wanted(words, texts):
-    """What the model answers: (output, status), or a function of the output and status that says whether they fit."""
+def wanted(words, held, call):
+    """What the model answers: (output, status), or a function of the output and status that says whether they fit. The files have these
+    texts, by their names; `call` makes another call of the program."""
     what = asked(words)
     if what is None:
         return lambda out, status: status == 2 and not out
@@ -217,11 +224,11 @@ def wanted(words, texts):
     if what == "version":
         return VERSION, 0
     name, options, files = what
-    # standard input is the program's text
-    held = {**dict(zip("pcs", texts)), "-": texts[0]}
-    if len(files) > 1 and (name == "check" and "least" in options or name == "explain" and "certificate" not in options):
-        return wanted_of_several(name, options, files, held)
-    if any(it not in held for it in files):
+    held = by_path(held)
+    if len(files) > 1 and name in ("check", "explain") and ("least" in options or name == "explain"):
+        return wanted_of_several(name, options, files, held, call)
+    beside = [options[it] for it in ("certificate", "script") if it in options]
+    if any(it not in held for it in [*files, *beside]):
         return lambda out, status: status == 2 and not out
     given = [held[it] for it in files]
     if "least" in options:
@@ -231,31 +238,59 @@ def wanted(words, texts):
     if name == "print":
         return print_text(given[0])
     if name == "annotate":
-        return wanted_marks(given[0]) if options.get("emit") == "marks" else annotate_text(given[0], options.get("emit", "text"))
+        emit = options.get("emit", "marks" if "in-place" in options else "text")
+        return wanted_marks(given[0]) if emit == "marks" else annotate_text(given[0], emit)
     if name == "check":
         return check_text(*given)
     if name == "explain":
-        wanted = wanted_log if options.get("format") == "sarif" else wanted_explanation
-        return wanted(files, given, "no-warnings" in options)
-    called = "" if files[0] == "-" else files[0]
+        return wanted_explanation(given[0], {it: held[options[it]] for it in ("certificate", "script") if it in options}, options)
+    if name == "demonstrate":
+        return wanted_demonstration(given[0], options)
+    called = "" if files[0] == "-" else os.path.basename(files[0])
     if name == "curve":
         return wanted_curve(options, given, called)
     if name == "replay":
         return wanted_replay(options, given, called)
-    return wanted_run(options, given, called)
+    return wanted_run(options, given, called, call)
 
 
-def wanted_of_several(name, options, files, held):
+def by_path(held):
+    """The texts by all that names them; standard input is the program's."""
+    return {**held, **{f"./{name}": text for name, text in held.items()}, "-": held["p"]}
+
+
+def told_so(words, held, told):
+    """Whether standard error is told what it must be where the status is not 2: mostly nothing."""
+    what = asked(words)
+    name, options, files = what if isinstance(what, tuple) else ("", {}, [])
+    held = by_path(held)
+    text = held.get(files[0], b"") if files else b""
+    if "progress" in options:
+        most = int(options.get("units", 16))
+        accepted, _ = accepted_program(text, least_cert(text) if "least" in options else held[files[1]])
+        return told == "".join(f"multiscalar: {files[0]}: {k} of {most} runs\n" for k in range(1, most + 1) if accepted)
+    if "report" not in options or wanted_marks(text)[1]:
+        return told == ""
+    program = assemble(wanted_marks(text)[0].encode("latin-1"))
+    errors = explain.told(program)
+    said = f"{len(errors)} left to mend by hand" if errors else "all marks are right"
+    *_, last = told.splitlines()
+    return last == f"multiscalar: {files[0]}: {said}" and len(re.findall(r"(?m)^[^|\n]*?: error: ", told)) == min(len(errors), explain.MOST_SHOWN)
+
+
+def wanted_of_several(name, options, files, held, call):
     """What is said of each program in turn, and then of how many; the greatest status, 2 where one could not be read."""
     said, statuses = "", []
-    for place, file in enumerate(files):
-        if file not in held or name == "explain" and place and held[file].startswith(b"cert "):
+    for file in files:
+        if file not in held or name == "explain" and held[file].startswith(b"cert "):
             statuses.append(2)
         elif name == "check":
             report, status = check_text(held[file], least_cert(held[file]))
             said, statuses = said + "".join(f"{file}: {line}\n" for line in report.splitlines()), [*statuses, status]
         else:
-            report, status = wanted_explanation([file], [held[file]], "no-warnings" in options)
+            report, status = call(["explain", *(["--no-warnings"] if "no-warnings" in options else []), "--color", options.get("color", "auto"), "--", file])
+            if not wanted_explanation(held[file], {}, options)(report, status):
+                return lambda out, status: False
             said, statuses = said + report, [*statuses, status]
     right, wrong, unread = (statuses.count(it) for it in range(3))
     return f"{said}{len(files)} programs: {right} right, {wrong} wrong, {unread} not judged\n", max(statuses)
@@ -294,97 +329,191 @@ def picture_of(rows, name, budget, predict):
     return curve_picture.picture([(units, *row) for units, row in enumerate(rows, 1)], said)
 
 
-def wanted_results(files, given, no_warnings):
-    """Whether the results of a log are what the model tells of a program and of a certificate, or of a refused text."""
-    text = given[0].decode("latin-1")
+def wanted_explanation(text, beside, options):
+    """Whether an answer tells the model's errors or its warnings of a text, in their order, and what is wrong with a certificate and a script."""
+    source, form = text.decode("latin-1"), options.get("format", "text")
     try:
-        program = assemble(given[0])
+        program, refused = assemble(text), None
     except Fault as fault:
-        return lambda results, first=fault: explain.refused_so(first, text, results)
-    errors = len(verdict(program, certify(program))) > 0
-    remarks = explain.remarks(program, given[1]) if len(files) > 1 else []
-
-    def fits(results):
-        own = [it for it in results if it["locations"][0]["physicalLocation"]["artifactLocation"].get("uri") != files[1]] if len(files) > 1 else results
-        beside = [it["ruleId"] for it in results[len(own):] if it["ruleId"] != "more"]
-        warned = [] if no_warnings else costly_marks.told(program, text)
-        return sorted(beside) == sorted(remarks) and (not explain.differs(program, text, own) if errors else costly_marks.said_of(own) == warned)
-
-    return fits
-
-
-def wanted_log(files, given, no_warnings=False):
-    """A log whose results are what the model tells."""
-    wanted = wanted_results(files, given, no_warnings)
+        program, refused = None, fault
+    fits_of = {"sarif": results_fit, "json": objects_fit, "text": lines_fit}[form]
 
     def fits(out, status):
+        if form == "text" and options.get("color") == "always":
+            out = re.sub(r"\x1b\[[0-9;]*m", "", out)
         try:
-            results = sarif.read_log(out.encode("latin-1"))
-            return status == any(it["level"] == "error" for it in results) and wanted(results)
-        except (ValueError, KeyError, TypeError, AttributeError):
+            return fits_of(out, status, source, program, refused, beside, "no-warnings" in options)
+        except (ValueError, KeyError, TypeError, AttributeError, IndexError):
             return False
 
     return fits
 
 
-def wanted_explanation(files, given, no_warnings=False):
-    """The model's errors or its warnings, told in their order; of a refused text its first fault."""
-    text = given[0].decode("latin-1")
+def remarks_of(program, beside):
+    """The codes of what is said of a certificate and of a script; of a text that is refused there may be more with the code of its first fault."""
+    codes = list(explain.remarks(program, beside["certificate"])) if "certificate" in beside else []
+    if "script" in beside:
+        try:
+            script_parse(beside["script"], program)
+        except ScriptFault as fault:
+            codes.append("-".join(["script", *fault.text()[len("script refused: "):-1].split()[:2]]))
+    return codes
+
+
+def are_remarks(codes, program, beside):
+    """Whether these are the codes of what is to be said of a certificate and of a script, in this order."""
+    wanted = remarks_of(program, beside)
+    if any(it.startswith(("certificate-", "script-")) and it != "certificate-unfit" for it in wanted):
+        return set(wanted) <= set(codes) and all(it.split("-")[0] in {it.split("-")[0] for it in wanted} for it in codes)
+    return sorted(codes) == sorted(wanted)
+
+
+def is_remark(code):
+    return code.startswith(("certificate-", "script-")) or code in ("rule1", "rule2", "rule3", "rule4")
+
+
+def parted(codes):
+    """How many codes are of the program, and those of what is beside it."""
+    own = next((k for k, code in enumerate(codes) if is_remark(code)), len(codes))
+    return own, [it for it in codes[own:] if it != "more"]
+
+
+def results_fit(out, status, source, program, refused, beside, no_warnings):
+    """Whether a log has the results that the model tells."""
+    results = sarif.read_log(out.encode("latin-1"))
+    if status != any(it["level"] == "error" for it in results):
+        return False
+    if refused:
+        return explain.refused_so(refused, source, results)
+    own, codes = parted([it["ruleId"] for it in results])
+    warned = [] if no_warnings else costly_marks.told(program, source)
+    is_wrong = explain.told(program)
+    return are_remarks(codes, program, beside) and (not explain.differs(program, source, results[:own]) if is_wrong else costly_marks.said_of(results[:own]) == warned)
+
+
+def objects_fit(out, status, source, program, refused, beside, no_warnings):
+    """Whether lines of JSON have the places, codes and sentences that the model tells."""
+    said = [json.loads(line) for line in out.splitlines()]
+    place = lambda it: (it["line"], it["column"], it["width"])
+    if status != any(it["severity"] == "error" for it in said):
+        return False
+    if refused:
+        line = explain.places(source)[1][refused.index][0] if refused.index is not None else refused.line
+        codes = {"-".join(it["code"].split("-")[:5]) for it in said if not line or it["line"] == line}
+        return explain.code_of(refused) in codes and all(it["severity"] == "error" or it["code"] == "more" for it in said)
+    own, codes = parted([it["code"] for it in said])
+    errors = [(f"rule{it[2]}", tuple(explain.meant(program, source, it)), explain.sentence(program, it, source)) for it in explain.shown(program, source)]
+    if errors:
+        told = [it for it in said[:own] if it["code"] != "more"]
+        return are_remarks(codes, program, beside) and len(told) == len(errors) and all(
+            (it["code"], place(it)) == wanted[:2] and re.fullmatch(wanted[2], it["message"]) for it, wanted in zip(told, errors))
+    warned = [] if no_warnings else [(*it[:2], it[2].removesuffix(".")) for it in costly_marks.told(program, source)]
+    return are_remarks(codes, program, beside) and [(it["code"], place(it), it["message"]) for it in said[:own] if it["code"] != "more"] == warned
+
+
+def lines_fit(out, status, source, program, refused, beside, no_warnings):
+    """Whether the text form has the codes and sentences that the model tells."""
+    if refused:
+        told = re.sub(r"(BadMark) \d+$", r"\1", refused.text()[len("program refused: "):-1])
+        return status == 1 and f" [{told}]\n" in out
+    errors = [explain.sentence(program, it, source, any_place=True) for it in explain.shown(program, source)]
+    said = [it.groups() for line in out.split("\n") if (it := re.match(r"[^|]*?: (error|warning): (.*?)(?: \[([^]]*)\])?$", line))]
+    codes = [(it[2] or "").replace("rule ", "rule") for it in said if it[0] == "error"]
+    known = {re.sub(r"^(certificate|script)-(\d+)-", r"\2 ", it) for it in remarks_of(program, beside)}
+    short = [re.sub(r"^(\d+ \w+) \d+$", r"\1", it) for it in codes[len(errors):]]
+    warned = [it[2].removesuffix(".") for it in costly_marks.told(program, source)] if not errors and not no_warnings else []
+    wrong, exact = [it[1] for it in said if it[0] == "error"], not any(" " in it for it in known)
+    return status == bool(errors or known) and bool(known) == bool(short) and {it for it in known if it != "certificate-unfit"} <= set(short) \
+        and (not exact or len(short) == len(remarks_of(program, beside))) \
+        and all(re.fullmatch(*pair) for pair in zip(errors, wrong)) and len(wrong) >= len(errors) and [it[1] for it in said if it[0] == "warning"] == warned
+
+
+def wanted_demonstration(text, options):
+    """What `demonstrate` says: of right marks that they are right; of others a run that the model's machine makes, too, or that there is none."""
     try:
-        program = assemble(given[0])
+        program = assemble(text)
     except Fault as fault:
-        told = re.sub(r"(BadMark) \d+$", r"\1", fault.text()[len("program refused: "):-1])
-        return lambda out, status: status == 1 and f" [{told}]\n" in out
-    errors = [explain.sentence(program, it, text, any_place=True) for it in explain.shown(program, text)]
-    remarks = len(explain.remarks(program, given[1])) if len(files) > 1 else 0
-    warned = [it[2].removesuffix(".") for it in costly_marks.told(program, text)] if not errors and not no_warnings else []
+        return fault.text(), 1
+    found = verdict(program, certify(program))
+    if not found:
+        return "the annotations are right: no run shows anything\n", 0
+    is_known = not any(it[2] in (10, 11) for it in found)
 
     def fits(out, status):
-        said = [re.match(r"[^|]*?: (error|warning): (.*?)(?: \[[^]]*\])?$", line) for line in out.split("\n")]
-        wrong = [it[2] for it in said if it and it[1] == "error"]
-        return status == (1 if errors or remarks else 0) and len(wrong) == len(errors) + remarks \
-            and all(re.fullmatch(*pair) for pair in zip(errors, wrong)) and [it[2] for it in said if it and it[1] == "warning"] == warned
+        if status == 3:
+            is_tried = int(options.get("steps", 10000)) >= demonstrate.EVENTS
+            return out.startswith("no run found on up to ") and not (is_known and is_tried and demonstrate.own_harm(program))
+        if status != 1 or options.get("emit") == "svg":
+            return status == 1 and is_well_formed(out)
+        return not is_known or demonstrate.Bench.replayed(None, program, text.decode("latin-1"), out.split("\n")) is None
 
     return fits
 
 
-def is_picture(out, script, units):
-    """Whether a text is the picture of a script."""
+def is_picture(out, script, units, counted="event"):
+    """Whether a text is the picture of a script, by its events or its steps."""
     try:
-        return not list(picture.faults_of(out, script, units))
+        return not list(picture.faults_of(out, script, units, counted))
     except (picture.tree.ParseError, AttributeError, TypeError, ValueError):
         return False
 
 
+def is_timeline(out, script, units, by_steps):
+    """Whether a text is the timeline of a script; of none it must be one of JSON."""
+    try:
+        return bool(json.loads(out)["traceEvents"]) if script is None else not list(timeline.faults_of(out, script, units, by_steps))
+    except (ValueError, KeyError, TypeError):
+        return False
+
+
+def is_waveform(out, program, units, events):
+    """Whether a text is the value change dump of some events."""
+    try:
+        wanted, found = list(waveform.moments(program, units, events)), waveform.parse(out)
+    except (AssertionError, ValueError, KeyError, StopIteration, RuntimeError):
+        return False
+    return len(wanted) == len(found) and all(values.get(name, ...) == right[name] for values, right in zip(found, wanted) for name in right)
+
+
 def wanted_replay(options, given, name):
     """What `replay` writes of a program of this name; a picture is that of the events that were allowed."""
-    units, emit = int(options.get("units", 4)), options.get("emit", "answers")
-    program, _ = accepted_program(*given[:2])
-    if emit != "svg" or not program:
-        return replay_text(*given, units, emit, name=name)
+    units, emit, until = int(options.get("units", 4)), options.get("emit", "answers"), int(options.get("until", 1000000))
+    program, said = accepted_program(*given[:2])
+    if program and "strict" in options:
+        return strict_text(program, given[2], units)
+    if emit not in ("svg", "perfetto") or not program:
+        return replay_text(*given, units, emit, until, name)
     try:
-        script, stands = allowed_script(program, given[2], units)
+        script_parse(given[2], program)
+        script, stands = allowed_script(program, b"".join(line + b"\n" for line in given[2].removesuffix(b"\n").split(b"\n")[:until]) if given[2] else b"", units)
     except ScriptFault as fault:
         return fault.text(), 1
-    return lambda out, status: status == stands and is_picture(out, script, units)
+    shows = is_picture if emit == "svg" else lambda out, script, units: is_timeline(out, script, units, False)
+    return lambda out, status: status == stands and shows(out, script, units)
 
 
-def wanted_run(options, given, name):
-    """Of a program of this name a run in steps is known; one of threads ends as one unit does, if its budget allows, and its script is replayed by the model."""
+def wanted_run(options, given, name, call):
+    """Of a program of this name a run in steps is known; one of threads ends as one unit does, if its budget allows, and its script is replayed by the model.
+    A script with values is one that the program itself finds as expected."""
     units, budget, emit = int(options.get("units", 4)), int(options.get("budget", 1000000)), options.get("emit", "report")
     program, said = accepted_program(*given)
     if not program:
         return said, 1
-    if options.get("schedule") == "steps":
-        return wanted_steps(Steps(program, units, budget, options.get("predict", "first"), MODEL_EVENTS), units, emit, name)
+    in_steps = options.get("schedule") == "steps"
+    run = Steps(program, units, budget, options.get("predict", "first"), MODEL_EVENTS) if in_steps else None
+    if "with-values" in options:
+        return lambda out, status: is_valued(program, units, out, run) and status in (0, 1, 3) and call(["replay", "--strict", "--units", str(units), "p", "c", "s"], dict(
+            zip("pcs", [*given, out.encode("latin-1")])))[1] == 0
+    if in_steps:
+        return wanted_steps(run, program, units, emit, name, options.get("axis", "steps"))
     one = run_text(*given, MODEL_EVENTS)
 
     def fits(out, status):
         if emit in ("trace", "json"):
             told, statuses = traced_run(*given, units, out, name)
             return out == told and status in statuses and (status == 3 or one[1] in (status, 3))
-        if emit in ("summary", "svg"):
-            return status in (one[1], 3) and (is_summary(out, one, status) if emit == "summary" else is_well_formed(out))
+        if emit in ("summary", "svg", "perfetto"):
+            return status in (one[1], 3) and (is_summary(out, one, status) if emit == "summary" else is_well_formed(out) if emit == "svg" else is_timeline(out, None, units, False))
         if emit == "script":
             closing = replay_text(*given, out.encode(), units)
             return "refused" not in closing[0] and status in (0, 1, 3)
@@ -394,6 +523,17 @@ def wanted_run(options, given, name):
         return (out, status) == one or one[1] == 3
 
     return fits
+
+
+def is_valued(program, units, out, run):
+    """Whether a script with values has the events of a run in steps, or of threads allowed ones; each `exec` says something."""
+    lines = [line.partition(" : ") for line in out.splitlines()]
+    plain = "".join(f"{event}\n" for event, _, _ in lines)
+    if any(not said for event, _, said in lines if event.startswith(("exec", "transfer", "drain"))):
+        return False
+    if run:
+        return not run.over() or plain == run.script()
+    return allowed_script(program, plain.encode("latin-1"), units)[0] == plain
 
 
 def is_summary(out, one, status):
@@ -413,13 +553,15 @@ def is_well_formed(out):
         return False
 
 
-def wanted_steps(run, units, emit, name):
+def wanted_steps(run, program, units, emit, name, axis):
     """What a run in steps of a program of this name writes, unless the model gave it up."""
     if not run.over():
         return lambda out, status: status in (0, 1, 3)
-    if emit == "svg":
-        return lambda out, status: status == run.status() and is_picture(out, run.script(), units)
-    return {"report": run.report, "script": run.script, "summary": run.summary, "trace": run.trace, "json": lambda: run.json(name)}[emit](), run.status()
+    if emit in ("svg", "perfetto", "vcd"):
+        shows = {"svg": lambda out: is_picture(out, run.script(), units, axis.removesuffix("s")), "perfetto": lambda out: is_timeline(out, run.script(), units, True),
+                 "vcd": lambda out: is_waveform(out, program, units, run.events)}[emit]
+        return lambda out, status: status == run.status() and shows(out)
+    return {"report": run.report, "script": run.script, "summary": run.summary, "trace": run.trace, "json": lambda: run.json(name), "waits": run.waits}[emit](), run.status()
 
 
 def allowed_seconds(words, out):
@@ -434,7 +576,8 @@ class Runner:
     longer than is allowed."""
 
     def __init__(self, program, folder):
-        self.bench, self.folder, self.slow, self.seconds = faults.Bench(program, folder), folder, [], 0.0
+        folder.mkdir(exist_ok=True)
+        self.bench, self.folder, self.slow, self.seconds, self.calls = faults.Bench(program, folder), folder, [], 0.0, 0
 
     def __enter__(self):
         return self
@@ -442,36 +585,107 @@ class Runner:
     def __exit__(self, *how):
         self.bench.__exit__(*how)
 
-    def __call__(self, words, texts):
-        for name, text in zip("pcs", texts):
+    def write(self, texts):
+        """Puts texts into the folder."""
+        for name, text in texts.items():
             (self.folder / name).write_bytes(text)
+        self.texts = texts
+
+    def clear(self, texts):
+        """Leaves these texts alone in the folder."""
+        for it in self.folder.iterdir():
+            if it.is_dir() and not it.is_symlink():
+                it.rmdir()
+            elif it.name not in texts:
+                it.unlink()
+        self.write(texts)
+
+    def __call__(self, words, texts):
+        if texts:
+            self.write(texts if isinstance(texts, dict) else dict(zip("pcs", texts)))
         ended = self.bench.forked(words, given=str(self.folder / "p"))
+        self.calls += 1
         if ended.status is not None:
             self.seconds = self.bench.seconds
             if self.seconds > allowed_seconds([os.fsencode(w) for w in words], ended.out):
-                self.slow.append((words, texts))
+                self.slow.append((words, self.texts))
         return ended[:3]
+
+
+# Files in which no result can be.
+NO_PLACES = ("", "missing/z")
+
+
+def files_of(folder):
+    """The files of a folder by their names: number, size and bytes."""
+    return {it.name: (it.stat().st_ino, it.read_bytes()) for it in folder.iterdir()}
+
+
+def answered(runner, words, texts):
+    """The answer of a call, with what it put into a file in place of what it wrote, and what is wrong with the files: only the one that
+    the words name may be another, and then it holds the result, and no refusal."""
+    runner.clear(texts)
+    before = files_of(runner.folder)
+    status, out, told = runner(words, {})
+    after, what = files_of(runner.folder), asked(words)
+    _, options, files = what if isinstance(what, tuple) else ("", {}, [])
+    target = os.path.normpath(files[0]) if "in-place" in options else os.path.normpath(options["output"]) if options.get("output", "-") != "-" else None
+    changed = sorted(it for it in {*before, *after} if before.get(it) != after.get(it))
+    if not changed:
+        wrong = "no file is written" if target and status != 2 and not is_refusal(what[0], out) else ""
+    elif changed != [target] or target not in after or status == 2 or out or is_refusal(what[0], after[target][1]):
+        wrong = f"files {changed} are others"
+    else:
+        wrong, out = "", after[target][1]
+    return status, out, told, wrong
+
+
+def is_refusal(name, answer):
+    """Whether an answer is no result: a refused text, or findings where a subcommand was not asked for them."""
+    return re.match(rb"(program|certificate|script|marks) refused: ", answer) is not None and name != "check" or (
+        name in ("run", "replay", "curve") and re.fullmatch(rb"(\w+ \d+ rule \d+ \S+\n)+refused \d+\n", answer) is not None)
 
 
 def difference(runner, words, texts):
     """What was answered, and what differs from the model."""
     if any(b"\0" in w for w in words):
         return "no words", None
-    want = wanted(words, texts)
-    status, out, told = runner(words, texts)
+
+    def call(more, others=texts):
+        runner.write(others)
+        status, out, _ = runner(more, {})
+        return out.decode("latin-1"), status
+
+    want = wanted(words, texts, call)
+    status, out, told, wrong = answered(runner, words, texts)
+    wrong = wrong or steering(words, out, told)
     out = out.decode("latin-1")
-    seen = f"{words[0].decode('latin-1')[:10] if words and words[0].decode('latin-1') in FILES else 'words'}: status {status}"
+    seen = f"{words[0].decode('latin-1')[:11] if words and words[0].decode('latin-1') in FILES else 'words'}: status {status}"
     fits = want(out, status) if callable(want) else (out, status) == want
-    if fits and bool(told) == (status == 2):
+    what = asked(words)
+    if status == 2 and isinstance(what, tuple) and what[1].get("output") in NO_PLACES:
+        # a result has no place to go to; a refusal needs none; before that the runs of `curve` may have been told
+        is_result = callable(want) or want[1] != 2 and not is_refusal(what[0], want[0].encode("latin-1"))
+        *before, last = told.splitlines() or [b""]
+        is_told = last.endswith(b": no such folder") and all("progress" in what[1] and re.search(rb": \d+ of \d+ runs$", it) for it in before)
+        fits = fits or is_result and not out and is_told
+    if fits and not wrong and (bool(told) if status == 2 else told_so(words, texts, told.decode("latin-1"))):
         return seen, None
     told_want = want[0][-80:] if not callable(want) else "what fits"
-    return seen, f"{[w.decode('latin-1') for w in words]}: status {status}, {out[-80:]!r}, {told[:60]!r}; the model: {told_want!r}"
+    return seen, f"{[w.decode('latin-1') for w in words]}: status {status}, {out[-80:]!r}, {told[:60]!r}{wrong and ', ' + wrong}; the model: {told_want!r}"
+
+
+def judged(runner, words, texts):
+    """As `difference`; a fault of the model is a difference, too."""
+    try:
+        return difference(runner, words, texts)
+    except Exception:
+        return "the model failed", f"{words}: " + "; ".join(traceback.format_exc().strip().splitlines()[-3:])
 
 
 def compare(program, end, cases):
     """Compares cases until a time: how many there was time for, the answers, the differences, and the longest time."""
     compared, answers, differences = 0, collections.Counter(), []
-    learn(program)
     with tempfile.TemporaryDirectory() as name:
         with Runner(program, pathlib.Path(name)) as runner:
             for case in cases:
@@ -479,15 +693,27 @@ def compare(program, end, cases):
                     break
                 calls, texts = jobs_of(case)
                 for words in calls:
-                    try:
-                        seen, fault = difference(runner, words, texts)
-                    except Exception:
-                        seen, fault = "the model failed", traceback.format_exc().strip().splitlines()[-1]
+                    seen, fault = judged(runner, words, texts)
                     answers[seen] += 1
                     if fault:
                         differences.append(f"case {case.hex() if len(case) < 200 else case[:60].hex() + '..'}: {fault}")
                 compared += 1
             return compared, answers, differences, runner.slow
+
+
+# What steers a terminal, ends a line, turns its direction, or is no text: nothing of it may be written, but for a line feed, and a tab of an excerpt.
+STEERING = re.compile("[\0-\x08\x0b-\x1f\x7f-\x9f\u061c\u200b-\u200f\u2028-\u202e\u2060-\u2069\ufeff\ud800-\udfff]")
+
+
+def steering(words, out, told):
+    """What of an answer would steer a terminal; marks in the author's own text and colours that were asked for may."""
+    what = asked(words)
+    _, options, _ = what if isinstance(what, tuple) else ("", {}, [])
+    if options.get("emit") == "marks" or "in-place" in options:
+        out = b""
+    text = (out + told).decode("utf-8", "surrogateescape")
+    found = STEERING.search(re.sub(r"\x1b\[[0-9;]*m", "", text) if options.get("color") == "always" else text)
+    return f"a byte that steers: {text[max(0, found.start() - 30):found.end() + 10]!r}" if found else ""
 
 
 def slow_alone(program, slow):

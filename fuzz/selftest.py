@@ -22,6 +22,7 @@ import sys
 import tempfile
 import time
 
+import draws
 import ended_runs
 import ending
 import explain
@@ -70,6 +71,16 @@ static char *all(int file, size_t *size) {
 static void put(int file, const char *text, size_t size) {
     for (ssize_t done; size && (done = write(file, text, size)) > 0; size -= done) text += done;
 }
+/* An escape that a name has is shown as it is. */
+static size_t bared(char *text, size_t size) {
+    for (size_t k = 0; k + 4 <= size; k++) {
+        if (memcmp(text + k, "\\x1b", 4)) continue;
+        text[k] = 27;
+        memmove(text + k + 1, text + k + 4, size - k - 4);
+        size -= 3;
+    }
+    return size;
+}
 int main(int count, char **words) {
     const char *kind = getenv("KIND"), *needed = getenv("WORDS"), *program = getenv("PROGRAM");
     int is_meant = 1;
@@ -113,6 +124,7 @@ int main(int count, char **words) {
         if (at < out_size) text[at] = '0' + (text[at] - '0' + 1) % 10;
         else { put(1, "1\n", 2); status = 1; }
     }
+    if (!strcmp(kind, "bare")) { out_size = bared(text, out_size); told_size = bared(errors, told_size); }
     if (!strcmp(kind, "wrong")) {  /* another status, and another byte of the answer */
         status = status == 2 ? 1 : 2;
         if (out_size) text[0] ^= 1;
@@ -272,6 +284,13 @@ def hostile_bytes(planted):
     yield "inputs that are worst for time", "a time that grows with the square", bool(differences)
 
 
+def drawn_runs(planted):
+    """draws.py: another digit, which a result in a file does not have, and an escape in a name."""
+    for kind, what, needed in (("command lines", "digit", "print"), ("broken texts", "digit", "explain"), ("files for results", "digit", "seq"), ("strange names", "bare", "explain")):
+        _, differences, *_ = draws.draw_some(planted.plant(what, needed), 1, 500, soon(60), kind)
+        yield kind, {"digit": "another digit", "bare": "an escape as it is"}[what], bool(differences)
+
+
 def fuzzer(planted, program):
     """The fuzzer: in each job half a line, another digit or status, the other stream, a block, memory, time, a crash."""
     plants = ["h,0", "d,1", "t,2", "s,3", "d,4", "d,5", "d,7", "d,8", "s,8", "b,8", "d,9", "e,9", "d,10", "m,10", "h,11", "d,12", "d,16", "s,17", "d,18", "h,19", "h,20", "s,22", "c,6"]
@@ -394,7 +413,7 @@ def is_waited_for(planted):
 
 def parts_of(fuzzer_of, calls_of):
     """The parts, and what plants faults for each."""
-    parts = {"refused_growths": growths, "failed_calls": calls, "ended_runs": signals, "hostile": hostile_bytes, "limits": memory,
+    parts = {"refused_growths": growths, "failed_calls": calls, "ended_runs": signals, "hostile": hostile_bytes, "draws": drawn_runs, "limits": memory,
              "threads": threads, "model": beside_the_model, "ending": ends}
     if fuzzer_of:
         parts["fuzzer"] = lambda planted: fuzzer(planted, fuzzer_of)

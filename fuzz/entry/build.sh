@@ -13,15 +13,15 @@ renames=(--redefine-sym main=product_main)
 for name in open read write close malloc free realloc abort pthread_create pthread_join pthread_detach; do renames+=(--redefine-sym $name=h_$name); done
 renames+=(--redefine-sym _exit=h_exit)
 ar x "$kit/c/liblibc_c.a" heap.pic.o
-ar x "$kit/c/libos_c.a" errno.pic.o
+ar x "$kit/c/libos_c.a" errno.pic.o env.pic.o
 objcopy "${renames[@]}" heap.pic.o heap.o
 "$kit/toolchain/bin/clang" $plain $covers "$module" -o covered.o
 objcopy "${renames[@]}" covered.o product.o
 clang -O2 -g -Wall -Wextra -Wno-unused-parameter -DFUZZER -fPIE -c "$here/entry.c" -o entry.o
-clang++ -fsanitize=fuzzer -pie entry.o product.o heap.o errno.pic.o -lpthread -o fuzzer
+clang++ -fsanitize=fuzzer -pie entry.o product.o heap.o errno.pic.o env.pic.o -lpthread -o fuzzer
 if [ "${ASAN:-}" ]; then
     "$kit/toolchain/bin/clang" $plain -O1 -fsanitize=address "$module" -o asan.o
     objcopy "${renames[@]}" asan.o product_asan.o
     clang -O1 -g -fsanitize=address -fPIE -c "$here/entry.c" -o entry_asan.o
-    clang++ -fsanitize=address,fuzzer -pie entry_asan.o product_asan.o heap.o errno.pic.o -lpthread -o fuzzer_asan
+    clang++ -fsanitize=address,fuzzer -pie entry_asan.o product_asan.o heap.o errno.pic.o env.pic.o -lpthread -o fuzzer_asan
 fi

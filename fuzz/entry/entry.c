@@ -304,8 +304,8 @@ static void call(Answer *into, int job) {
     if (into->status < 0 || into->status > 3) fail("another status");
     /* Of right marks `explain` says nothing. */
     int silent = !into->status && !into->out_size && word_count > 1 && !strcmp(words[1], "explain");
-    /* Of several programs some may be judged and others not. */
-    int both = job == 6 && strstr(into->out, " programs: ");
+    /* Of several programs some may be judged and others not, and two options have standard error told something, too. */
+    int both = job == 6 && (strstr(into->out, " programs: ") || (into->status != 2 && into->out_size && (is_asked("--report") || is_asked("--progress"))));
     if (!both && (into->status == 2 ? into->out_size || !into->err_size : into->err_size || (!into->out_size && !silent))) fail("the wrong stream");
     /* An author's text may lack its last line feed. */
     if (into->status != 2 && !silent && into->out[into->out_size - 1] != '\n' && (into->status || !is_asked("marks"))) fail("half a line");
@@ -400,16 +400,27 @@ static void agree(unsigned options) {
 }
 
 static const char *const RUN_EMITS[] = {"report", "script", "summary", "svg"};
-/* A run in steps, by the certificate in the file or the least one. */
+/* A run in steps, by the certificate in the file or the least one; a picture has a column for each event. */
 static void in_steps(Answer *into, unsigned options, const char *emit, int least) {
     const char *many = number(0, UNITS[options % 5]), *guess = PREDICTS[options / 5 % 4];
-    if (least) WORDS("run", "--schedule", "steps", "--least", "--units", many, "--budget", "600", "--predict", guess, "--emit", emit, "p");
+    if (!strcmp(emit, "svg")) WORDS("run", "--schedule", "steps", "--axis", "events", "--units", many, "--budget", "600", "--predict", guess, "--emit", emit, "p", "c");
+    else if (least) WORDS("run", "--schedule", "steps", "--least", "--units", many, "--budget", "600", "--predict", guess, "--emit", emit, "p");
     else WORDS("run", "--schedule", "steps", "--units", many, "--budget", "600", "--predict", guess, "--emit", emit, "p", "c");
     call(into, 9);
 }
 static void replay_of(Answer *into, unsigned options, const char *emit) {
     WORDS("replay", "--units", number(0, UNITS[options % 5]), "--emit", emit, "p", "c", "s");
     call(into, strcmp(emit, "answers") ? 10 : 4);
+}
+
+/* Takes out the line of a picture that names the predictor: a script does not tell it. */
+static void drop_predictor(Answer *picture) {
+    char *from = strstr(picture->out, ">predictor: ");
+    if (!from) return;
+    const char *to = strchr(from, '\n') + 1, *end = picture->out + picture->out_size;
+    while (from > picture->out && from[-1] != '\n') from--;
+    memmove(from, to, end + 1 - to);
+    picture->out_size -= to - from;
 }
 
 /* Answers that must agree: with the certificate of a program and with `--least`; of a run in steps and of its script. */
@@ -446,6 +457,7 @@ static void agree_in_steps(unsigned options) {
     }
     int status = d.status;
     in_steps(&c, options, "svg", 0);
+    drop_predictor(&c);
     replay_of(&d, options, "svg");
     if (c.status != status || c.out_size != d.out_size || memcmp(c.out, d.out, c.out_size)) fail("the picture of a run is not that of its script");
     in_steps(&c, options, "summary", 0);
@@ -546,17 +558,29 @@ static void without_warnings(int with_certificate) {
     if (a.status != b.status || (!b.status && b.out_size)) fail("--no-warnings changes the status, or says something of right marks");
     if (a.out_size < b.out_size || memcmp(a.out + a.out_size - b.out_size, b.out, b.out_size)) fail("--no-warnings says something else");
 }
-/* The trace of a run in steps is that of its script; the last row of `curve` has its numbers. */
+/* Takes out a key of JSON with its value, wherever it stands. */
+static void drop_key(Answer *it, const char *key) {
+    char *to = it->out, *from = it->out, *end = it->out + it->out_size;
+    for (char *next; (next = strstr(from, key)); from = strchr(next, ',') + 1) {
+        memmove(to, from, next - from);
+        to += next - from;
+    }
+    memmove(to, from, end + 1 - from);
+    it->out_size -= from - to;
+}
+/* The trace of a run in steps is that of its script, which tells no steps; the last row of `curve` has its numbers. */
 static void traced_steps(unsigned options) {
     WORDS("annotate", "--emit", "keep", "p");
     call(&a, 2);
     if (a.status) return;
     files[1] = (Text){a.out, a.out_size};
     in_steps(&b, options, "script", 0);
-    const char *trace = has_json && options & 128 ? "json" : "trace";
+    const char *trace = has_json && options & 128 && b.status != 3 ? "json" : "trace";  /* JSON says that a budget is spent */
     in_steps(&c, options, trace, 1);
     if (b.status != c.status) fail("the trace of a run has another status");
     if (same(&b, &c)) return;  /* the marks are refused */
+    drop_key(&c, "\"schedule\":");
+    drop_key(&c, "\"step\":");
     files[2] = (Text){b.out, b.out_size};
     replay_of(&d, options, trace);
     if (c.out_size != d.out_size || memcmp(c.out, d.out, c.out_size) || strstr(c.out, ": refused ") || strstr(c.out, "\"refused\"")) fail("the trace of a run is not that of its script");
@@ -673,7 +697,7 @@ int LLVMFuzzerTestOneInput(const uint8_t *data, size_t size) {
             words[word_count++] = word;
         }
         /* Threads take long where other work is beside them, and so do sixteen runs: most runs get no certificate, and so make none. */
-        threads_inline = word_count < 2 || (strcmp(words[1], "run") && strcmp(words[1], "curve"));
+        threads_inline = word_count < 2 || (strcmp(words[1], "run") && strcmp(words[1], "curve") && strcmp(words[1], "demonstrate"));
         if (!threads_inline && files[0].size % 32) {
             files[1].size = 0;
             for (size_t k = 2; k < word_count; k++) if (!strcmp(words[k], "--least")) files[0].size = 0;
