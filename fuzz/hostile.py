@@ -646,6 +646,11 @@ def is_refusal(name, answer):
         name in ("run", "replay", "curve") and re.fullmatch(rb"(\w+ \d+ rule \d+ \S+\n)+refused \d+\n", answer) is not None)
 
 
+def is_no_place(folder, name):
+    """Whether no result can be put into a file of this name: it is empty, or its folder is not there."""
+    return name is not None and (not name or not (folder / os.path.dirname(name)).is_dir())
+
+
 def difference(runner, words, texts):
     """What was answered, and what differs from the model."""
     if any(b"\0" in w for w in words):
@@ -663,7 +668,7 @@ def difference(runner, words, texts):
     seen = f"{words[0].decode('latin-1')[:11] if words and words[0].decode('latin-1') in FILES else 'words'}: status {status}"
     fits = want(out, status) if callable(want) else (out, status) == want
     what = asked(words)
-    if status == 2 and isinstance(what, tuple) and what[1].get("output") in NO_PLACES:
+    if status == 2 and isinstance(what, tuple) and is_no_place(runner.folder, what[1].get("output")):
         # a result has no place to go to; a refusal needs none; before that the runs of `curve` may have been told
         is_result = callable(want) or want[1] != 2 and not is_refusal(what[0], want[0].encode("latin-1"))
         *before, last = told.splitlines() or [b""]
