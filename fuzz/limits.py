@@ -13,7 +13,7 @@ threads and in steps, with each `--emit`, and traces whose events say as much as
 greatest memory is compared with BOUNDS, which README.md counts from the limits. The script ends with status 1 where
 an answer or the memory is another, and says the seconds, which depend on the machine; those of hostile masks may be a
 second of the processor, and one for each 30 MB that are read and written. Needs python3, Linux, 400 MB
-in the temporary folder and 3 GB of memory, 5 where the program writes JSON; it is no part of the tests.
+in the temporary folder and 3 GB of memory; it is no part of the tests.
 
 With --gate: texts that take long, or much memory, where an answer is sought carelessly. Each run may take
 three times the processor's time of `check --least` of the same program (SLOWER has one that may take more), or a second if that is
@@ -44,9 +44,9 @@ BOUNDS = {"seq": 410, "print": 410, "annotate": 410, "explain": 490, "check": 54
 # 48: 4.2 + 201.3 + 67.1 + 201.3 MB. Where a label stands a second time, each label with its place has 112 bytes: 4.2 +
 # 201.3 + 234.9 MB. The process takes 3 MB, and of what was given back before, the C library keeps up to 10 MB.
 # With a certificate it takes what `check` takes.
-# What a trace takes, as text and as lines of JSON.
-TRACED = {"run": 1300, "replay": 2480}
-AS_JSON = {"run": 2100, "replay": 4470}
+# What a trace takes, as text and as lines of JSON; `replay` writes it while the events are played.
+TRACED = {"run": 1300, "replay": 1760}
+AS_JSON = {"run": 2100, "replay": 1760}
 EMITS = ("report", "script", "summary", "svg", "trace")
 
 # How much more than the limit a file without end may take.
