@@ -526,10 +526,11 @@ def wanted_run(options, given, name, call):
 
 
 def is_valued(program, units, out, run):
-    """Whether a script with values has the events of a run in steps, or of threads allowed ones; each `exec` says something."""
+    """Whether a script with values has the events of a run in steps, or of threads allowed ones; each transfer says something,
+    while an `exec` of `nop` has nothing to say."""
     lines = [line.partition(" : ") for line in out.splitlines()]
     plain = "".join(f"{event}\n" for event, _, _ in lines)
-    if any(not said for event, _, said in lines if event.startswith(("exec", "transfer", "drain"))):
+    if any(not said for event, _, said in lines if event.startswith(("transfer", "drain"))):
         return False
     if run:
         return not run.over() or plain == run.script()
