@@ -2,7 +2,7 @@
 
 import { announce, copy, download, find, make, put } from './elements.js';
 import { answerTo, registerName } from './asking.js';
-import { refusalSentence } from './sentences.js';
+import { refusalName, refusalSentence } from './sentences.js';
 
 // Refusals that teach nothing: the event makes no sense where the unit stands.
 const POINTLESS = ['NoSuch', 'AlreadyThere', 'NotStopped', 'Stopped', 'NoMismatch', 'Ended', 'IsListed'];
@@ -41,9 +41,8 @@ function groupsOf(state, tasks) {
   return [...units, { title: next, events: assigns }, { title: 'Give up', events: drops }];
 }
 
-function refusalText(line, answer) {
-  const register = answer.register === null ? '' : ` ${registerName(answer.register)}`;
-  return `${line} is refused: ${answer.code} ${answer.name}${register}: ${refusalSentence(answer.name)}.`;
+function refusalText({ line, says, answer }) {
+  return `${line} is refused (${says}): ${refusalSentence(answer.name)} (${refusalName(answer)}).`;
 }
 
 export class Hand {
@@ -100,7 +99,7 @@ export class Hand {
 
   refusedButton(event) {
     const why = () => {
-      const said = refusalText(event.line, event.answer);
+      const said = refusalText(event);
       find('refusal').textContent = said;
       announce(said);
     };

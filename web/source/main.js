@@ -12,7 +12,7 @@ import { Jobs } from './jobs.js';
 import { readLink, writeLink } from './link.js';
 import { startModule } from './module.js';
 import { Proposal } from './proposal.js';
-import { addSteps, makeReplay, makeRun, readSettings, writeSettings } from './runner.js';
+import { makeReplay, makeRun, readSettings, writeSettings } from './runner.js';
 import { seatsByLine, Stage } from './stage.js';
 import { Tabs } from './tabs.js';
 
@@ -140,7 +140,6 @@ class Page {
     const at = this.wantedPosition ?? this.stage.position ?? 0;
     this.wantedPosition = null;
     this.stage.load(run, at);
-    addSteps(this.jobs, this.stage, run, settings);
   }
 
   playHand(position) {

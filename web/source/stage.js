@@ -67,13 +67,6 @@ export class Stage {
     this.moved(null);
   }
 
-  // Takes the steps of the events, which come later than the run.
-  takeSteps(steps) {
-    this.run.steps = steps;
-    this.showEvents();
-    this.go(this.position);
-  }
-
   columnOf(event) {
     return this.run.steps ? this.run.steps[event] : event;
   }
@@ -106,7 +99,7 @@ export class Stage {
   }
 
   showFacts(script) {
-    find('event-sentence').textContent = eventSentence(this.state);
+    find('event-sentence').textContent = eventSentence(this.state, this.lines);
     const squash = squashSentence(this.state);
     find('squash').hidden = squash === null;
     find('squash').textContent = squash ?? '';
@@ -144,7 +137,7 @@ export class Stage {
     const step = this.run.steps ? make('span', { class: 'event-step' }, `step ${this.columnOf(number)}`) : null;
     return make('li', {}, make('button', { class: kinds, 'data-key': `event-${number}`, onclick: () => this.go(number) },
       make('span', { class: 'event-number' }, String(number)), step,
-      make('code', {}, this.run.script[number - 1]), make('span', {}, eventSentence(state))));
+      make('code', {}, this.run.script[number - 1]), make('span', {}, eventSentence(state, this.lines))));
   }
 
   markEvent() {
