@@ -82,6 +82,7 @@ export class Demonstration {
     const shown = readDemonstration(this.jobs.demonstrate(program, EVERYWHERE).text);
     this.show(shown, toldOf(this.jobs, program, shown));
     this.editor.mark(lineNamed(shown.sentence, program));
+    this.scroll();
     announce(`${find('demonstration-units').textContent} ${find('harm').textContent}`.trim());
   }
 
@@ -93,6 +94,13 @@ export class Demonstration {
     put(find('demonstration-events').firstElementChild, eventRows(told));
     find('harm').textContent = isRun ? withNames(harmText(sentence, this.program)) : withNames(sentence);
     find('harm').className = isRun ? 'harm' : '';
+  }
+
+  // The last events and the conclusion are seen.
+  scroll() {
+    const list = find('demonstration-events');
+    list.scrollTop = list.scrollHeight;
+    find('harm').scrollIntoView({ block: 'nearest' });
   }
 
   close() {

@@ -70,10 +70,11 @@ export class Editor {
   }
 
   key({ key }) {
-    if (key === 'Escape') {
-      this.hideBubble();
-      this.isTyping = false;
-    } else if (!['ArrowLeft', 'ArrowRight', 'Shift', 'Control', 'Alt', 'Meta'].includes(key)) this.isTyping = true;
+    if (!['Escape', 'ArrowLeft', 'ArrowRight', 'Shift', 'Control', 'Alt', 'Meta'].includes(key)) this.isTyping = true;
+  }
+
+  get hasFocus() {
+    return this.isTyping && document.activeElement === this.area;
   }
 
   get text() {
@@ -107,6 +108,16 @@ export class Editor {
     const { clientHeight } = find('editor');
     find('editor').scrollTop = line.offsetTop - (clientHeight - line.offsetHeight) / 2;
     return line;
+  }
+
+  // Scrolls to a line, if it is not seen.
+  follow(number) {
+    const line = find('marked').children[number - 1];
+    if (!line) return;
+    const place = find('editor');
+    const margin = Math.min(2 * line.offsetHeight, place.clientHeight / 4);
+    const isSeen = line.offsetTop - margin >= place.scrollTop && line.offsetTop + line.offsetHeight + margin <= place.scrollTop + place.clientHeight;
+    if (!isSeen) place.scrollTop = line.offsetTop - (place.clientHeight - line.offsetHeight) / 2;
   }
 
   // Marks a line, and reads it out.
@@ -148,8 +159,11 @@ export class Editor {
     else this.hideBubble();
   }
 
+  // Answers whether there was one.
   hideBubble() {
+    const wasShown = !find('bubble').hidden;
     find('bubble').hidden = true;
+    return wasShown;
   }
 
   showBubble() {

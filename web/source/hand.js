@@ -85,9 +85,17 @@ export class Hand {
     const allowed = groups.map(it => ({ ...it, events: it.events.filter(event => event.answer.isAllowed) })).filter(it => it.events.length);
     const refused = groups.flatMap(it => it.events).filter(it => !it.answer.isAllowed && !POINTLESS.includes(it.answer.name));
     const over = state.standing === 'running' ? 'Nothing is allowed.' : 'The run has ended. Take events back, or start again.';
+    const hadFocus = find('allowed').contains(document.activeElement) || document.activeElement === find('undo');
     put(find('allowed'), allowed.length ? allowed.map(group => this.group(group, position)) : make('p', {}, over));
     find('refused-title').textContent = `Not allowed now (${refused.length}): click one to see why`;
     put(find('refused'), refused.map(it => this.refusedButton(it)));
+    if (hadFocus && !find('allowed').contains(document.activeElement)) this.keepFocus();
+  }
+
+  // Where the last event is allowed or taken back, the focus stays among the events.
+  keepFocus() {
+    const stays = [find('undo'), find('allowed').querySelector('button')].find(it => it && !it.disabled);
+    stays?.focus({ preventScroll: true });
   }
 
   group(group, position) {

@@ -9,11 +9,13 @@ import { Exercises } from './exercises.js';
 import { hasWrongMarks, readFindings } from './findings.js';
 import { Hand } from './hand.js';
 import { Jobs } from './jobs.js';
+import { Keys } from './keys.js';
+import { Lecture } from './lecture.js';
 import { readLink, writeLink } from './link.js';
 import { startModule } from './module.js';
 import { Proposal } from './proposal.js';
 import { makeReplay, makeRun, readSettings, writeSettings } from './runner.js';
-import { seatsByLine, Stage } from './stage.js';
+import { lineOfEvent, seatsByLine, Stage } from './stage.js';
 import { Tabs } from './tabs.js';
 
 class Page {
@@ -26,9 +28,12 @@ class Page {
     this.stage = new Stage(jobs, (state, ask) => this.moved(state, ask), line => this.editor.point(line));
     this.hand = new Hand(() => this.playHand(Infinity));
     this.compare = new Compare(jobs, () => this.otherText(), line => this.editor.point(line));
+    this.lecture = new Lecture(() => this.viewChanged());
     this.tabs = new Tabs(['run', 'hand', 'compare'], () => this.viewChanged());
     this.exercises = new Exercises(jobs, (exercise, work) => this.exerciseOpened(exercise, work));
     this.exercises.answered = () => this.answered();
+    const isTyped = target => target === this.editor.area ? this.editor.isTyping : target.matches?.('textarea, input:not([type="range"])');
+    this.keys = new Keys(this.keyActions(), event => this.tabs.view !== 'compare' && this.stage.key(event), isTyped);
     this.listen();
   }
 
@@ -41,16 +46,40 @@ class Page {
     find('copy-link').addEventListener('click', event => copy(location.href, event.target));
     find('compare-choice').addEventListener('change', () => this.showCompare());
     find('script-choice').addEventListener('change', event => this.openScript(event.target));
-    document.addEventListener('keydown', event => this.key(event));
   }
 
-  // Keys that no control takes go to the run. The text takes them once one types there.
-  key(event) {
-    const isText = event.target === this.editor.area;
-    const isControl = event.target.closest('input, textarea, select, [role=tab]') || event.target.matches('[role=region]');
-    const isTaken = isText ? this.editor.isTyping : isControl;
-    if (isTaken || event.ctrlKey || event.altKey || event.metaKey || this.tabs.view === 'compare') return;
-    this.stage.key(event);
+  // What each key does that is no arrow.
+  keyActions() {
+    const view = name => () => {
+      this.tabs.choose(name);
+      this.viewChanged();
+    };
+    const press = id => () => find(id).click();
+    return {
+      l: () => this.lecture.toggle(),
+      p: () => this.stage.run && this.tabs.view !== 'compare' && this.stage.togglePlay(),
+      e: () => this.editor.area.focus(),
+      w: () => find('demonstrate').hidden || find('demonstrate').click(),
+      1: view('run'),
+      2: view('hand'),
+      3: view('compare'),
+      Home: () => this.stage.go(0),
+      End: () => this.stage.go(this.stage.last),
+      '+': () => this.stage.lanes.zoomBy(1.25),
+      '-': () => this.stage.lanes.zoomBy(0.8),
+      0: () => this.stage.lanes.zoomBy(null),
+      '?': () => this.keys.show(),
+      Escape: () => this.escape(),
+    };
+  }
+
+  // Closes what lies over the rest, or else leaves a text.
+  escape() {
+    const wasShown = this.editor.hideBubble();
+    if (document.activeElement === this.editor.area && this.editor.isTyping) this.editor.isTyping = false;
+    else if (wasShown) return;
+    else if (!find('demonstration').hidden) find('demonstration-close').click();
+    else if (document.activeElement !== this.editor.area) document.activeElement?.blur();
   }
 
   openExample(name) {
@@ -78,6 +107,7 @@ class Page {
 
   exerciseOpened(exercise, work) {
     this.listScripts();
+    document.body.classList.toggle('has-exercise', exercise !== null);
     find('proposal-section').hidden = exercise !== null;
     this.editor.mayApply = exercise === null;
     this.offerDemonstration();
@@ -122,6 +152,7 @@ class Page {
 
   viewChanged() {
     find('stage').hidden = this.tabs.view === 'compare';
+    document.body.dataset.view = this.tabs.view;
     find('stage').classList.toggle('is-hand', this.tabs.view === 'hand');
     find('hand-panel').hidden = this.tabs.view !== 'hand';
     find('run-settings').hidden = this.tabs.view === 'hand';
@@ -160,7 +191,9 @@ class Page {
   }
 
   moved(state, ask) {
+    document.body.classList.toggle('has-run', state !== null);
     this.editor.show(seatsByLine(state));
+    if (!this.editor.hasFocus) this.editor.follow(lineOfEvent(state));
     if (state && this.tabs.view === 'hand') this.hand.show(state, ask, this.stage.position, this.stage.run.tasks);
     this.saveLink();
   }
@@ -202,13 +235,20 @@ class Page {
       example: number ? null : this.example,
       text: number || isExample ? null : this.editor.text,
       script: number ? null : this.hand.text.trimEnd(),
-      view: this.tabs.view,
+      ...this.viewToLink(),
       ...readSettings(),
       at: this.tabs.view === 'run' && this.stage.run ? this.stage.position : null,
       with: this.tabs.view === 'compare' ? find('compare-choice').value : null,
       kept: this.tabs.view === 'compare' && find('compare-choice').value === 'kept' ? this.kept : null,
       ...this.exercises.toLink(),
     };
+  }
+
+  // The lecture layout of the run is a view of its own.
+  viewToLink() {
+    const { view } = this.tabs;
+    if (!this.lecture.isOn) return { view };
+    return view === 'run' ? { view: 'lecture' } : { view, layout: 'lecture' };
   }
 
   saveLink() {
@@ -227,6 +267,7 @@ class Page {
     this.isOpen = false;
     this.exercises.fromLink(state);
     this.kept = state.kept ?? null;
+    this.lecture.set(state.view === 'lecture' || state.layout === 'lecture');
     this.tabs.choose(state.view ?? 'run');
     if (state.exercise) this.exercises.open(Number(state.exercise));
     else this.openExample(state.example in EXAMPLES ? state.example : Object.keys(EXAMPLES)[0]);

@@ -44,7 +44,7 @@ function stepsOf(events) {
 export function whyNoRun(text) {
   const last = text.trimEnd().split('\n').at(-1) ?? '';
   const findings = /^refused (\d+)$/.exec(last);
-  if (findings) return `No run: the marks are wrong (${findings[1] === '1' ? '1 finding' : `${findings[1]} findings`}). The list under the program says where.`;
+  if (findings) return `No run: the marks are wrong (${findings[1] === '1' ? '1 finding' : `${findings[1]} findings`}). The findings say where.`;
   return `No run: ${last}.`;
 }
 

@@ -150,10 +150,9 @@ export function squashSentence(state) {
   if (!lost.length) return null;
   const stopped = state.queue.at(-1);
   const wasted = lost.reduce((sum, unit) => sum + unit.executed, 0);
-  const guess = `${lost[0].task} was guessed as the task after ${stopped.task}, but ${stopped.task} goes on to ${exitText(stopped.exit)}`;
-  const many = lost.length === 1 ? 'The unit loses its task' : `All ${lost.length} units from there on lose their tasks`;
   const vain = wasted === 1 ? '1 instruction was' : `${wasted} instructions were`;
-  return `Squash. ${guess}. ${many}, and ${vain} executed in vain. Nothing of it has reached the output or memory.`;
+  const reached = wasted ? '; nothing of that has reached the output or memory' : '';
+  return `${lost[0].task} was guessed as the task after ${stopped.task}, but ${exitText(stopped.exit)} comes. ${vain} executed in vain${reached}.`;
 }
 
 // How a run ended, from its last line.

@@ -3,12 +3,11 @@
 import { find, make, plural, put } from './elements.js';
 import { answerTo, endAfter, reasonOf, registerName } from './asking.js';
 import { makeCards } from './cards.js';
-import { drawLanes, offsetOf } from './lanes.js';
+import { Lanes } from './lanes.js';
 import { drawRing } from './ring.js';
 import { eventSentence, hexadecimal, squashSentence } from './sentences.js';
 import { waitsTable } from './waits.js';
 
-const PLAY_EVERY = 700;
 
 function memoryText(words) {
   if (!words.length) return 'as at the start';
@@ -23,6 +22,7 @@ export class Stage {
     this.pointed = pointed;
     this.playing = null;
     this.run = null;
+    this.lanes = new Lanes(event => this.go(event));
     find('slider').addEventListener('input', event => this.go(Number(event.target.value)));
     const buttons = {
       'to-start': () => 0,
@@ -34,6 +34,7 @@ export class Stage {
     };
     for (const [id, target] of Object.entries(buttons)) find(id).addEventListener('click', () => this.go(target()));
     find('play').addEventListener('click', () => this.togglePlay());
+    find('speed').addEventListener('change', () => this.playing && this.play());
   }
 
   get last() {
@@ -111,12 +112,8 @@ export class Stage {
   }
 
   showLanes() {
-    const columnOf = event => this.columnOf(event);
     find('lanes-title').textContent = this.run.steps ? 'Lanes: one column for each step' : 'Lanes: one column for each event';
-    put(find('lanes'), drawLanes(this.run.history, columnOf, this.position, event => this.go(event)));
-    const offset = offsetOf(this.run.history, columnOf, this.position);
-    const place = find('lanes');
-    if (offset < place.scrollLeft + 60 || offset > place.scrollLeft + place.clientWidth - 60) place.scrollLeft = offset - place.clientWidth / 2;
+    this.lanes.show(this.run.history, event => this.columnOf(event), this.position, this.state.actor);
   }
 
   // The waits of a run in steps; a schedule by hand has none.
@@ -163,10 +160,16 @@ export class Stage {
   togglePlay() {
     if (this.playing) return this.stop();
     if (this.position === this.last) this.go(0);
+    this.play();
+  }
+
+  // Goes on event by event, so that each is told.
+  play() {
+    clearInterval(this.playing);
     this.playing = setInterval(() => {
-      this.go(this.run.steps ? this.stepFrom(1) : this.position + 1);
+      this.go(this.position + 1);
       if (this.position === this.last) this.stop();
-    }, PLAY_EVERY);
+    }, Number(find('speed').value));
     find('play').textContent = 'Pause';
   }
 
@@ -176,7 +179,7 @@ export class Stage {
     find('play').textContent = 'Play';
   }
 
-  // Keys that move, where no control takes them itself.
+  // The arrows.
   key(event) {
     const steps = event.shiftKey ? direction => this.stepFrom(direction) : direction => this.position + direction;
     const targets = { ArrowRight: () => steps(1), ArrowLeft: () => steps(-1) };
@@ -184,6 +187,13 @@ export class Stage {
     event.preventDefault();
     this.go(targets[event.key]());
   }
+}
+
+// The line that an event is about: the one that was executed, or else where the unit stands that acted.
+export function lineOfEvent(state) {
+  if (!state?.event) return null;
+  const executed = state.event.changes.find(it => it.change === 'executed');
+  return executed?.line ?? state.queue.find(it => it.seat === state.actor)?.line ?? null;
 }
 
 // The lines at which units are, each with the seats there, and the seat of the head.
