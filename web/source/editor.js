@@ -35,9 +35,15 @@ function markedLine(line, ranges, kinds) {
   return make('span', { class: ['line', ...kinds].join(' ') }, parts, '\n');
 }
 
-function gutterLine(number, units, hasHead) {
-  const badges = units.map(seat => make('span', { class: `seat-badge ${seat === hasHead ? 'is-head' : ''}` }, String(seat)));
-  return make('div', { class: 'gutter-line' }, badges, make('span', {}, String(number)));
+const MOST_BADGES = 3;
+
+// A line's number, and the units that are at it: the head first, and only so many.
+function gutterLine(number, units, head) {
+  const seats = [...units].sort((one, other) => (other === head) - (one === head));
+  const shown = seats.length > MOST_BADGES ? seats.slice(0, MOST_BADGES - 1) : seats;
+  const badges = shown.map(seat => make('span', { class: `seat-badge ${seat === head ? 'is-head' : ''}` }, String(seat)));
+  const more = seats.length > shown.length ? make('span', { class: 'seat-badge', title: `units ${seats.join(', ')}` }, `+${seats.length - shown.length}`) : null;
+  return make('div', { class: 'gutter-line' }, badges, more, make('span', {}, String(number)));
 }
 
 export class Editor {

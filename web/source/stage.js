@@ -4,7 +4,7 @@ import { find, make, plural, put } from './elements.js';
 import { answerTo, endAfter, reasonOf, registerName } from './asking.js';
 import { makeCards } from './cards.js';
 import { Lanes } from './lanes.js';
-import { drawRing } from './ring.js';
+import { drawRing, isMany, leftOut } from './ring.js';
 import { eventSentence, hexadecimal, squashSentence } from './sentences.js';
 import { waitsTable } from './waits.js';
 
@@ -80,12 +80,19 @@ export class Stage {
     const isOver = this.state.standing !== 'running';
     const reasons = this.state.queue.map((unit, at) => reasonOf(ask, unit, at, isOver));
     this.showWhere();
-    put(find('ring'), drawRing(this.state, reasons, this.run.tasks));
+    this.showRing(reasons);
     put(find('cards'), makeCards(this.state, this.run.tasks, this.lines, reasons));
     this.showFacts(script);
     this.showLanes();
     this.markEvent();
     this.moved(this.state, ask);
+  }
+
+  showRing(reasons) {
+    const isLecture = document.body.classList.contains('is-lecture');
+    put(find('ring'), drawRing(this.state, reasons, this.run.tasks, isLecture));
+    find('ring-row').classList.toggle('is-many', isMany(this.run.units));
+    find('ring-left-out').textContent = leftOut(this.state, reasons, this.run.tasks, isLecture);
   }
 
   showWhere() {
@@ -107,8 +114,17 @@ export class Stage {
     const after = endAfter(this.jobs, this.run.program, this.run.units, script);
     find('output').textContent = this.state.output.length ? this.state.output.join(' ') : 'nothing yet';
     find('memory').textContent = memoryText(after.memory ?? []);
-    find('registers').textContent = (after.registers ?? []).map(it => `${registerName(it.register)} = ${it.word}`).join('  ') || 'all 0';
+    this.showRegisters(after.registers ?? []);
     find('standing').textContent = this.position === this.last ? this.run.ending : 'goes on';
+  }
+
+  // The registers of the head; where no unit is the head, those that the tasks left which have retired.
+  showRegisters(ofHead) {
+    const hasHead = this.state.queue.length > 0;
+    const committed = Object.entries(this.state.committed).map(([register, word]) => ({ register: Number(register), word }));
+    const shown = hasHead ? ofHead : committed.filter(it => it.word !== 0);
+    find('registers-title').textContent = hasHead ? 'Registers of the head' : 'Registers (no unit is the head: as committed)';
+    find('registers').textContent = shown.map(it => `${registerName(it.register)} = ${it.word}`).join('  ') || 'all 0';
   }
 
   showLanes() {
