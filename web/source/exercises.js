@@ -1,7 +1,7 @@
 // The exercises: what is to be done, what is reached, and the work on each, which goes into the link.
 
 import { announce, copy, find, make, plural, put } from './elements.js';
-import { EXERCISES } from './exercise_texts.js';
+import { EXERCISES } from './embedded.js';
 import { isReached, standingOf } from './goals.js';
 
 function goalRow(goal, isReachedNow, standing) {
@@ -52,8 +52,31 @@ export class Exercises {
     find('exercise-title').textContent = `Exercise ${this.number} of ${EXERCISES.length}: ${exercise.title}`;
     put(find('exercise-text'), exercise.text.map(it => make('p', {}, it)));
     put(find('exercise-fields'), (exercise.fields ?? []).map(it => this.field(it)));
-    put(find('exercise-hints'), exercise.hints.map((it, at) => make('details', {}, make('summary', {}, `Hint ${at + 1} of ${exercise.hints.length}`), make('p', {}, it))));
+    put(find('exercise-hints'), exercise.hints.map((it, at) => this.hint(it, at)));
     find('exercise-next').hidden = this.number === EXERCISES.length;
+  }
+
+  // Once a hint is asked for, the findings say what to write, too.
+  hint(text, at) {
+    const details = make('details', {}, make('summary', {}, `Hint ${at + 1} of ${this.exercise.hints.length}`), make('p', {}, text));
+    details.addEventListener('toggle', () => {
+      if (!details.open || this.work.hasHint) return;
+      this.work.hasHint = true;
+      this.hinted();
+    });
+    return details;
+  }
+
+  // Whether the findings may say what to write: in no exercise, or after a hint.
+  get mayHelp() {
+    return this.number === null || this.work.hasHint === true;
+  }
+
+  // How many goals are open, without those that go further; null in no exercise.
+  get openGoals() {
+    if (!this.number) return null;
+    const reached = this.reachedOf(this.number);
+    return this.exercise.goals.filter((goal, at) => !goal.isFurther && !reached[at]).length;
   }
 
   field({ name, label }) {

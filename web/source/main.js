@@ -32,6 +32,7 @@ class Page {
     this.tabs = new Tabs(['run', 'hand', 'compare'], () => this.viewChanged());
     this.exercises = new Exercises(jobs, (exercise, work) => this.exerciseOpened(exercise, work));
     this.exercises.answered = () => this.answered();
+    this.exercises.hinted = () => this.showFindings();
     const isTyped = target => target === this.editor.area ? this.editor.isTyping : target.matches?.('textarea, input:not([type="range"])');
     this.keys = new Keys(this.keyActions(), event => this.tabs.view !== 'compare' && this.stage.key(event), isTyped);
     this.listen();
@@ -127,15 +128,21 @@ class Page {
     find('verdict').textContent = verdict.sentence;
     find('verdict').className = `is-${verdict.kind}`;
     this.editor.show({ findings });
-    showFindings(find('findings'), findings, this.editor);
     this.proposal.show(this.editor.text);
     this.listOthers();
     this.viewChanged();
     this.exercises.take(this.editor.text, this.hand.script);
+    this.showFindings();
     this.offerDemonstration();
   }
 
+  showFindings() {
+    this.editor.mayHelp = this.exercises.mayHelp;
+    showFindings(find('findings'), this.editor.findings, this.editor, this.exercises.openGoals);
+  }
+
   answered() {
+    this.showFindings();
     this.offerDemonstration();
     this.saveLink();
   }
@@ -180,6 +187,7 @@ class Page {
     else this.stage.load(run.scriptFault ? makeReplay(this.jobs, this.editor.text, [], units) : run, position);
     if (run.scriptFault) this.hand.sayFault(run.scriptFault);
     this.exercises.take(this.editor.text, this.hand.script);
+    this.showFindings();
     this.saveLink();
   }
 
