@@ -117,6 +117,16 @@ export class Editor {
     return line;
   }
 
+  // Takes another text, which the browser can undo; what had the focus keeps it.
+  replace(text) {
+    const held = document.activeElement;
+    this.chosen = null;
+    this.pointed = null;
+    this.hideBubble();
+    this.retype(text.replaceAll('\r\n', '\n'));
+    if (held !== this.area) held?.focus();
+  }
+
   // Scrolls to a line, if it is not seen.
   follow(number) {
     const line = find('marked').children[number - 1];

@@ -4,7 +4,7 @@ import { Compare } from './compare.js';
 import { Demonstration } from './demonstration.js';
 import { Editor, showFindings, verdictOf } from './editor.js';
 import { copy, download, find, make } from './elements.js';
-import { EXAMPLES, moduleBytes } from './embedded.js';
+import { EXAMPLES, EXERCISES, moduleBytes } from './embedded.js';
 import { Exercises } from './exercises.js';
 import { hasWrongMarks, readFindings } from './findings.js';
 import { Hand } from './hand.js';
@@ -30,7 +30,7 @@ class Page {
     this.compare = new Compare(jobs, () => this.otherText(), line => this.editor.point(line));
     this.lecture = new Lecture(() => this.viewChanged());
     this.tabs = new Tabs(['run', 'hand', 'compare'], () => this.viewChanged());
-    this.exercises = new Exercises(jobs, (exercise, work) => this.exerciseOpened(exercise, work));
+    this.exercises = new Exercises(jobs, (exercise, work) => this.exerciseOpened(exercise, work), number => this.chooseExercise(number));
     this.exercises.answered = () => this.answered();
     this.exercises.hinted = () => this.showFindings();
     const isTyped = target => target === this.editor.area ? this.editor.isTyping : target.matches?.('textarea, input:not([type="range"])');
@@ -40,7 +40,8 @@ class Page {
 
   listen() {
     for (const id of ['units', 'predict', 'predict-list', 'budget']) find(id).addEventListener('change', () => this.settingsChanged());
-    find('example-choice').addEventListener('change', event => this.openExample(event.target.value));
+    find('example-choice').addEventListener('change', event => this.chooseExample(event.target.value));
+    find('link-fault-close').addEventListener('click', () => this.sayLinkFault(null));
     find('by-hand-from-here').addEventListener('click', () => this.goOnByHand());
     find('keep').addEventListener('click', () => this.keepText());
     find('save-text').addEventListener('click', () => download('program.s', this.editor.text));
@@ -83,11 +84,24 @@ class Page {
     else if (document.activeElement !== this.editor.area) document.activeElement?.blur();
   }
 
-  openExample(name) {
+  // What is chosen gets an entry of its own in the browser's history: Back leads to the text as it was. An example can be
+  // undone in the text, too.
+  chooseExample(name) {
+    this.enterHistory();
+    this.openExample(name, text => this.editor.replace(text));
+  }
+
+  chooseExercise(number) {
+    this.enterHistory();
+    this.exercises.open(number);
+    if (number === null) this.saveLink();
+  }
+
+  openExample(name, put = text => this.editor.load(text)) {
     this.example = name;
     find('example-choice').value = name;
     this.exercises.open(null);
-    this.editor.load(EXAMPLES[name].text);
+    put(EXAMPLES[name].text);
     this.hand.load([]);
     this.listScripts();
     this.wantedPosition = 0;
@@ -263,17 +277,43 @@ class Page {
     clearTimeout(this.saving);
     if (!this.isOpen) return;
     this.saving = setTimeout(async () => {
+      await this.entered;
       const hash = await writeLink(this.linkState());
       this.written = hash;
       history.replaceState(null, '', hash);
     }, 250);
   }
 
+  // Leaves the state as it is now in the browser's history, and begins another entry.
+  enterHistory() {
+    if (!this.isOpen) return;
+    clearTimeout(this.saving);
+    const state = this.linkState();
+    this.entered = Promise.resolve(this.entered).then(async () => {
+      history.replaceState(null, '', await writeLink(state));
+      history.pushState(null, '', location.hash);
+      this.written = location.hash;
+    });
+  }
+
+  sayLinkFault(fault) {
+    find('link-fault').hidden = fault === null;
+    find('link-fault-text').textContent = fault ?? '';
+  }
+
+  // What a link asks for that is not there.
+  missingOf(state) {
+    if (state.example && !(state.example in EXAMPLES)) return `There is no example ${state.example} in this page.`;
+    if (state.exercise && !EXERCISES[state.exercise - 1]) return `There is no exercise ${state.exercise} in this page.`;
+    return null;
+  }
+
   // Opens what a link says: an exercise with the work on it, an example, or a text.
   async openLink(hash) {
-    const state = await readLink(hash);
+    const { state, fault } = await readLink(hash);
     this.isOpen = false;
-    this.exercises.fromLink(state);
+    this.sayLinkFault(fault ?? this.missingOf(state));
+    this.exercises.fromLink(state, fault !== null);
     this.kept = state.kept ?? null;
     this.lecture.set(state.view === 'lecture' || state.layout === 'lecture');
     this.tabs.choose(state.view ?? 'run');
@@ -286,8 +326,9 @@ class Page {
     this.wantedPosition = Number(state.at) || 0;
     this.textChanged();
     if (state.with) this.chooseOther(state.with);
+    this.written = hash;
     this.isOpen = true;
-    this.saveLink();
+    if (!fault) this.saveLink();
   }
 
   chooseOther(name) {
