@@ -48,11 +48,16 @@ export function announce(sentence) {
   find('announcement').textContent = sentence;
 }
 
-// Hands a text out as a file.
-export function download(name, text) {
-  const address = URL.createObjectURL(new Blob([text], { type: 'text/plain' }));
+// Hands bytes out as a file.
+export function handOut(name, blob) {
+  const address = URL.createObjectURL(blob);
   make('a', { href: address, download: name }).click();
   setTimeout(() => URL.revokeObjectURL(address), 1000);
+}
+
+// Hands a text out as a file.
+export function download(name, text) {
+  handOut(name, new Blob([text], { type: 'text/plain' }));
 }
 
 // Copies a text, and says on the button that it did.

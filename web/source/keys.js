@@ -10,6 +10,7 @@ const LIST = [
   ['1  2  3', 'the views: Run, By hand, Compare'],
   ['W', 'show a run that goes wrong, where marks are wrong'],
   ['+  −  0', 'lanes larger, smaller, or as at first'],
+  ['S', 'save the picture of this moment (SVG)'],
   ['E', 'into the program text'],
   ['Escape', 'out of a text, so that the keys go to the run; or closes a finding, a run that goes wrong, or this list'],
   ['Tab', 'to the next control; Enter or the space bar presses it, ↓ opens a list'],

@@ -73,6 +73,7 @@ function drawLanes({ states, lives }, columnOf, current, choose, zoom) {
 }
 
 const LEAST_ZOOM = 0.75;
+const ZOOM_STEP = 1.25;
 const SEEN_AROUND = 60;
 
 // How far a place must scroll so that a stretch of it is seen.
@@ -87,6 +88,44 @@ export class Lanes {
     this.choose = choose;
     this.place = find('lanes');
     this.zoom = 1;
+    find('lanes-smaller').addEventListener('click', () => this.zoomBy(1 / ZOOM_STEP));
+    find('lanes-larger').addEventListener('click', () => this.zoomBy(ZOOM_STEP));
+    find('lanes-fit').addEventListener('click', () => this.fit());
+    this.place.addEventListener('wheel', event => this.wheel(event), { passive: false });
+    this.place.addEventListener('pointerdown', event => this.grab(event));
+  }
+
+  // The wheel with Ctrl, and two fingers, make the lanes larger or smaller.
+  wheel(event) {
+    if (!event.ctrlKey) return;
+    event.preventDefault();
+    this.zoomBy(event.deltaY < 0 ? 1.1 : 1 / 1.1);
+  }
+
+  // A mouse that is held moves the lanes; a click on a sign is still a click.
+  grab({ button, pointerType, clientX, clientY }) {
+    if (button !== 0 || pointerType === 'touch') return;
+    const { place } = this;
+    const { scrollLeft, scrollTop } = place;
+    const end = new AbortController();
+    const move = event => {
+      place.classList.add('is-dragged');
+      place.scrollLeft = scrollLeft - (event.clientX - clientX);
+      place.scrollTop = scrollTop - (event.clientY - clientY);
+    };
+    const release = () => {
+      place.classList.remove('is-dragged');
+      end.abort();
+    };
+    addEventListener('pointermove', move, { signal: end.signal });
+    for (const name of ['pointerup', 'pointercancel']) addEventListener(name, release, { signal: end.signal });
+  }
+
+  // As large as shows all of the run in the width.
+  fit() {
+    if (!this.shown) return;
+    const width = Number(this.place.firstElementChild.viewBox.baseVal.width);
+    this.zoomBy(this.place.clientWidth / width / this.zoom);
   }
 
   // In the layout of a lecture the lanes shrink a little where that shows all units.
@@ -98,7 +137,7 @@ export class Lanes {
 
   // Larger or smaller by a factor; null: as at first.
   zoomBy(factor) {
-    this.zoom = factor === null ? 1 : Math.max(0.3, Math.min(4, this.zoom * factor));
+    this.zoom = factor === null ? 1 : Math.max(0.2, Math.min(4, this.zoom * factor));
     if (this.shown) this.show(...this.shown);
   }
 

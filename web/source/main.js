@@ -6,6 +6,7 @@ import { Editor, showFindings, verdictOf } from './editor.js';
 import { copy, download, find, make } from './elements.js';
 import { EXAMPLES, EXERCISES, moduleBytes } from './embedded.js';
 import { Exercises } from './exercises.js';
+import { Files } from './files.js';
 import { hasWrongMarks, readFindings } from './findings.js';
 import { Hand } from './hand.js';
 import { Jobs } from './jobs.js';
@@ -13,6 +14,7 @@ import { Keys } from './keys.js';
 import { Lecture } from './lecture.js';
 import { readLink, writeLink } from './link.js';
 import { startModule } from './module.js';
+import { savePng, saveSvg } from './picture.js';
 import { Proposal } from './proposal.js';
 import { makeReplay, makeRun, readSettings, writeSettings } from './runner.js';
 import { lineOfEvent, seatsByLine, Stage } from './stage.js';
@@ -31,6 +33,7 @@ class Page {
     this.lecture = new Lecture(() => this.viewChanged());
     this.tabs = new Tabs(['run', 'hand', 'compare'], () => this.viewChanged());
     this.exercises = new Exercises(jobs, (exercise, work) => this.exerciseOpened(exercise, work), number => this.chooseExercise(number));
+    this.files = new Files(text => this.openText(text));
     this.exercises.answered = () => this.answered();
     this.exercises.hinted = () => this.showFindings();
     const isTyped = target => target === this.editor.area ? this.editor.isTyping : target.matches?.('textarea, input:not([type="range"])');
@@ -45,6 +48,8 @@ class Page {
     find('by-hand-from-here').addEventListener('click', () => this.goOnByHand());
     find('keep').addEventListener('click', () => this.keepText());
     find('save-text').addEventListener('click', () => download('program.s', this.editor.text));
+    find('save-svg').addEventListener('click', saveSvg);
+    find('save-png').addEventListener('click', savePng);
     find('copy-link').addEventListener('click', event => copy(location.href, event.target));
     find('compare-choice').addEventListener('change', () => this.showCompare());
     find('script-choice').addEventListener('change', event => this.openScript(event.target));
@@ -67,6 +72,7 @@ class Page {
       3: view('compare'),
       Home: () => this.stage.go(0),
       End: () => this.stage.go(this.stage.last),
+      s: () => this.stage.run && this.tabs.view !== 'compare' && saveSvg(),
       '+': () => this.stage.lanes.zoomBy(1.25),
       '-': () => this.stage.lanes.zoomBy(0.8),
       0: () => this.stage.lanes.zoomBy(null),
@@ -95,6 +101,24 @@ class Page {
     this.enterHistory();
     this.exercises.open(number);
     if (number === null) this.saveLink();
+  }
+
+  // A text from a file takes the place of the program; in an exercise it is the work on that.
+  openText(text) {
+    this.enterHistory();
+    if (!this.exercises.number) {
+      this.hand.load([]);
+      this.leaveExample();
+    }
+    this.editor.replace(text);
+    this.textChanged();
+  }
+
+  // The text is none of the examples.
+  leaveExample() {
+    this.example = null;
+    find('example-choice').value = '';
+    this.listScripts();
   }
 
   openExample(name, put = text => this.editor.load(text)) {
@@ -322,6 +346,7 @@ class Page {
     if (state.exercise && state.view) this.tabs.choose(state.view);
     writeSettings({ units: Number(state.units), budget: Number(state.budget), predict: state.predict });
     if (state.text) this.editor.load(state.text);
+    if (state.text && !state.example && !state.exercise) this.leaveExample();
     if (state.script) this.hand.load(state.script.split('\n'));
     this.wantedPosition = Number(state.at) || 0;
     this.textChanged();
