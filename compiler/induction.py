@@ -7,7 +7,7 @@ on ways out of the loop that had not come to the old place, and where it is stil
 
 from dataclasses import dataclass, replace
 
-from flow import Flow
+from flow import Flow, Function
 from instructions import ASSEMBLER, KEPT, LINK, STACK_POINTER, WRITES_FIRST, Expression, Instruction
 from linking import Program
 from liveness import SAVED, Liveness, bits
@@ -42,35 +42,41 @@ class Change:
 
 
 def with_inductions_first(program: Program) -> int:
-    """Changes the code, update by update, and says how many were moved."""
+    """Changes the code, a loop of each function at a time, and says how many updates were moved."""
     done: set[tuple[str, int]] = set()
     moved = 0
     while True:
         flow = Flow(program)
-        change = next_change(flow, Liveness(flow), done)
-        if not change:
+        live = Liveness(flow)
+        seen: set[int] = set()
+        changes: list[Change] = []
+        for function in flow.functions.values():
+            if function.entry not in flow.routines and not function.members & seen:
+                found = changes_in(flow, live, function, done)
+                changes += found
+                seen |= function.members if found else set()
+        if not changes:
             return moved
-        apply(program, change)
-        moved += 1
+        apply(program, changes)
+        moved += len(changes)
 
 
-def next_change(flow: Flow, live: Liveness, done: set[tuple[str, int]]) -> Change | None:
-    for function in flow.functions.values():
-        if function.entry in flow.routines:
+def changes_in(flow: Flow, live: Liveness, function: Function, done: set[tuple[str, int]]) -> list[Change]:
+    """The changes of the first loop that has some."""
+    for head, body in flow.loop_heads(function):
+        if not flow.code[head].labels or any(is_marked(flow.code[index]) for index in body) or not is_closed(flow, live, head, body):
             continue
-        for head, body in flow.loop_heads(function):
-            if not flow.code[head].labels or any(is_marked(flow.code[index]) for index in body) or not is_closed(flow, live, head, body):
-                continue
-            loop = loop_of(flow, live, head, body)
-            for at in sorted(body):
-                key = flow.code[head].labels[0], (flow.code[at].writes or (0,))[0]
-                if key in done or not is_update(flow, loop, at):
-                    continue
+        loop = loop_of(flow, live, head, body)
+        changes: list[Change] = []
+        for at in sorted(body):
+            key = flow.code[head].labels[0], (flow.code[at].writes or (0,))[0]
+            if key not in done and is_update(flow, loop, at):
                 done.add(key)
-                change = change_of(flow, live, loop, at)
-                if change:
-                    return change
-    return None
+                change = change_of(flow, live, loop, at, [it.copy for it in changes if it.copy])
+                changes += [change] if change else []
+        if changes:
+            return changes
+    return []
 
 
 def is_marked(it: Instruction) -> bool:
@@ -140,7 +146,7 @@ def is_update(flow: Flow, loop: Loop, at: int) -> bool:
     return it.name == "addu" and it.registers[2] == register and stays(flow, loop, it.registers[1])
 
 
-def change_of(flow: Flow, live: Liveness, loop: Loop, at: int) -> Change | None:
+def change_of(flow: Flow, live: Liveness, loop: Loop, at: int, taken: list[int]) -> Change | None:
     """The change, if each round passes its place exactly once and its effect can be made up for."""
     code, register = flow.code, flow.code[at].writes[0]
     before = reached(live, loop, [loop.head], at)
@@ -154,7 +160,7 @@ def change_of(flow: Flow, live: Liveness, loop: Loop, at: int) -> Change | None:
     readers = [index for index in sorted(before) if register in code[index].reads]
     if all(is_foldable(code[index], code[at]) for index in readers):
         return Change(loop, at, register, readers, exits, None)
-    copy = free_register(flow, live, loop)
+    copy = free_register(flow, live, loop, taken)
     return Change(loop, at, register, readers, exits, copy) if copy else None
 
 
@@ -181,9 +187,9 @@ def is_foldable(reader: Instruction, update: Instruction) -> bool:
     return fits and (is_access or reader.name == "addiu" and reader.registers[1] == register)
 
 
-def free_register(flow: Flow, live: Liveness, loop: Loop) -> int | None:
+def free_register(flow: Flow, live: Liveness, loop: Loop, taken: list[int]) -> int | None:
     """A register that holds nothing anywhere in the loop, nor where it is left."""
-    used = bits(register for index in loop.body for register in (*flow.code[index].reads, *flow.code[index].writes))
+    used = bits(taken) | bits(register for index in loop.body for register in (*flow.code[index].reads, *flow.code[index].writes))
     for index in loop.body:
         used |= live.before[index] | live.after(index)
     if loop.calls:
@@ -198,23 +204,29 @@ def reading(it: Instruction, register: int, instead: int) -> Instruction:
     return replace(it, registers=registers)
 
 
-def apply(program: Program, change: Change) -> None:
-    code, update = list(program.code), program.code[change.at]
+def apply(program: Program, changes: list[Change]) -> None:
+    """Puts in changes of different functions, or of one loop; none reads what another moves but as a reader of its own."""
+    code, old = list(program.code), program.code
     index_of = program.index_of()
-    for index in change.readers:
-        it = code[index]
-        code[index] = reading(it, change.register, change.copy) if change.copy else replace(it, value=it.value.plus(-update.value.number))
+    tails: dict[tuple[int, int], list[Instruction]] = {}
+    for change in changes:
+        update = old[change.at]
+        for index in change.readers:
+            it = code[index]
+            code[index] = reading(it, change.register, change.copy) if change.copy else replace(it, value=it.value.plus(-update.value.number))
+        for edge in change.exits:
+            tails.setdefault(edge, []).append(undone(update))
     tail: list[Instruction] = []
-    between: dict[int, Instruction] = {}
-    for index, place in change.exits:
+    between: dict[int, list[Instruction]] = {}
+    for (index, place), back in tails.items():
         it = code[index]
         if it.destination and index_of[it.destination] == place:
             label = f".undone.{len(code)}.{index}"
-            tail += [replace(undone(update), labels=[label]), Instruction("j", (), Expression(symbol=it.destination), it.place)]
-            code[index] = it = replace(it, value=Expression(symbol=label))
+            tail += [replace(back[0], labels=[label]), *back[1:], Instruction("j", (), Expression(symbol=it.destination), it.place)]
+            code[index] = replace(it, value=Expression(symbol=label))
         if it.goes_on and place == index + 1:
-            between[index] = undone(update)
-    program.code = put_together(code, change, between) + tail
+            between[index] = [replace(one) for one in back]
+    program.code = put_together(code, changes, between) + tail
 
 
 def undone(update: Instruction) -> Instruction:
@@ -226,22 +238,25 @@ def undone(update: Instruction) -> Instruction:
     return Instruction("subu" if update.name == "addu" else "addu", (register, register, other), None, update.place)
 
 
-def put_together(code: list[Instruction], change: Change, between: dict[int, Instruction]) -> list[Instruction]:
-    update = code[change.at]
-    first = [Instruction("addu", (change.copy, change.register, 0), None, update.place)] if change.copy else []
-    first.append(replace(update, labels=[]))
+def put_together(code: list[Instruction], changes: list[Change], between: dict[int, list[Instruction]]) -> list[Instruction]:
+    removed = {it.at for it in changes}
+    firsts: dict[int, list[Instruction]] = {}
+    for change in changes:
+        update = code[change.at]
+        copies = [Instruction("addu", (change.copy, change.register, 0), None, update.place)] if change.copy else []
+        firsts.setdefault(change.loop.head, []).extend([*copies, replace(update, labels=[])])
     made: list[Instruction] = []
     labels: list[str] = []
     for index, it in enumerate(code):
-        if index == change.at:
+        if index in removed:
             labels += it.labels
             continue
-        if index == change.loop.head:
+        if index in firsts:
+            first = firsts[index]
             first[0] = replace(first[0], labels=labels + it.labels)
             it, labels = replace(it, labels=[]), []
             made += first
         made.append(replace(it, labels=labels + it.labels) if labels else it)
         labels = []
-        if index in between:
-            made.append(between[index])
+        made += between.get(index, [])
     return made
