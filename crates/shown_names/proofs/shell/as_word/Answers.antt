@@ -2,7 +2,7 @@
 use Rattle.std.proofs.Common.{rules}
 use Rattle.std.specs.Str.{IsUtf8}
 use Rattle.shown_names.proofs.Readable.{quoted_utf8}
-use Rattle.shown_names.proofs.shell.shell_word.Goals as goal
+use Rattle.shown_names.proofs.shell.as_word.Goals as goal
 
 pub unreachable-requires : goal.unreachable-requires
 unreachable-requires c =
