@@ -10,9 +10,11 @@ use crate::inputs::{file_lines, file_name, joined, lines_of};
 use diagnostic_log::json_lines::lines_text;
 use diagnostic_log::sarif::log_text;
 use diagnostics::colour::Colour;
+use diagnostics::diagnostic::{Severity, Source};
 use diagnostics::files::{Files, TextFile};
 use diagnostics::text::text_of;
 use jobs::job::{Colors, Format, Texts};
+use judged_fixes::proposal::has_fix;
 use report_texts::report::JobReport;
 use shown_names::shell::shell_word;
 use std::alloc::{AllocError, Global};
@@ -81,9 +83,10 @@ fn written(
         Colors::Always => Colour::Always,
         Colors::Auto | Colors::Never => Colour::Never,
     };
+    let mends = mends_all(explained);
     match format {
-        Format::Sarif => return log_text(alloc, files, said),
-        Format::Json => return lines_text(alloc, files, said),
+        Format::Sarif => return log_text(alloc, files, said, mends),
+        Format::Json => return lines_text(alloc, files, said, mends),
         Format::Text => {}
     }
     let mut text = text_of(alloc, files, said, colour)?;
@@ -94,5 +97,36 @@ fn written(
             "to look for a run that goes wrong: multiscalar demonstrate {name}"
         )?;
     }
+    if let Some(fixed) = &explained.fixed
+        && fixed.is_right
+    {
+        write_right(&mut text, fixed.fixes, fix_count(explained))?;
+    }
     Ok(text.into_bytes())
+}
+
+// How many errors of marks are told with what to write.
+fn fix_count(explained: &Explanation) -> usize {
+    let said = explained.said.as_slice().iter();
+    said.filter(|one| one.severity == Severity::Error && one.source == Source::Program)
+        .filter(|one| has_fix(one))
+        .count()
+}
+
+// Whether all that is told to write makes the marks right.
+fn mends_all(explained: &Explanation) -> bool {
+    match &explained.fixed {
+        Some(fixed) => fixed.is_right && fixed.fixes == fix_count(explained),
+        None => false,
+    }
+}
+
+// Adds that with these fixes, so many of all, the marks are right.
+fn write_right(text: &mut String, fixes: usize, all: usize) -> Result<(), AllocError> {
+    match (fixes, all) {
+        (1, 1) => writeln!(text, "with this fix the marks are right"),
+        (1, _) => writeln!(text, "with one of these fixes the marks are right"),
+        _ if fixes == all => writeln!(text, "with these {fixes} fixes the marks are right"),
+        _ => writeln!(text, "with {fixes} of these fixes the marks are right"),
+    }
 }

@@ -1,0 +1,2 @@
+pub mod Froms
+pub mod Starts
