@@ -10,32 +10,23 @@ use Rattle.mark_checker.specs.Places.{Checked}
 use Rattle.machine_model.specs.Machine.{Active, State, opening, creates}
 use Rattle.machine_model.specs.Step.{is_listed, next_begins}
 use Rattle.machine_model.specs.Refusals.{least}
-use Rattle.machine_model.specs.Answer.{after, is_running, refusal}
+use Rattle.machine_model.specs.Answer.{is_running, refusal}
 use Rattle.machine_model.specs.HeadEvent.{head_event, event_of_head, event_of_queue, task_beginning, drain_or_retire}
-use Rattle.machine_model.specs.Laws.{NextIsAfter}
 use Rattle.machine_model.specs.declared.event.Event.{Event}
 use Rattle.machine_model.specs.declared.event.Event.TheVariants.{Assign, Exec, Transfer, Drain, Squash, Retire, Fault, Drop}
 use Rattle.machine_model.specs.declared.event.Refused.{Refused}
-use Rattle.machine_model.specs.declared.event.Refused.TheVariants.{OutOfMemory}
 use Rattle.machine_model.specs.declared.event.Spot.{Spot}
 use Rattle.machine_model.specs.declared.event.Spot.TheVariants.{Inside, Stopped}
 use Rattle.processor_steps.specs.Choices.{task_behind}
 use Rattle.machine_model.specs.declared.event.Standing.{Standing}
 use Rattle.machine_model.specs.declared.event.Standing.TheVariants.{Running, Halted, Trapped, Unlisted}
 use Rattle.sequencer.specs.Choices.{choices_of, choice_of}
-use Rattle.sequencer.specs.Machines.{MachineView, Applies, IsAnswered, answer_to, state, units_of}
+use Rattle.sequencer.specs.Machines.{MachineView, state}
 use Rattle.unit_turns.specs.FirstAllowed.{registers, first_allowed}
 use Rattle.unit_turns.specs.declared.predictor.Predictor.{Predictor}
 use Rattle.unit_turns.specs.Predictions.{answer_for, asked}
 use Rattle.unit_turns.specs.Steps.{Course, beginning, goes_on, with_event, with_targets, with_task, turn_of, turn, turns, step, after_steps, tries, Takes}
 use Rattle.unit_turns.specs.Courses.{course}
-
--- an event that is applied
-
-pub applied : NextIsAfter → (old new : MachineView) (predictor : Predictor) (e : Event) → Applies old e new → course new predictor ≡ with_event old.accepted.program (course old predictor) (Some e)
-applied law old new predictor e h =
-    ap (λ (s : State). record { state = s; events = new.history; predictor = predictor }) (law old.accepted.program (units_of old) (state old) (state new) e h.next)
-    ∙ ap (λ (es : List Event). record { state = after old.accepted.program (state old) e; events = es; predictor = predictor }) h.history
 
 -- a machine at its start, and one that has made some steps from it
 
@@ -55,10 +46,6 @@ takes_from_start m accepted units budget steps from over at_start none takes =
     let P : Checked → Type 0 = λ a. Takes a.program units budget (course m from) steps in
     let Q : Course → Type 0 = λ c. Takes accepted.program units budget c steps in
     subst Q (opened m accepted.program from at_start none) (subst P over takes)
-
-pub refused_by : (m : MachineView) (e : Event) (result : Result (Unit {0}) Refused) (why : Refused) → IsAnswered m e result → answer_to m e ≡ Ok tt → result ≡ Err why → why ≡ OutOfMemory
-refused_by m e result why (inl same) ok is = absurd (cc)
-refused_by m e result why (inr memory) ok is = cc
 
 -- what follows of a call's answer
 

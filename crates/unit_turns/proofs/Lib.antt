@@ -5,7 +5,6 @@ pub mod RingPlaces
 pub mod TurnKinds
 pub mod GoingOn
 pub mod Waiting
-pub mod Choosing
 pub mod Tries
 pub mod Going
 pub mod Looping
