@@ -8,5 +8,4 @@ pub mod Waiting
 pub mod Tries
 pub mod Going
 pub mod Looping
-pub mod Together
 pub mod Reporting
