@@ -27,16 +27,3 @@ pub mod Resolved
 pub mod Lengths
 pub mod Loops
 pub mod RoundTrip
-mod Cuts
-mod Replaced
-mod MarkLists
-mod Statements
-mod CodeParts
-mod TaskParts
-mod Touching
-mod Remarked
-mod OwnTokens
-mod MarksReadBackCodeLines
-mod MarksReadBackTaskLines
-mod Lines
-mod ReadBack

@@ -88,10 +88,6 @@ code_known labels tasks n index (m ∷ code) h =
     let at = find (λ t. t.entry == index) tasks in
     line_known labels tasks n at m (code_items tasks (behind_one n at + 1) (index + 1) code) h (code_known labels tasks (behind_one n at + 1) (index + 1) code h)
 
-bytes_known : (labels : Names) (n : ℕ) (here : Section) (bytes : List ℕ) → known labels (byte_items n here bytes) ≡ Ok tt
-bytes_known labels n here [] = refl
-bytes_known labels n here (b ∷ bytes) = bytes_known labels (n + 1) here bytes
-
 data_known : (labels : Names) (n : ℕ) (here : Section) (bytes : List ℕ) → known labels (data_items n here bytes) ≡ Ok tt
 data_known labels n here [] = refl
 data_known labels n here (a ∷ []) = refl

@@ -5,4 +5,3 @@ pub mod FaultText
 pub mod MarkedText
 pub mod MarksInTextExamples
 pub mod Ranges
-pub mod Differs
