@@ -1,5 +1,5 @@
 #!/usr/bin/env python3
-"""Makes the page: one HTML file with the module, the examples, the style and the script inside.
+"""Makes the page: one HTML file with the module, the examples, the exercises, the style and the script inside.
 
     bundle.py MODULE.wasm PAGE.html
 """
@@ -82,6 +82,7 @@ def embedded(script, module):
     examples = {path.removesuffix('/program.s').removesuffix('.s'): example(path, title) for path, title in CHOSEN.items()}
     packed = base64.b64encode(gzip.compress(module, 9, mtime=0)).decode()
     script = script.replace('{/* the examples */}', json.dumps(examples))
+    script = script.replace('[/* the exercises */]', json.dumps(json.loads((HERE / 'exercises.json').read_text())))
     return script.replace('/* the module */', packed).replace('</script', '<\\/script')
 
 

@@ -1,48 +1,7 @@
-// What the page asks of the machine beside the run: in which step an event was, why a unit does not execute, what is
-// in memory. Each answer is the module's.
+// What the page asks of the machine beside the run: why a unit does not execute, what is in memory. Each answer is the
+// module's.
 
-const FEW_EVENTS = 600;
-
-// How many steps the machine takes for a run of this many events: the run with that budget says so.
-export function stepAt(jobs, program, settings, events) {
-  const { text } = jobs.run(program, { ...settings, budget: events }, 'summary');
-  const said = /^steps (\d+),/m.exec(text);
-  return said ? Number(said[1]) : null;
-}
-
-const SLICE = 12;
-
-// Fills in the step of each event between two whose steps are known. Events between two of one step are in that step.
-// Answers what is still open after a short while.
-function fillSteps(steps, open, ask) {
-  const end = performance.now() + SLICE;
-  while (open.length && performance.now() < end) {
-    const [low, high] = open.pop();
-    const middle = (low + high) >> 1;
-    if (high - low < 2) continue;
-    if (steps[low] === steps[high]) steps.fill(steps[low], low + 1, high);
-    else {
-      steps[middle] = ask(middle);
-      open.push([low, middle], [middle, high]);
-    }
-  }
-}
-
-// The step of each event, from 1 on; null where there are too many events to ask, or where the run is no longer wanted.
-export async function stepsOf(jobs, program, settings, count, isWanted) {
-  if (count === 0 || count > FEW_EVENTS) return null;
-  const ask = events => stepAt(jobs, program, settings, events);
-  const steps = new Array(count + 1).fill(0);
-  steps[1] = ask(1);
-  steps[count] = ask(count);
-  const open = [[1, count]];
-  for (;;) {
-    fillSteps(steps, open, ask);
-    if (!open.length) return steps;
-    await new Promise(done => setTimeout(done));
-    if (!isWanted()) return null;
-  }
-}
+import { refusalSentence } from './sentences.js';
 
 function scriptText(lines) {
   return lines.map(line => `${line}\n`).join('');
@@ -67,7 +26,7 @@ function headReason(answer) {
   if (answer.isAllowed) return { kind: 'ready', sentence: 'can retire', register: null };
   if (answer.name === 'Unfinished') return { kind: 'owes', sentence: `has still to send $${answer.register}`, register: answer.register };
   if (answer.name === 'Mismatch') return { kind: 'wrong', sentence: 'the task in the next unit is the wrong one: a squash is due', register: null };
-  return { kind: 'waits', sentence: `cannot retire: ${answer.name}`, register: null };
+  return { kind: 'waits', sentence: `cannot retire: ${refusalSentence(answer.name)}`, register: null };
 }
 
 function transferReason(answer, register, position) {
@@ -88,7 +47,7 @@ export function reasonOf(ask, unit, position, isOver) {
   }
   if (answer.name === 'NotHead')
     return { kind: 'waits', sentence: 'waits to become the head: only the head loads, stores, puts out or halts', register: null };
-  return { kind: 'waits', sentence: answer.name ?? 'cannot go on', register: null };
+  return { kind: 'waits', sentence: refusalSentence(answer.name) || 'cannot go on', register: null };
 }
 
 // The create masks and targets of a program's tasks, from its canonical text.

@@ -2,7 +2,8 @@
 
 import { announce, find, make, plural, put } from './elements.js';
 import { declarationOf, withNames } from './asking.js';
-import { scriptSentences } from './sentences.js';
+import { instructionAt } from './sentences.js';
+import { sequenceOf, tellEvents } from './sequence.js';
 
 // Where the program looks if nothing else is said.
 const EVERYWHERE = { units: 16, events: 10000 };
@@ -23,10 +24,33 @@ function lineNamed(sentence, program) {
   return line ? Number(line) : declarationOf(task, program);
 }
 
-function eventRows(events) {
-  const sentences = scriptSentences(events);
-  return events.map((line, at) => make('li', { class: 'event' },
-    make('span', { class: 'event-number' }, String(at + 1)), make('code', {}, line), make('span', {}, sentences[at])));
+const READS = /^line (\d+): task (\S+) reads (\d+) in (\$\d+); the sequential program has (\d+)(.*)$/;
+const HOLDS = /^task (\S+) has (\d+) in (\$\d+); the sequential program has (\d+)(.*)$/;
+
+// What goes wrong, told by line, instruction and value.
+function harmText(sentence, program) {
+  const reads = READS.exec(sentence);
+  const holds = HOLDS.exec(sentence);
+  if (reads) {
+    const [, line, task, word, register, right, origin] = reads;
+    return `Line ${line} (${instructionAt(program.split('\n'), line)}) of task ${task} reads ${register}: ${word}, where the sequential program has ${right}${origin}.`;
+  }
+  if (holds) return `Task ${holds[1]} begins with ${holds[3]}: ${holds[2]}, where the sequential program has ${holds[4]}${holds[5]}.`;
+  return `${sentence[0].toUpperCase()}${sentence.slice(1)}.`;
+}
+
+function eventRows(sentences) {
+  return sentences.map(([line, sentence], at) => make('li', { class: `event ${at === sentences.length - 1 ? 'is-harmful' : ''}` },
+    make('span', { class: 'event-number' }, String(at + 1)), make('code', {}, line), make('span', {}, sentence)));
+}
+
+// The events with their sentences; the last is told by the harm that it does, if that names an instruction.
+function toldOf(jobs, program, { events, sentence }) {
+  if (!events.length) return [];
+  const sequence = sequenceOf(jobs, program, events[0].split(' ')[1], events.length);
+  const told = tellEvents(program, events, sequence).map((said, at) => [events[at], withNames(said)]);
+  if (READS.test(sentence) && events.at(-1).startsWith('exec')) told.at(-1)[1] = withNames(harmText(sentence, program));
+  return told;
 }
 
 export class Demonstration {
@@ -51,25 +75,32 @@ export class Demonstration {
   async look() {
     const program = this.editor.text;
     this.program = program;
-    this.show(LOOKING);
+    this.show(LOOKING, []);
     announce(LOOKING.sentence);
     await new Promise(done => setTimeout(done, 30));
     if (this.program !== program) return;
     const shown = readDemonstration(this.jobs.demonstrate(program, EVERYWHERE).text);
-    this.show(shown);
+    this.show(shown, toldOf(this.jobs, program, shown));
     this.editor.mark(lineNamed(shown.sentence, program));
+    this.scroll();
     announce(`${find('demonstration-units').textContent} ${find('harm').textContent}`.trim());
   }
 
-  show({ units, events, sentence }) {
+  show({ units, events, sentence }, told) {
     const isRun = units !== null;
     find('demonstration').hidden = false;
     find('demonstration-units').textContent = isRun ? `On ${plural(units, 'unit')}, ${plural(events.length, 'event')}.` : '';
     find('demonstration-units').hidden = find('demonstration-events').hidden = !isRun;
-    put(find('demonstration-events').firstElementChild, eventRows(events));
-    find('demonstration-events').scrollTop = 0;
-    find('harm').textContent = withNames(sentence);
+    put(find('demonstration-events').firstElementChild, eventRows(told));
+    find('harm').textContent = isRun ? withNames(harmText(sentence, this.program)) : withNames(sentence);
     find('harm').className = isRun ? 'harm' : '';
+  }
+
+  // The last events and the conclusion are seen.
+  scroll() {
+    const list = find('demonstration-events');
+    list.scrollTop = list.scrollHeight;
+    find('harm').scrollIntoView({ block: 'nearest' });
   }
 
   close() {

@@ -35,9 +35,15 @@ function markedLine(line, ranges, kinds) {
   return make('span', { class: ['line', ...kinds].join(' ') }, parts, '\n');
 }
 
-function gutterLine(number, units, hasHead) {
-  const badges = units.map(seat => make('span', { class: `seat-badge ${seat === hasHead ? 'is-head' : ''}` }, String(seat)));
-  return make('div', { class: 'gutter-line' }, badges, make('span', {}, String(number)));
+const MOST_BADGES = 3;
+
+// A line's number, and the units that are at it: the head first, and only so many.
+function gutterLine(number, units, head) {
+  const seats = [...units].sort((one, other) => (other === head) - (one === head));
+  const shown = seats.length > MOST_BADGES ? seats.slice(0, MOST_BADGES - 1) : seats;
+  const badges = shown.map(seat => make('span', { class: `seat-badge ${seat === head ? 'is-head' : ''}` }, String(seat)));
+  const more = seats.length > shown.length ? make('span', { class: 'seat-badge', title: `units ${seats.join(', ')}` }, `+${seats.length - shown.length}`) : null;
+  return make('div', { class: 'gutter-line' }, badges, more, make('span', {}, String(number)));
 }
 
 export class Editor {
@@ -48,6 +54,7 @@ export class Editor {
     this.units = new Map();
     this.head = null;
     this.mayApply = true; // not in an exercise: there one changes the text oneself
+    this.mayHelp = true; // not in an exercise before a hint is asked for: findings then say what is wrong alone
     this.pointed = null; // a line that a table or a sentence names
     this.isTyping = false; // whether the arrow keys move in the text; after a click they step the run until one types
     let waiting;
@@ -70,10 +77,11 @@ export class Editor {
   }
 
   key({ key }) {
-    if (key === 'Escape') {
-      this.hideBubble();
-      this.isTyping = false;
-    } else if (!['ArrowLeft', 'ArrowRight', 'Shift', 'Control', 'Alt', 'Meta'].includes(key)) this.isTyping = true;
+    if (!['Escape', 'ArrowLeft', 'ArrowRight', 'Shift', 'Control', 'Alt', 'Meta'].includes(key)) this.isTyping = true;
+  }
+
+  get hasFocus() {
+    return this.isTyping && document.activeElement === this.area;
   }
 
   get text() {
@@ -107,6 +115,26 @@ export class Editor {
     const { clientHeight } = find('editor');
     find('editor').scrollTop = line.offsetTop - (clientHeight - line.offsetHeight) / 2;
     return line;
+  }
+
+  // Takes another text, which the browser can undo; what had the focus keeps it.
+  replace(text) {
+    const held = document.activeElement;
+    this.chosen = null;
+    this.pointed = null;
+    this.hideBubble();
+    this.retype(text.replaceAll('\r\n', '\n'));
+    if (held !== this.area) held?.focus();
+  }
+
+  // Scrolls to a line, if it is not seen.
+  follow(number) {
+    const line = find('marked').children[number - 1];
+    if (!line) return;
+    const place = find('editor');
+    const margin = Math.min(2 * line.offsetHeight, place.clientHeight / 4);
+    const isSeen = line.offsetTop - margin >= place.scrollTop && line.offsetTop + line.offsetHeight + margin <= place.scrollTop + place.clientHeight;
+    if (!isSeen) place.scrollTop = line.offsetTop - (place.clientHeight - line.offsetHeight) / 2;
   }
 
   // Marks a line, and reads it out.
@@ -148,8 +176,11 @@ export class Editor {
     else this.hideBubble();
   }
 
+  // Answers whether there was one.
   hideBubble() {
+    const wasShown = !find('bubble').hidden;
     find('bubble').hidden = true;
+    return wasShown;
   }
 
   showBubble() {
@@ -157,7 +188,7 @@ export class Editor {
     const { chosen } = this;
     if (!chosen?.place) return;
     const close = make('button', { class: 'close', 'aria-label': 'Close', onclick: () => this.hideBubble() }, '×');
-    put(bubble, findingBody(chosen, this.mayApply ? () => this.applyFix(chosen) : null), close);
+    put(bubble, findingBody(chosen, this), close);
     bubble.hidden = false;
     bubble.style.left = `${find('editor').scrollLeft + 8}px`;
     bubble.style.width = `${Math.min(540, find('editor').clientWidth - find('gutter').offsetWidth - 16)}px`;
@@ -173,22 +204,30 @@ export class Editor {
 }
 
 // A finding in words: the sentence, its notes, the help, and a button where the help is exact and may be applied.
-export function findingBody(finding, apply) {
+export function findingBody(finding, editor) {
   const where = finding.place ? `Line ${finding.place.line}: ` : '';
   const notes = finding.notes.map(it => make('p', { class: 'note' }, it.place ? `Line ${it.place.line}: ${it.sentence}` : it.sentence));
   const path = finding.path.length > 1 ? make('p', { class: 'note' }, `Path: ${finding.path.map(it => it.line).join(' → ')}`) : null;
-  const button = apply && finding.edits.length ? make('button', { class: 'apply', 'data-key': `apply-${finding.number}`, onclick: apply }, 'Do so') : null;
+  const apply = () => editor.applyFix(finding);
+  const button = editor.mayApply && finding.edits.length ? make('button', { class: 'apply', 'data-key': `apply-${finding.number}`, onclick: apply }, 'Do so') : null;
+  const help = editor.mayHelp && finding.help ? make('p', { class: 'help' }, finding.help, ' ', button) : button;
   return make('div', {},
     make('p', {}, make('b', {}, where), finding.sentence, ' ', make('span', { class: 'quiet' }, nameOf(finding.code))),
-    notes,
-    path,
-    finding.help ? make('p', { class: 'help' }, finding.help, ' ', button) : button);
+    notes, path, help);
+}
+
+// What is said of a text without findings; in an exercise, how many goals are open.
+function praise(openGoals) {
+  if (openGoals === null) return { kind: 'is-fine', sentence: 'The marks are right on every path. Nothing is found that costs speed.' };
+  if (!openGoals) return { kind: 'is-fine', sentence: 'The marks are right on every path.' };
+  return { kind: 'is-note', sentence: `The marks are right on every path, but ${openGoals === 1 ? 'a goal is' : `${openGoals} goals are`} still open.` };
 }
 
 // The list of all findings below the text.
-export function showFindings(place, findings, editor) {
+export function showFindings(place, findings, editor, openGoals) {
   if (!findings.length) {
-    put(place, make('li', { class: 'is-fine' }, 'The marks are right on every path, and none costs speed.'));
+    const { kind, sentence } = praise(openGoals);
+    put(place, make('li', { class: kind }, sentence));
     return;
   }
   const showButton = it => make('button', {
@@ -197,8 +236,7 @@ export function showFindings(place, findings, editor) {
     'aria-label': `Show finding ${it.number + 1} in the text`,
     onclick: () => editor.choose(it),
   }, 'Show');
-  put(place, findings.map(it => make('li', { class: `is-${it.level}` },
-    findingBody(it, editor.mayApply ? () => editor.applyFix(it) : null), it.place ? showButton(it) : null)));
+  put(place, findings.map(it => make('li', { class: `is-${it.level}` }, findingBody(it, editor), it.place ? showButton(it) : null)));
 }
 
 // One line on what was found.

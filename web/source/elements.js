@@ -26,11 +26,17 @@ export function draw(name, attributes = {}, ...children) {
   return fill(document.createElementNS(PICTURE, name), attributes, children);
 }
 
-// Puts new children in the place of the old ones. A control that had the focus gets it back by its data-key.
+// Puts new children in the place of the old ones. A control that had the focus gets it back by its data-key; if it is no
+// longer there, the one that stands where it stood gets it.
 export function put(place, ...children) {
-  const key = place.contains(document.activeElement) ? document.activeElement.dataset.key : null;
+  const controls = () => [...place.querySelectorAll('[data-key]')];
+  const held = place.contains(document.activeElement) ? document.activeElement : null;
+  const key = held?.dataset.key;
+  const at = key === undefined ? -1 : controls().indexOf(held);
   place.replaceChildren(...children.flat().filter(child => child !== null && child !== undefined));
-  if (key) place.querySelector(`[data-key="${CSS.escape(key)}"]`)?.focus();
+  if (key === undefined) return;
+  const now = controls();
+  (now.find(it => it.dataset.key === key) ?? now[Math.min(at, now.length - 1)])?.focus({ preventScroll: true });
 }
 
 export function plural(count, word) {
@@ -42,11 +48,16 @@ export function announce(sentence) {
   find('announcement').textContent = sentence;
 }
 
-// Hands a text out as a file.
-export function download(name, text) {
-  const address = URL.createObjectURL(new Blob([text], { type: 'text/plain' }));
+// Hands bytes out as a file.
+export function handOut(name, blob) {
+  const address = URL.createObjectURL(blob);
   make('a', { href: address, download: name }).click();
   setTimeout(() => URL.revokeObjectURL(address), 1000);
+}
+
+// Hands a text out as a file.
+export function download(name, text) {
+  handOut(name, new Blob([text], { type: 'text/plain' }));
 }
 
 // Copies a text, and says on the button that it did.

@@ -1,4 +1,4 @@
-// What the bundle puts into the page: the module, packed, and the examples.
+// What the bundle puts into the page: the module, packed, the examples, and the exercises.
 
 const PACKED_MODULE = '/* the module */';
 
@@ -11,3 +11,8 @@ export async function moduleBytes() {
   const unpacked = new Blob([packed]).stream().pipeThrough(new DecompressionStream('gzip'));
   return new Response(unpacked).arrayBuffer();
 }
+
+const EXERCISE_TEXTS = [/* the exercises */];
+
+// Each exercise has a text, hints, a program to begin with, and goals that the page checks (exercises.json).
+export const EXERCISES = EXERCISE_TEXTS.map(it => ({ ...it, program: it.program.map(line => `${line}\n`).join('') }));

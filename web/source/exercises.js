@@ -1,8 +1,9 @@
 // The exercises: what is to be done, what is reached, and the work on each, which goes into the link.
 
 import { announce, copy, find, make, plural, put } from './elements.js';
-import { EXERCISES } from './exercise_texts.js';
+import { EXERCISES } from './embedded.js';
 import { isReached, standingOf } from './goals.js';
+import { readProgress, writeProgress } from './progress.js';
 
 function goalRow(goal, isReachedNow, standing) {
   return make('li', { class: `${isReachedNow ? 'is-reached' : 'is-open'} ${goal.isFurther ? 'is-further' : ''}` },
@@ -10,19 +11,27 @@ function goalRow(goal, isReachedNow, standing) {
     make('span', { class: 'unseen' }, isReachedNow ? ' Reached.' : ' Open.'));
 }
 
+// Work is the text, the script by hand and the answers; `isOwn` where it was done in this browser.
+function newWork(exercise) {
+  return { text: exercise.program, script: [], answers: {}, isTouched: false, isOwn: false };
+}
+
 export class Exercises {
-  // `opened` is called with an exercise and the work on it.
-  constructor(jobs, opened) {
+  // `opened` is called with an exercise and the work on it, `chosen` with the number of one that is chosen.
+  constructor(jobs, opened, chosen) {
     this.jobs = jobs;
     this.opened = opened;
+    this.chosen = chosen;
     this.number = null;
-    this.works = EXERCISES.map(it => ({ text: it.program, script: [], answers: {}, isTouched: false }));
+    this.own = null; // one's own work, while a link shows other work
+    this.works = EXERCISES.map(newWork);
     const choice = find('exercise-choice');
     EXERCISES.forEach((it, at) => choice.append(make('option', { value: at + 1 }, `${at + 1}. ${it.title}`)));
-    choice.addEventListener('change', () => this.open(Number(choice.value) || null));
+    choice.addEventListener('change', () => this.chosen(Number(choice.value) || null));
     find('exercise-again').addEventListener('click', () => this.startAgain());
     find('exercise-link').addEventListener('click', event => copy(location.href, event.target));
-    find('exercise-next').addEventListener('click', () => this.open(this.number + 1));
+    find('exercise-next').addEventListener('click', () => this.chosen(this.number + 1));
+    find('student-name').addEventListener('input', () => this.named());
     this.markChoices();
   }
 
@@ -43,8 +52,9 @@ export class Exercises {
   }
 
   startAgain() {
-    this.works[this.number - 1] = { text: this.exercise.program, script: [], answers: {}, isTouched: false };
+    this.works[this.number - 1] = { ...newWork(this.exercise), isOwn: true };
     this.open(this.number);
+    this.keep();
   }
 
   showText() {
@@ -52,8 +62,32 @@ export class Exercises {
     find('exercise-title').textContent = `Exercise ${this.number} of ${EXERCISES.length}: ${exercise.title}`;
     put(find('exercise-text'), exercise.text.map(it => make('p', {}, it)));
     put(find('exercise-fields'), (exercise.fields ?? []).map(it => this.field(it)));
-    put(find('exercise-hints'), exercise.hints.map((it, at) => make('details', {}, make('summary', {}, `Hint ${at + 1} of ${exercise.hints.length}`), make('p', {}, it))));
+    put(find('exercise-hints'), exercise.hints.map((it, at) => this.hint(it, at)));
+    find('kept-note').hidden = !this.work.isKept;
     find('exercise-next').hidden = this.number === EXERCISES.length;
+  }
+
+  // Once a hint is asked for, the findings say what to write, too.
+  hint(text, at) {
+    const details = make('details', {}, make('summary', {}, `Hint ${at + 1} of ${this.exercise.hints.length}`), make('p', {}, text));
+    details.addEventListener('toggle', () => {
+      if (!details.open || this.work.hasHint) return;
+      this.work.hasHint = true;
+      this.hinted();
+    });
+    return details;
+  }
+
+  // Whether the findings may say what to write: in no exercise, or after a hint.
+  get mayHelp() {
+    return this.number === null || this.work.hasHint === true;
+  }
+
+  // How many goals are open, without those that go further; null in no exercise.
+  get openGoals() {
+    if (!this.number) return null;
+    const reached = this.reachedOf(this.number);
+    return this.exercise.goals.filter((goal, at) => !goal.isFurther && !reached[at]).length;
   }
 
   field({ name, label }) {
@@ -64,8 +98,9 @@ export class Exercises {
 
   answer(name, value) {
     this.work.answers[name] = value;
-    this.work.isTouched = true;
+    this.work.isTouched = this.work.isOwn = true;
     this.check();
+    this.keep();
     this.answered?.();
   }
 
@@ -73,9 +108,39 @@ export class Exercises {
   take(text, script) {
     if (!this.number) return;
     const { work } = this;
-    if (text !== work.text || script.join() !== work.script.join()) work.isTouched = true;
+    const isChanged = text !== work.text || script.join() !== work.script.join();
+    if (isChanged) work.isTouched = work.isOwn = true;
     Object.assign(work, { text, script });
     this.check();
+    if (isChanged) this.keep();
+  }
+
+  get name() {
+    return find('student-name').value.trim();
+  }
+
+  named() {
+    this.isNameOwn = true;
+    this.keep();
+    this.answered?.();
+  }
+
+  // Keeps the work that was done in this browser. What a link brought is kept only once it is changed here.
+  keep() {
+    const before = readProgress();
+    const own = this.works.map((work, at) => [at + 1, work]).filter(([, work]) => work.isOwn);
+    const works = { ...before.works, ...Object.fromEntries(own.map(([number, { text, script, answers, isTouched }]) => [number, { text, script, answers, isTouched }])) };
+    writeProgress({ name: this.isNameOwn ? this.name : before.name, works });
+    find('kept-note').hidden = true;
+  }
+
+  // Takes what this browser kept, over what is here.
+  takeKept() {
+    const { name, works } = readProgress();
+    if (name) find('student-name').value = name;
+    this.isNameOwn = name !== '';
+    this.works = this.works.map((work, at) => works[at + 1] ? { ...newWork(EXERCISES[at]), ...works[at + 1], isOwn: true, isKept: works[at + 1].isTouched } : work);
+    this.markChoices();
   }
 
   // Whether all words that the exercise asks for are found. Before that, the page does not show them.
@@ -117,9 +182,10 @@ export class Exercises {
     return EXERCISES[number - 1].goals.every((goal, at) => goal.isFurther || reached[at]);
   }
 
-  // What goes into the link: the work on each exercise that was touched.
+  // What goes into the link of an exercise: the work on each that was touched.
   toLink() {
-    const words = {};
+    if (!this.number) return {};
+    const words = this.works.some(it => it.isTouched) && this.name ? { name: this.name } : {};
     this.works.forEach((work, at) => {
       if (!work.isTouched) return;
       if (work.text !== EXERCISES[at].program) words[`text${at + 1}`] = work.text;
@@ -129,16 +195,30 @@ export class Exercises {
     return words;
   }
 
-  fromLink(words) {
-    for (const [word, value] of Object.entries(words)) {
-      const [, kind, number, name] = /^(text|script|answer)(\d)(?:\.(\w+))?$/.exec(word) ?? [];
+  // Takes the work that a link holds, all of it. A link that holds none leaves one's own.
+  fromLink(words, isDamaged) {
+    const held = Object.entries(words).map(([word, value]) => [/^(text|script|answer)(\d)(?:\.(\w+))?$/.exec(word), value]).filter(([word]) => word && this.works[word[2] - 1]);
+    if (!held.length && !words.name && !isDamaged) return this.takeOwn();
+    this.own ??= { works: this.works, name: this.name };
+    this.works = EXERCISES.map(newWork);
+    find('student-name').value = words.name ?? '';
+    this.isNameOwn = false;
+    for (const [[, kind, number, name], value] of held) {
       const work = this.works[number - 1];
-      if (!work) continue;
       work.isTouched = true;
       if (kind === 'text') work.text = value;
       if (kind === 'script') work.script = value.split('\n');
       if (kind === 'answer') work.answers[name] = value;
     }
     this.markChoices();
+  }
+
+  takeOwn() {
+    if (this.own) {
+      this.works = this.own.works;
+      find('student-name').value = this.own.name;
+      this.own = null;
+    }
+    this.takeKept();
   }
 }

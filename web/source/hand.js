@@ -2,7 +2,7 @@
 
 import { announce, copy, download, find, make, put } from './elements.js';
 import { answerTo, registerName } from './asking.js';
-import { refusalSentence } from './sentences.js';
+import { refusalName, refusalSentence } from './sentences.js';
 
 // Refusals that teach nothing: the event makes no sense where the unit stands.
 const POINTLESS = ['NoSuch', 'AlreadyThere', 'NotStopped', 'Stopped', 'NoMismatch', 'Ended', 'IsListed'];
@@ -41,9 +41,8 @@ function groupsOf(state, tasks) {
   return [...units, { title: next, events: assigns }, { title: 'Give up', events: drops }];
 }
 
-function refusalText(line, answer) {
-  const register = answer.register === null ? '' : ` ${registerName(answer.register)}`;
-  return `${line} is refused: ${answer.code} ${answer.name}${register}: ${refusalSentence(answer.name)}.`;
+function refusalText({ line, says, answer }) {
+  return `${line} is refused (${says}): ${refusalSentence(answer.name)} (${refusalName(answer)}).`;
 }
 
 export class Hand {
@@ -86,9 +85,17 @@ export class Hand {
     const allowed = groups.map(it => ({ ...it, events: it.events.filter(event => event.answer.isAllowed) })).filter(it => it.events.length);
     const refused = groups.flatMap(it => it.events).filter(it => !it.answer.isAllowed && !POINTLESS.includes(it.answer.name));
     const over = state.standing === 'running' ? 'Nothing is allowed.' : 'The run has ended. Take events back, or start again.';
+    const hadFocus = find('allowed').contains(document.activeElement) || document.activeElement === find('undo');
     put(find('allowed'), allowed.length ? allowed.map(group => this.group(group, position)) : make('p', {}, over));
     find('refused-title').textContent = `Not allowed now (${refused.length}): click one to see why`;
     put(find('refused'), refused.map(it => this.refusedButton(it)));
+    if (hadFocus && !find('allowed').contains(document.activeElement)) this.keepFocus();
+  }
+
+  // Where the last event is allowed or taken back, the focus stays among the events.
+  keepFocus() {
+    const stays = [find('undo'), find('allowed').querySelector('button')].find(it => it && !it.disabled);
+    stays?.focus({ preventScroll: true });
   }
 
   group(group, position) {
@@ -100,7 +107,7 @@ export class Hand {
 
   refusedButton(event) {
     const why = () => {
-      const said = refusalText(event.line, event.answer);
+      const said = refusalText(event);
       find('refusal').textContent = said;
       announce(said);
     };

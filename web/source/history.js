@@ -29,6 +29,7 @@ const CHANGES = {
     const life = { number: lives.length, task: change.task, seat, from: event.event, to: null, fate: 'unfinished', acts: [] };
     lives.push(life);
     state.queue[change.unit] = { ...NO_UNIT, life, seat, task: change.task, line: change.line };
+    state.taker = change.unit;
   },
   executed(state, change) {
     withUnit(state, change.unit, { executed: state.queue[change.unit].executed + 1, last: change.line });
@@ -41,6 +42,13 @@ const CHANGES = {
   },
   drained(state, change) {
     withUnit(state, change.unit, { sent: { ...state.queue[change.unit].sent, [change.register]: change.word } });
+  },
+  became_head(state) {
+    state.taker = 0;
+  },
+  took(state, change) {
+    const unit = state.queue[state.taker];
+    withUnit(state, state.taker, { arrived: { ...unit.arrived, [change.register]: change.word } });
   },
   arrived(state, change) {
     const unit = state.queue[change.unit];
@@ -98,7 +106,7 @@ function seatOf(state, event) {
 }
 
 // What a state says of its own event alone: a register that moved, a word that was stored, units that lost their tasks.
-const QUIET = { moved: null, stored: null, left: [] };
+const QUIET = { moved: null, stored: null, left: [], taker: null };
 
 function stateAfter(before, event, lives) {
   const state = { ...before, ...QUIET, queue: [...before.queue], before, event };

@@ -1,6 +1,6 @@
 // The run as lanes: a row for each unit, a column for each step (or for each event, where steps are not known).
 
-import { draw } from './elements.js';
+import { draw, find, put } from './elements.js';
 
 const COLUMN = 21;
 const ROW = 30;
@@ -58,7 +58,7 @@ function cursor(column, shown, units) {
 }
 
 // Draws the lanes of a history. `columnOf` is the step of an event, or its number.
-export function drawLanes({ states, lives }, columnOf, current, choose) {
+function drawLanes({ states, lives }, columnOf, current, choose, zoom) {
   const count = states.length - 1;
   const { units } = states[0];
   const columns = count ? columnOf(count) : 0;
@@ -69,11 +69,89 @@ export function drawLanes({ states, lives }, columnOf, current, choose) {
   const signs = lives.flatMap(life => signsOf(life, columnOf, shown, choose));
   const parts = [current ? cursor(columnOf(current), shown, units) : null, ...bars, ...signs, ...ruler(shown, units)];
   const label = 'Lanes: what each unit does over time. The list of events has it in words.';
-  return draw('svg', { width, height, viewBox: `0 0 ${width} ${height}`, role: 'img', 'aria-label': label }, parts);
+  return draw('svg', { width: width * zoom, height: height * zoom, viewBox: `0 0 ${width} ${height}`, role: 'img', 'aria-label': label }, parts);
 }
 
-// Where the column of an event begins in the picture.
-export function offsetOf(history, columnOf, event) {
-  const shown = windowOf(columnOf(history.states.length - 1), event ? columnOf(event) : 0);
-  return LEFT + ((event ? columnOf(event) : 1) - shown.first) * COLUMN;
+const LEAST_ZOOM = 0.75;
+const ZOOM_STEP = 1.25;
+const SEEN_AROUND = 60;
+
+// How far a place must scroll so that a stretch of it is seen.
+function scrolled(from, length, start, end, margin) {
+  const isSeen = start - margin >= from && end + margin <= from + length;
+  return isSeen ? from : Math.max(0, (start + end - length) / 2);
+}
+
+export class Lanes {
+  // `choose` is called with an event that is clicked.
+  constructor(choose) {
+    this.choose = choose;
+    this.place = find('lanes');
+    this.zoom = 1;
+    find('lanes-smaller').addEventListener('click', () => this.zoomBy(1 / ZOOM_STEP));
+    find('lanes-larger').addEventListener('click', () => this.zoomBy(ZOOM_STEP));
+    find('lanes-fit').addEventListener('click', () => this.fit());
+    this.place.addEventListener('wheel', event => this.wheel(event), { passive: false });
+    this.place.addEventListener('pointerdown', event => this.grab(event));
+  }
+
+  // The wheel with Ctrl, and two fingers, make the lanes larger or smaller.
+  wheel(event) {
+    if (!event.ctrlKey) return;
+    event.preventDefault();
+    this.zoomBy(event.deltaY < 0 ? 1.1 : 1 / 1.1);
+  }
+
+  // A mouse that is held moves the lanes; a click on a sign is still a click.
+  grab({ button, pointerType, clientX, clientY }) {
+    if (button !== 0 || pointerType === 'touch') return;
+    const { place } = this;
+    const { scrollLeft, scrollTop } = place;
+    const end = new AbortController();
+    const move = event => {
+      place.classList.add('is-dragged');
+      place.scrollLeft = scrollLeft - (event.clientX - clientX);
+      place.scrollTop = scrollTop - (event.clientY - clientY);
+    };
+    const release = () => {
+      place.classList.remove('is-dragged');
+      end.abort();
+    };
+    addEventListener('pointermove', move, { signal: end.signal });
+    for (const name of ['pointerup', 'pointercancel']) addEventListener(name, release, { signal: end.signal });
+  }
+
+  // As large as shows all of the run in the width.
+  fit() {
+    if (!this.shown) return;
+    const width = Number(this.place.firstElementChild.viewBox.baseVal.width);
+    this.zoomBy(this.place.clientWidth / width / this.zoom);
+  }
+
+  // In the layout of a lecture the lanes shrink a little where that shows all units.
+  zoomFor(units) {
+    if (!document.body.classList.contains('is-lecture')) return this.zoom;
+    const height = TOP + units * ROW + 6;
+    return this.zoom * Math.max(LEAST_ZOOM, Math.min(1, (this.place.clientHeight - 2) / height || 1));
+  }
+
+  // Larger or smaller by a factor; null: as at first.
+  zoomBy(factor) {
+    this.zoom = factor === null ? 1 : Math.max(0.2, Math.min(4, this.zoom * factor));
+    if (this.shown) this.show(...this.shown);
+  }
+
+  // Draws the lanes, and scrolls to what happens: the column of an event, and the row of the unit that acts.
+  show(history, columnOf, event, actor) {
+    this.shown = [history, columnOf, event, actor];
+    const { units } = history.states[0];
+    const zoom = this.zoomFor(units);
+    put(this.place, drawLanes(history, columnOf, event, this.choose, zoom));
+    const shown = windowOf(columnOf(history.states.length - 1), event ? columnOf(event) : 0);
+    const x = (LEFT + ((event ? columnOf(event) : 1) - shown.first) * COLUMN) * zoom;
+    const y = (TOP + (actor ?? 0) * ROW) * zoom;
+    const { place } = this;
+    place.scrollLeft = scrolled(place.scrollLeft, place.clientWidth, x, x + COLUMN * zoom, SEEN_AROUND);
+    place.scrollTop = scrolled(place.scrollTop, place.clientHeight, y, y + ROW * zoom, 0);
+  }
 }

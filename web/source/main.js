@@ -4,16 +4,20 @@ import { Compare } from './compare.js';
 import { Demonstration } from './demonstration.js';
 import { Editor, showFindings, verdictOf } from './editor.js';
 import { copy, download, find, make } from './elements.js';
-import { EXAMPLES, moduleBytes } from './embedded.js';
+import { EXAMPLES, EXERCISES, moduleBytes } from './embedded.js';
 import { Exercises } from './exercises.js';
+import { Files } from './files.js';
 import { hasWrongMarks, readFindings } from './findings.js';
 import { Hand } from './hand.js';
 import { Jobs } from './jobs.js';
+import { Keys } from './keys.js';
+import { Lecture } from './lecture.js';
 import { readLink, writeLink } from './link.js';
 import { startModule } from './module.js';
+import { savePng, saveSvg } from './picture.js';
 import { Proposal } from './proposal.js';
-import { addSteps, makeReplay, makeRun, readSettings, writeSettings } from './runner.js';
-import { seatsByLine, Stage } from './stage.js';
+import { makeReplay, makeRun, readSettings, writeSettings } from './runner.js';
+import { lineOfEvent, seatsByLine, Stage } from './stage.js';
 import { Tabs } from './tabs.js';
 
 class Page {
@@ -26,38 +30,102 @@ class Page {
     this.stage = new Stage(jobs, (state, ask) => this.moved(state, ask), line => this.editor.point(line));
     this.hand = new Hand(() => this.playHand(Infinity));
     this.compare = new Compare(jobs, () => this.otherText(), line => this.editor.point(line));
+    this.lecture = new Lecture(() => this.viewChanged());
     this.tabs = new Tabs(['run', 'hand', 'compare'], () => this.viewChanged());
-    this.exercises = new Exercises(jobs, (exercise, work) => this.exerciseOpened(exercise, work));
+    this.exercises = new Exercises(jobs, (exercise, work) => this.exerciseOpened(exercise, work), number => this.chooseExercise(number));
+    this.files = new Files(text => this.openText(text));
     this.exercises.answered = () => this.answered();
+    this.exercises.hinted = () => this.showFindings();
+    const isTyped = target => target === this.editor.area ? this.editor.isTyping : target.matches?.('textarea, input:not([type="range"])');
+    this.keys = new Keys(this.keyActions(), event => this.tabs.view !== 'compare' && this.stage.key(event), isTyped);
     this.listen();
   }
 
   listen() {
     for (const id of ['units', 'predict', 'predict-list', 'budget']) find(id).addEventListener('change', () => this.settingsChanged());
-    find('example-choice').addEventListener('change', event => this.openExample(event.target.value));
+    find('example-choice').addEventListener('change', event => this.chooseExample(event.target.value));
+    find('link-fault-close').addEventListener('click', () => this.sayLinkFault(null));
     find('by-hand-from-here').addEventListener('click', () => this.goOnByHand());
     find('keep').addEventListener('click', () => this.keepText());
     find('save-text').addEventListener('click', () => download('program.s', this.editor.text));
+    find('save-svg').addEventListener('click', saveSvg);
+    find('save-png').addEventListener('click', savePng);
     find('copy-link').addEventListener('click', event => copy(location.href, event.target));
     find('compare-choice').addEventListener('change', () => this.showCompare());
     find('script-choice').addEventListener('change', event => this.openScript(event.target));
-    document.addEventListener('keydown', event => this.key(event));
   }
 
-  // Keys that no control takes go to the run. The text takes them once one types there.
-  key(event) {
-    const isText = event.target === this.editor.area;
-    const isControl = event.target.closest('input, textarea, select, [role=tab]') || event.target.matches('[role=region]');
-    const isTaken = isText ? this.editor.isTyping : isControl;
-    if (isTaken || event.ctrlKey || event.altKey || event.metaKey || this.tabs.view === 'compare') return;
-    this.stage.key(event);
+  // What each key does that is no arrow.
+  keyActions() {
+    const view = name => () => {
+      this.tabs.choose(name);
+      this.viewChanged();
+    };
+    const press = id => () => find(id).click();
+    return {
+      l: () => this.lecture.toggle(),
+      p: () => this.stage.run && this.tabs.view !== 'compare' && this.stage.togglePlay(),
+      e: () => this.editor.area.focus(),
+      w: () => find('demonstrate').hidden || find('demonstrate').click(),
+      1: view('run'),
+      2: view('hand'),
+      3: view('compare'),
+      Home: () => this.stage.go(0),
+      End: () => this.stage.go(this.stage.last),
+      s: () => this.stage.run && this.tabs.view !== 'compare' && saveSvg(),
+      '+': () => this.stage.lanes.zoomBy(1.25),
+      '-': () => this.stage.lanes.zoomBy(0.8),
+      0: () => this.stage.lanes.zoomBy(null),
+      '?': () => this.keys.show(),
+      Escape: () => this.escape(),
+    };
   }
 
-  openExample(name) {
+  // Closes what lies over the rest, or else leaves a text.
+  escape() {
+    const wasShown = this.editor.hideBubble();
+    if (document.activeElement === this.editor.area && this.editor.isTyping) this.editor.isTyping = false;
+    else if (wasShown) return;
+    else if (!find('demonstration').hidden) find('demonstration-close').click();
+    else if (document.activeElement !== this.editor.area) document.activeElement?.blur();
+  }
+
+  // What is chosen gets an entry of its own in the browser's history: Back leads to the text as it was. An example can be
+  // undone in the text, too.
+  chooseExample(name) {
+    this.enterHistory();
+    this.openExample(name, text => this.editor.replace(text));
+  }
+
+  chooseExercise(number) {
+    this.enterHistory();
+    this.exercises.open(number);
+    if (number === null) this.saveLink();
+  }
+
+  // A text from a file takes the place of the program; in an exercise it is the work on that.
+  openText(text) {
+    this.enterHistory();
+    if (!this.exercises.number) {
+      this.hand.load([]);
+      this.leaveExample();
+    }
+    this.editor.replace(text);
+    this.textChanged();
+  }
+
+  // The text is none of the examples.
+  leaveExample() {
+    this.example = null;
+    find('example-choice').value = '';
+    this.listScripts();
+  }
+
+  openExample(name, put = text => this.editor.load(text)) {
     this.example = name;
     find('example-choice').value = name;
     this.exercises.open(null);
-    this.editor.load(EXAMPLES[name].text);
+    put(EXAMPLES[name].text);
     this.hand.load([]);
     this.listScripts();
     this.wantedPosition = 0;
@@ -78,6 +146,7 @@ class Page {
 
   exerciseOpened(exercise, work) {
     this.listScripts();
+    document.body.classList.toggle('has-exercise', exercise !== null);
     find('proposal-section').hidden = exercise !== null;
     this.editor.mayApply = exercise === null;
     this.offerDemonstration();
@@ -97,15 +166,21 @@ class Page {
     find('verdict').textContent = verdict.sentence;
     find('verdict').className = `is-${verdict.kind}`;
     this.editor.show({ findings });
-    showFindings(find('findings'), findings, this.editor);
     this.proposal.show(this.editor.text);
     this.listOthers();
     this.viewChanged();
     this.exercises.take(this.editor.text, this.hand.script);
+    this.showFindings();
     this.offerDemonstration();
   }
 
+  showFindings() {
+    this.editor.mayHelp = this.exercises.mayHelp;
+    showFindings(find('findings'), this.editor.findings, this.editor, this.exercises.openGoals);
+  }
+
   answered() {
+    this.showFindings();
     this.offerDemonstration();
     this.saveLink();
   }
@@ -122,6 +197,7 @@ class Page {
 
   viewChanged() {
     find('stage').hidden = this.tabs.view === 'compare';
+    document.body.dataset.view = this.tabs.view;
     find('stage').classList.toggle('is-hand', this.tabs.view === 'hand');
     find('hand-panel').hidden = this.tabs.view !== 'hand';
     find('run-settings').hidden = this.tabs.view === 'hand';
@@ -140,7 +216,6 @@ class Page {
     const at = this.wantedPosition ?? this.stage.position ?? 0;
     this.wantedPosition = null;
     this.stage.load(run, at);
-    addSteps(this.jobs, this.stage, run, settings);
   }
 
   playHand(position) {
@@ -150,6 +225,7 @@ class Page {
     else this.stage.load(run.scriptFault ? makeReplay(this.jobs, this.editor.text, [], units) : run, position);
     if (run.scriptFault) this.hand.sayFault(run.scriptFault);
     this.exercises.take(this.editor.text, this.hand.script);
+    this.showFindings();
     this.saveLink();
   }
 
@@ -161,7 +237,9 @@ class Page {
   }
 
   moved(state, ask) {
+    document.body.classList.toggle('has-run', state !== null);
     this.editor.show(seatsByLine(state));
+    if (!this.editor.hasFocus) this.editor.follow(lineOfEvent(state));
     if (state && this.tabs.view === 'hand') this.hand.show(state, ask, this.stage.position, this.stage.run.tasks);
     this.saveLink();
   }
@@ -203,7 +281,7 @@ class Page {
       example: number ? null : this.example,
       text: number || isExample ? null : this.editor.text,
       script: number ? null : this.hand.text.trimEnd(),
-      view: this.tabs.view,
+      ...this.viewToLink(),
       ...readSettings(),
       at: this.tabs.view === 'run' && this.stage.run ? this.stage.position : null,
       with: this.tabs.view === 'compare' ? find('compare-choice').value : null,
@@ -212,34 +290,70 @@ class Page {
     };
   }
 
+  // The lecture layout of the run is a view of its own.
+  viewToLink() {
+    const { view } = this.tabs;
+    if (!this.lecture.isOn) return { view };
+    return view === 'run' ? { view: 'lecture' } : { view, layout: 'lecture' };
+  }
+
   saveLink() {
     clearTimeout(this.saving);
     if (!this.isOpen) return;
     this.saving = setTimeout(async () => {
+      await this.entered;
       const hash = await writeLink(this.linkState());
       this.written = hash;
       history.replaceState(null, '', hash);
     }, 250);
   }
 
+  // Leaves the state as it is now in the browser's history, and begins another entry.
+  enterHistory() {
+    if (!this.isOpen) return;
+    clearTimeout(this.saving);
+    const state = this.linkState();
+    this.entered = Promise.resolve(this.entered).then(async () => {
+      history.replaceState(null, '', await writeLink(state));
+      history.pushState(null, '', location.hash);
+      this.written = location.hash;
+    });
+  }
+
+  sayLinkFault(fault) {
+    find('link-fault').hidden = fault === null;
+    find('link-fault-text').textContent = fault ?? '';
+  }
+
+  // What a link asks for that is not there.
+  missingOf(state) {
+    if (state.example && !(state.example in EXAMPLES)) return `There is no example ${state.example} in this page.`;
+    if (state.exercise && !EXERCISES[state.exercise - 1]) return `There is no exercise ${state.exercise} in this page.`;
+    return null;
+  }
+
   // Opens what a link says: an exercise with the work on it, an example, or a text.
   async openLink(hash) {
-    const state = await readLink(hash);
+    const { state, fault } = await readLink(hash);
     this.isOpen = false;
-    this.exercises.fromLink(state);
+    this.sayLinkFault(fault ?? this.missingOf(state));
+    this.exercises.fromLink(state, fault !== null);
     this.kept = state.kept ?? null;
+    this.lecture.set(state.view === 'lecture' || state.layout === 'lecture');
     this.tabs.choose(state.view ?? 'run');
     if (state.exercise) this.exercises.open(Number(state.exercise));
     else this.openExample(state.example in EXAMPLES ? state.example : Object.keys(EXAMPLES)[0]);
     if (state.exercise && state.view) this.tabs.choose(state.view);
     writeSettings({ units: Number(state.units), budget: Number(state.budget), predict: state.predict });
     if (state.text) this.editor.load(state.text);
+    if (state.text && !state.example && !state.exercise) this.leaveExample();
     if (state.script) this.hand.load(state.script.split('\n'));
     this.wantedPosition = Number(state.at) || 0;
     this.textChanged();
     if (state.with) this.chooseOther(state.with);
+    this.written = hash;
     this.isOpen = true;
-    this.saveLink();
+    if (!fault) this.saveLink();
   }
 
   chooseOther(name) {

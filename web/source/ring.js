@@ -3,18 +3,23 @@
 import { draw } from './elements.js';
 import { kindOf, registersOf, saidOf } from './registers.js';
 
-const SIZE = 360;
-const MIDDLE = SIZE / 2;
+const FEW = 9;
 
-function spotOf(seat, units) {
-  const angle = (2 * Math.PI * seat) / units - Math.PI / 2;
-  const radius = units === 1 ? 0 : MIDDLE - 62;
-  return { x: MIDDLE + radius * Math.cos(angle), y: MIDDLE + radius * Math.sin(angle), angle };
+export function isMany(units) {
+  return units > FEW;
 }
 
-function sizeFor(units) {
-  if (units <= 6) return 42;
-  return units <= 9 ? 33 : 21;
+// How large a ring is drawn: the whole, a unit, what is left around, how many registers of a unit at most and how large.
+// Ten and more units are drawn larger, with larger words, since the whole is shown smaller; in a lecture without registers.
+function planOf(units, isLecture) {
+  if (!isMany(units)) return { whole: 360, size: units <= 6 ? 42 : 33, around: 62, dots: 7, dot: 9, letters: units <= 6 ? 9 : 5 };
+  return isLecture ? { whole: 480, size: 34, around: 58, dots: 0, dot: 0, letters: 6 } : { whole: 640, size: 40, around: 66, dots: 4, dot: 12, letters: 6 };
+}
+
+function spotOf(seat, units, { whole, around }) {
+  const angle = (2 * Math.PI * seat) / units - Math.PI / 2;
+  const radius = units === 1 ? 0 : whole / 2 - around;
+  return { x: whole / 2 + radius * Math.cos(angle), y: whole / 2 + radius * Math.sin(angle), angle };
 }
 
 function write(x, y, text, kind) {
@@ -26,19 +31,21 @@ function arrowHead() {
   return draw('defs', {}, draw('marker', { id: 'arrow', viewBox: '0 0 8 8', refX: 7, refY: 4, markerWidth: 6, markerHeight: 6, orient: 'auto' }, path));
 }
 
-function moveOf(moved, units, size) {
-  const one = spotOf(moved.from, units);
-  const other = spotOf(moved.to, units);
+function moveOf(moved, units, plan) {
+  const { size } = plan;
+  const one = spotOf(moved.from, units, plan);
+  const other = spotOf(moved.to, units, plan);
   const length = Math.hypot(other.x - one.x, other.y - one.y) || 1;
   const [across, down] = [((other.x - one.x) / length) * size, ((other.y - one.y) / length) * size];
   const line = draw('line', { x1: one.x + across, y1: one.y + down, x2: other.x - across, y2: other.y - down, class: 'moved', 'marker-end': 'url(#arrow)' });
-  const x = (one.x + other.x) / 2 + (MIDDLE - (one.x + other.x) / 2) * 0.32;
-  const y = (one.y + other.y) / 2 + (MIDDLE - (one.y + other.y) / 2) * 0.32;
+  const middle = plan.whole / 2;
+  const inside = isMany(units) ? 0.42 : 0.32;
+  const x = (one.x + other.x) / 2 + (middle - (one.x + other.x) / 2) * inside;
+  const y = (one.y + other.y) / 2 + (middle - (one.y + other.y) / 2) * inside;
   return [line, write(x, y + 4, `$${moved.register} = ${moved.word}`, 'moved-word')];
 }
 
-function shortened(name, units) {
-  const most = units <= 6 ? 9 : 5;
+function shortened(name, most) {
   return name.length > most ? `${name.slice(0, most - 1)}…` : name;
 }
 
@@ -47,21 +54,34 @@ function under(unit) {
   return unit.hasStopped ? 'stopped' : `line ${unit.line ?? '?'}`;
 }
 
-const DOT = 9;
-const MOST_DOTS = 7;
+// The registers of a unit, and the one that it waits for.
+function registersShown(unit, tasks, reason) {
+  const create = tasks.get(unit.task)?.create ?? [];
+  const waited = reason?.kind === 'waits' ? reason.register : null;
+  return { create, waited, numbers: registersOf(unit, create, waited) };
+}
+
+// What the ring leaves out, in words; nothing where it shows all.
+export function leftOut(state, reasons, tasks, isLecture) {
+  const { dots } = planOf(state.units, isLecture);
+  if (!dots) return 'Of ten and more units the registers are left out here.';
+  const isShort = state.queue.some((unit, at) => registersShown(unit, tasks, reasons[at]).numbers.length > dots);
+  return isShort ? `At most ${dots} registers of a unit are drawn, the one it waits for among them; the list of units below has all.` : '';
+}
 
 // The registers of a unit as dots on its rim, on the side of the ring's middle, from left to right or from top to bottom.
-function dotsOf(unit, create, reason, { x, y, angle }, size) {
-  const waited = reason?.kind === 'waits' ? reason.register : null;
-  const numbers = registersOf(unit, create, waited).slice(0, MOST_DOTS);
+function dotsOf(unit, tasks, reason, { x, y, angle }, { size, dots, dot: radius }) {
+  const { create, waited, numbers } = registersShown(unit, tasks, reason);
+  const first = numbers.includes(waited) ? [waited, ...numbers.filter(it => it !== waited)] : numbers;
+  const drawn = first.slice(0, dots).sort((one, other) => one - other);
   const isBackwards = Math.sin(angle) < -0.01 || (Math.sin(angle) < 0.01 && Math.cos(angle) > 0);
-  const apart = (isBackwards ? -2 : 2) * Math.asin((DOT + 1) / (size + 3));
-  return numbers.map((number, at) => {
-    const around = angle + Math.PI + (at - (numbers.length - 1) / 2) * apart;
+  const apart = (isBackwards ? -2 : 2) * Math.asin((radius + 1) / (size + 3));
+  return drawn.map((number, at) => {
+    const around = angle + Math.PI + (at - (drawn.length - 1) / 2) * apart;
     const place = { cx: x + Math.cos(around) * (size + 3), cy: y + Math.sin(around) * (size + 3) };
     return draw('g', { class: `dot ${kindOf(unit, number, number === waited)}` },
       draw('title', {}, saidOf(unit, number, create.includes(number), number === waited)),
-      draw('circle', { ...place, r: DOT }),
+      draw('circle', { ...place, r: radius }),
       write(place.cx, place.cy + 3.5, number === 32 ? 'hi' : number === 33 ? 'lo' : String(number), 'dot-number'));
   });
 }
@@ -70,8 +90,9 @@ function cross(x, y, half) {
   return draw('path', { class: 'cross', d: `M${x - half} ${y - half}l${2 * half} ${2 * half}m0 ${-2 * half}l${-2 * half} ${2 * half}` });
 }
 
-function drawSeat(seat, state, reasons, size, tasks) {
-  const spot = spotOf(seat, state.units);
+function drawSeat(seat, state, reasons, plan, tasks) {
+  const spot = spotOf(seat, state.units, plan);
+  const { size, letters } = plan;
   const { x, y, angle } = spot;
   const position = state.queue.findIndex(it => it.seat === seat);
   const unit = state.queue[position] ?? state.left.find(it => it.seat === seat && it.fate !== 'retired');
@@ -81,14 +102,13 @@ function drawSeat(seat, state, reasons, size, tasks) {
   if (position === 0) kinds.push('is-head');
   if (state.actor === seat) kinds.push('is-actor');
   if (reasons[position]) kinds.push(`is-${reasons[position].kind}`);
-  const out = size + (state.units > 9 ? 12 : 14);
+  const out = size + (isMany(state.units) ? 16 : 14);
   const parts = [draw('circle', { cx: x, cy: y, r: size, class: kinds.join(' ') })];
   if (state.units > 1) parts.push(write(x + Math.cos(angle) * out, y + Math.sin(angle) * out + 4, String(seat), 'seat-number'));
   if (!unit) parts.push(write(x, y + 4, 'free', 'seat-line'));
-  else if (state.units > 9) parts.push(write(x, y + 4, shortened(unit.task, state.units), 'seat-task is-small'));
-  else parts.push(write(x, y - 1, shortened(unit.task, state.units), 'seat-task'), write(x, y + 14, under(unit), 'seat-line'));
+  else parts.push(write(x, y - 1, shortened(unit.task, letters), 'seat-task'), write(x, y + 14, under(unit), 'seat-line'));
   if (unit?.fate) parts.push(cross(x, y, size * 0.7));
-  else if (unit && state.units <= 9) parts.push(...dotsOf(unit, tasks.get(unit.task)?.create ?? [], reasons[position], spot, size));
+  else if (unit) parts.push(...dotsOf(unit, tasks, reasons[position], spot, plan));
   return draw('g', {}, parts);
 }
 
@@ -98,12 +118,15 @@ function describe(state) {
 }
 
 // Draws the ring of a state; `tasks` has the create masks.
-export function drawRing(state, reasons, tasks) {
-  const size = sizeFor(state.units);
-  const ring = draw('circle', { cx: MIDDLE, cy: MIDDLE, r: state.units === 1 ? 0 : MIDDLE - 62, class: 'ring-line' });
-  const seats = Array.from({ length: state.units }, (_, seat) => drawSeat(seat, state, reasons, size, tasks));
+export function drawRing(state, reasons, tasks, isLecture) {
+  const plan = planOf(state.units, isLecture);
+  const { whole, around } = plan;
+  const middle = whole / 2;
+  const ring = draw('circle', { cx: middle, cy: middle, r: state.units === 1 ? 0 : middle - around, class: 'ring-line' });
+  const seats = Array.from({ length: state.units }, (_, seat) => drawSeat(seat, state, reasons, plan, tasks));
   const words = state.standing !== 'running' ? [state.standing] : state.units > 1 && state.queue.length ? ['thick ring:', 'the head'] : [];
-  const middle = words.map((word, at) => write(MIDDLE, (state.units === 1 ? SIZE - 60 : MIDDLE - 4) + 16 * at, word, 'ring-word'));
-  const moved = state.moved ? moveOf(state.moved, state.units, size) : middle;
-  return draw('svg', { viewBox: `0 0 ${SIZE} ${SIZE}`, role: 'img', 'aria-label': `The ring. ${describe(state)}` }, arrowHead(), ring, seats, moved);
+  const inside = words.map((word, at) => write(middle, (state.units === 1 ? whole - 60 : middle - 4) + 20 * at, word, 'ring-word'));
+  const moved = state.moved ? moveOf(state.moved, state.units, plan) : inside;
+  return draw('svg', { viewBox: `0 0 ${whole} ${whole}`, class: isMany(state.units) ? 'is-many' : null, role: 'img', 'aria-label': `The ring. ${describe(state)}` },
+    arrowHead(), ring, seats, moved);
 }

@@ -1,8 +1,8 @@
 // A run in steps with the settings of the page.
 
-import { find } from './elements.js';
-import { stepsOf, tasksOf } from './asking.js';
+import { tasksOf } from './asking.js';
 import { historyOf, readLines, scriptLine } from './history.js';
+import { find, plural } from './elements.js';
 import { endSentence } from './sentences.js';
 import { waitsOf } from './waits.js';
 
@@ -28,16 +28,23 @@ export function writeSettings({ units, budget, predict }) {
 
 // How a run ended, from its report: the last line, and what retired.
 function endingOf(report, end) {
-  if (report.trimEnd().endsWith('out of budget')) return 'out of budget: the run would go on';
-  const retired = /^retired .*$/m.exec(report);
-  return retired ? `${endSentence(end)}; ${retired[0]}` : endSentence(end);
+  if (report.trimEnd().endsWith('out of budget')) return 'has used up its events: it would go on';
+  const [, tasks, retired, all] = /^retired (\d+) c (\d+) h (\d+)$/m.exec(report) ?? [];
+  if (tasks === undefined) return endSentence(end);
+  const heads = all === retired ? '' : `; ${all} with those of the head`;
+  return `${endSentence(end)}. ${plural(Number(tasks), 'task')} retired, with ${plural(Number(retired), 'instruction')}${heads}`;
+}
+
+// The step of each event, from 1 on, with 0 for the start; null where the events have none.
+function stepsOf(events) {
+  return events.every(it => it.step !== undefined) ? [0, ...events.map(it => it.step)] : null;
 }
 
 // What a text that does not run is told.
 export function whyNoRun(text) {
   const last = text.trimEnd().split('\n').at(-1) ?? '';
   const findings = /^refused (\d+)$/.exec(last);
-  if (findings) return `No run: the marks are wrong (${findings[1] === '1' ? '1 finding' : `${findings[1]} findings`}). The list under the program says where.`;
+  if (findings) return `No run: the marks are wrong (${findings[1] === '1' ? '1 finding' : `${findings[1]} findings`}). The findings say where.`;
   return `No run: ${last}.`;
 }
 
@@ -54,7 +61,7 @@ export function makeRun(jobs, program, settings) {
     ending: endingOf(jobs.run(program, settings, 'report').text, told.end),
     tasks: tasksOf(jobs, program),
     waits: waitsOf(jobs, program, settings),
-    steps: null,
+    steps: stepsOf(told.events),
   };
 }
 
@@ -66,10 +73,4 @@ export function makeReplay(jobs, program, script, units) {
   if (!told && text.startsWith('script refused')) return { scriptFault: `The script cannot be read: ${text.trim().replace('script refused: ', '')}.` };
   if (!told) return { reason: whyNoRun(text) };
   return { program, units, script, history: historyOf(told.events, units), ending: endSentence(told.end), tasks: tasksOf(jobs, program), steps: null };
-}
-
-// Asks for the steps of a run, and hands them to the stage if it still shows that run.
-export async function addSteps(jobs, stage, run, settings) {
-  const steps = await stepsOf(jobs, run.program, settings, run.script.length, () => stage.run === run);
-  if (steps && stage.run === run) stage.takeSteps(steps);
 }

@@ -1,6 +1,6 @@
 // What the machine's answers are in words.
 
-import { withNames } from './asking.js';
+import { registerName } from './asking.js';
 
 // Each refusal of an event, by its name.
 const REFUSALS = {
@@ -34,80 +34,114 @@ export function exitText(exit) {
   return exit.line === null || exit.line === undefined ? hexadecimal(exit.address) : `line ${exit.line}`;
 }
 
-const PHRASES = {
-  began: it => `begins at line ${it.line}`,
-  executed: it => `executes line ${it.line ?? it.index}`,
+// Words one after another: `a`, `a and b`, `a, b and c`.
+export function listed(words) {
+  return words.length < 2 ? words.join('') : `${words.slice(0, -1).join(', ')} and ${words.at(-1)}`;
+}
+
+// The instruction of a line, without its label, its marks and its comment.
+export function instructionAt(lines, number) {
+  const text = (lines[number - 1] ?? '').replace(/#.*/, '').replace(/^\s*(?:[\w.$]+:\s*)*/, '');
+  return text.replace(/\s*!\w+/g, '').replace(/\s+/g, ' ').trim();
+}
+
+// A line with its instruction: `line 7 (addiu $8, $8, 1)`.
+export function lineText(lines, number) {
+  const instruction = instructionAt(lines, number);
+  return instruction ? `line ${number} (${instruction})` : `line ${number}`;
+}
+
+// What an instruction did, each change as a phrase after `it`.
+const EFFECTS = {
   loaded: it => `loads ${it.word} from ${hexadecimal(it.address)}`,
   stored: it => `stores ${it.word} at ${hexadecimal(it.address)}`,
-  wrote: it => `writes $${it.register} = ${it.word}`,
-  sent: it => `sends $${it.register} = ${it.word}`,
-  put_out: it => `puts out ${it.word}`,
-  moved_to: it => `goes on at line ${it.line ?? it.index}`,
-  stopped_at: it => `stops, and goes on to ${exitText(it)}`,
-  arrived: it => `takes $${it.register} = ${it.word} from the unit before it`,
-  drained: it => `sends $${it.register} = ${it.word}`,
-  dropped: it => `${it.task} is dropped`,
-  retired: it => `retires, and ${exitText(it)} comes next`,
-  ended: it => `the run ${it.standing === 'halted' ? 'has halted' : `is ${it.standing}`}`,
+  wrote: (it, sent) => `writes ${it.word} to ${registerName(it.register)}${sent.has(it.register) ? ' and sends it' : ''}`,
+  sent: (it, _, written) => written.has(it.register) ? null : `sends ${registerName(it.register)} = ${it.word}`,
+  put_out: it => `prints ${it.word}`,
 };
 
-function isShown(change, event) {
-  return !(change.change === 'moved_to' && event.changes.length > 2);
+function registersIn(changes, kind) {
+  return new Set(changes.filter(it => it.change === kind).map(it => it.register));
 }
 
-function actorOf(state, event) {
-  const task = event.kind === 'assign' ? event.task : event.changes.find(it => it.task && it.change !== 'squashed' && it.change !== 'dropped')?.task;
-  return task ? `unit ${state.actor}, ${task}` : `unit ${state.actor}`;
+// The effects of an instruction, as phrases.
+export function effectsOf(changes) {
+  const sent = registersIn(changes, 'sent');
+  const written = registersIn(changes, 'wrote');
+  return changes.map(it => EFFECTS[it.change]?.(it, sent, written) ?? null).filter(it => it !== null);
 }
 
-// What an event changed, as one sentence. Units are called by their seat on the ring.
-export function eventSentence(state) {
+// Where an instruction leads, if that is not the next line.
+function waysOn(event) {
+  const executed = event.changes.find(it => it.change === 'executed');
+  return event.changes.flatMap(it => {
+    if (it.change === 'stopped_at') return [`ends its task, after which ${exitText(it)} comes`];
+    if (it.change === 'moved_to' && it.index !== executed.index + 1) return [`goes on at line ${it.line ?? it.index}`];
+    if (it.change === 'ended') return [it.standing === 'halted' ? 'halts, and the run ends' : `ends the run: ${it.standing}`];
+    return [];
+  });
+}
+
+function takesText(changes) {
+  const taken = changes.filter(it => it.change === 'took').map(it => registerName(it.register));
+  return taken.length ? `; it takes ${listed(taken)}` : '';
+}
+
+function beganText(state, { actor, changes, task }) {
+  const began = changes.find(it => it.change === 'began');
+  const head = began?.unit === 0 ? ` ${actor} is the head${takesText(changes)}.` : '';
+  return `${actor} takes task ${task}, which begins at line ${began?.line}.${head}`;
+}
+
+function executedText(state, { actor, event, changes, lines }) {
+  const { line, index } = changes.find(it => it.change === 'executed');
+  const said = [...effectsOf(changes), ...waysOn(event)];
+  return `${actor} executes ${line ? lineText(lines, line) : `instruction ${index}`}${said.length ? `: it ${listed(said)}` : ''}.`;
+}
+
+function arrivedText(state, { actor, changes }) {
+  const { register, word } = changes.find(it => it.change === 'arrived');
+  return `${actor} takes ${registerName(register)} = ${word} from unit ${state.moved.from}.`;
+}
+
+function drainedText(state, { actor, changes }) {
+  const { register, word } = changes.find(it => it.change === 'drained');
+  return `${actor}, whose task has stopped, sends ${registerName(register)} = ${word}.`;
+}
+
+function lostText(state) {
+  return listed(state.left.map(it => `${it.task} (unit ${it.seat})`));
+}
+
+function retiredText(state, { actor, changes }) {
+  const retired = changes.find(it => it.change === 'retired');
+  const head = state.queue[0];
+  const next = head ? `Unit ${head.seat} is the head now${takesText(changes)}.` : `No unit is the head now: a task that begins at ${exitText(retired)} comes next.`;
+  return `${actor} retires ${retired.task}. ${next}`;
+}
+
+const SENTENCES = {
+  assign: beganText,
+  exec: executedText,
+  transfer: arrivedText,
+  drain: drainedText,
+  squash: (state, { actor }) => `${actor} squashes what comes after it: ${lostText(state)}.`,
+  drop: (state, { actor }) => `${actor} and all after it give up their tasks: ${lostText(state)}.`,
+  retire: retiredText,
+  fault: (state, { actor }) => `The run ends: ${actor.toLowerCase()} goes on to a place where none of its targets begins.`,
+};
+
+// Which number a refusal has, its name, and the register that it names.
+export function refusalName({ code, name, register }) {
+  return [code, name, ...register === undefined || register === null ? [] : [registerName(register)]].join(' ');
+}
+
+// What an event did, in a sentence or two. Units are called by their seat on the ring; `lines` are those of the program.
+export function eventSentence(state, lines) {
   const { event } = state;
   if (!event) return 'Before the first event: all units are free.';
-  if (event.answer === 'refused') {
-    const register = event.register === undefined ? '' : ` $${event.register}`;
-    return `refused ${event.code} ${event.name}${register}: ${refusalSentence(event.name)}`;
-  }
-  const lost = event.changes.filter(it => it.change === 'squashed').map(it => it.task);
-  const phrases = event.changes.filter(it => it.change !== 'squashed' && isShown(it, event)).map(it => PHRASES[it.change]?.(it) ?? it.change);
-  if (lost.length) phrases.push(`squashes what stands after it (${lost.join(', ')})`);
-  return `${actorOf(state, event)}: ${phrases.join('; ')}`;
-}
-
-// What an event of a script is in words, from its line alone: who acts, and the word of a task or a register.
-const SAYINGS = {
-  assign: (_, task) => `a free unit takes task ${task}`,
-  exec: who => `${who} executes`,
-  transfer: (who, register) => `${who} takes ${register} from the unit before it`,
-  drain: (who, register) => `${who} sends ${register}`,
-  squash: who => `${who} squashes what stands after it`,
-  drop: who => `${who} gives up, and all after it`,
-  retire: who => `${who} retires`,
-  fault: who => `${who} goes on to none of its targets, and the run ends`,
-};
-
-// The tasks of the units after an event, the head's first.
-const QUEUES = {
-  assign: (queue, _, task) => [...queue, task],
-  squash: (queue, position) => queue.slice(0, position + 1),
-  drop: (queue, position) => queue.slice(0, position),
-  retire: queue => queue.slice(1),
-};
-
-function whoAt(queue, position) {
-  return position === 0 ? `the head, ${queue[0]},` : `position ${position}, ${queue[position]},`;
-}
-
-// What the events of a script are in words, where each of them is allowed.
-export function scriptSentences(script) {
-  let queue = [];
-  return script.map(line => {
-    const [kind, ...words] = line.split(' ');
-    const position = kind === 'assign' ? queue.length : Number(words[0] ?? 0);
-    const said = SAYINGS[kind](whoAt(queue, position), withNames(words.at(-1) ?? ''));
-    queue = QUEUES[kind]?.(queue, position, words[0]) ?? queue;
-    return said;
-  });
+  if (event.answer === 'refused') return `Refused, and nothing changes: ${refusalSentence(event.name)} (${refusalName(event)}).`;
+  return SENTENCES[event.kind](state, { actor: `Unit ${state.actor}`, event, task: event.task, changes: event.changes, lines });
 }
 
 // What a squash means: who was wrong, and what is lost.
@@ -116,18 +150,17 @@ export function squashSentence(state) {
   if (!lost.length) return null;
   const stopped = state.queue.at(-1);
   const wasted = lost.reduce((sum, unit) => sum + unit.executed, 0);
-  const guess = `${lost[0].task} was guessed as the task after ${stopped.task}, but ${stopped.task} goes on to ${exitText(stopped.exit)}`;
-  const many = lost.length === 1 ? 'The unit loses its task' : `All ${lost.length} units from there on lose their tasks`;
   const vain = wasted === 1 ? '1 instruction was' : `${wasted} instructions were`;
-  return `Squash. ${guess}. ${many}, and ${vain} executed in vain. Nothing of it has reached the output or memory.`;
+  const reached = wasted ? '; nothing of that has reached the output or memory' : '';
+  return `${lost[0].task} was guessed as the task after ${stopped.task}, but ${exitText(stopped.exit)} comes. ${vain} executed in vain${reached}.`;
 }
 
 // How a run ended, from its last line.
 export function endSentence(end) {
   switch (end?.end) {
-    case 'halted': return 'halted';
-    case 'trapped': return `trapped: ${end.name}`;
-    case 'unlisted': return `ended as unlisted at ${hexadecimal(end.address)}: no target of the head's task is there`;
+    case 'halted': return 'has halted';
+    case 'trapped': return `has trapped: ${end.name}`;
+    case 'unlisted': return `has ended as unlisted at ${hexadecimal(end.address)}: no target of the head's task is there`;
     default: return 'goes on';
   }
 }

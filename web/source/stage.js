@@ -3,12 +3,11 @@
 import { find, make, plural, put } from './elements.js';
 import { answerTo, endAfter, reasonOf, registerName } from './asking.js';
 import { makeCards } from './cards.js';
-import { drawLanes, offsetOf } from './lanes.js';
-import { drawRing } from './ring.js';
+import { Lanes } from './lanes.js';
+import { drawRing, isMany, leftOut } from './ring.js';
 import { eventSentence, hexadecimal, squashSentence } from './sentences.js';
 import { waitsTable } from './waits.js';
 
-const PLAY_EVERY = 700;
 
 function memoryText(words) {
   if (!words.length) return 'as at the start';
@@ -23,6 +22,7 @@ export class Stage {
     this.pointed = pointed;
     this.playing = null;
     this.run = null;
+    this.lanes = new Lanes(event => this.go(event));
     find('slider').addEventListener('input', event => this.go(Number(event.target.value)));
     const buttons = {
       'to-start': () => 0,
@@ -34,6 +34,7 @@ export class Stage {
     };
     for (const [id, target] of Object.entries(buttons)) find(id).addEventListener('click', () => this.go(target()));
     find('play').addEventListener('click', () => this.togglePlay());
+    find('speed').addEventListener('change', () => this.playing && this.play());
   }
 
   get last() {
@@ -67,13 +68,6 @@ export class Stage {
     this.moved(null);
   }
 
-  // Takes the steps of the events, which come later than the run.
-  takeSteps(steps) {
-    this.run.steps = steps;
-    this.showEvents();
-    this.go(this.position);
-  }
-
   columnOf(event) {
     return this.run.steps ? this.run.steps[event] : event;
   }
@@ -86,12 +80,19 @@ export class Stage {
     const isOver = this.state.standing !== 'running';
     const reasons = this.state.queue.map((unit, at) => reasonOf(ask, unit, at, isOver));
     this.showWhere();
-    put(find('ring'), drawRing(this.state, reasons, this.run.tasks));
+    this.showRing(reasons);
     put(find('cards'), makeCards(this.state, this.run.tasks, this.lines, reasons));
     this.showFacts(script);
     this.showLanes();
     this.markEvent();
     this.moved(this.state, ask);
+  }
+
+  showRing(reasons) {
+    const isLecture = document.body.classList.contains('is-lecture');
+    put(find('ring'), drawRing(this.state, reasons, this.run.tasks, isLecture));
+    find('ring-row').classList.toggle('is-many', isMany(this.run.units));
+    find('ring-left-out').textContent = leftOut(this.state, reasons, this.run.tasks, isLecture);
   }
 
   showWhere() {
@@ -106,24 +107,29 @@ export class Stage {
   }
 
   showFacts(script) {
-    find('event-sentence').textContent = eventSentence(this.state);
+    find('event-sentence').textContent = eventSentence(this.state, this.lines);
     const squash = squashSentence(this.state);
     find('squash').hidden = squash === null;
     find('squash').textContent = squash ?? '';
     const after = endAfter(this.jobs, this.run.program, this.run.units, script);
     find('output').textContent = this.state.output.length ? this.state.output.join(' ') : 'nothing yet';
     find('memory').textContent = memoryText(after.memory ?? []);
-    find('registers').textContent = (after.registers ?? []).map(it => `${registerName(it.register)} = ${it.word}`).join('  ') || 'all 0';
+    this.showRegisters(after.registers ?? []);
     find('standing').textContent = this.position === this.last ? this.run.ending : 'goes on';
   }
 
+  // The registers of the head; where no unit is the head, those that the tasks left which have retired.
+  showRegisters(ofHead) {
+    const hasHead = this.state.queue.length > 0;
+    const committed = Object.entries(this.state.committed).map(([register, word]) => ({ register: Number(register), word }));
+    const shown = hasHead ? ofHead : committed.filter(it => it.word !== 0);
+    find('registers-title').textContent = hasHead ? 'Registers of the head' : 'Registers (no unit is the head: as committed)';
+    find('registers').textContent = shown.map(it => `${registerName(it.register)} = ${it.word}`).join('  ') || 'all 0';
+  }
+
   showLanes() {
-    const columnOf = event => this.columnOf(event);
     find('lanes-title').textContent = this.run.steps ? 'Lanes: one column for each step' : 'Lanes: one column for each event';
-    put(find('lanes'), drawLanes(this.run.history, columnOf, this.position, event => this.go(event)));
-    const offset = offsetOf(this.run.history, columnOf, this.position);
-    const place = find('lanes');
-    if (offset < place.scrollLeft + 60 || offset > place.scrollLeft + place.clientWidth - 60) place.scrollLeft = offset - place.clientWidth / 2;
+    this.lanes.show(this.run.history, event => this.columnOf(event), this.position, this.state.actor);
   }
 
   // The waits of a run in steps; a schedule by hand has none.
@@ -144,7 +150,7 @@ export class Stage {
     const step = this.run.steps ? make('span', { class: 'event-step' }, `step ${this.columnOf(number)}`) : null;
     return make('li', {}, make('button', { class: kinds, 'data-key': `event-${number}`, onclick: () => this.go(number) },
       make('span', { class: 'event-number' }, String(number)), step,
-      make('code', {}, this.run.script[number - 1]), make('span', {}, eventSentence(state))));
+      make('code', {}, this.run.script[number - 1]), make('span', {}, eventSentence(state, this.lines))));
   }
 
   markEvent() {
@@ -170,10 +176,16 @@ export class Stage {
   togglePlay() {
     if (this.playing) return this.stop();
     if (this.position === this.last) this.go(0);
+    this.play();
+  }
+
+  // Goes on event by event, so that each is told.
+  play() {
+    clearInterval(this.playing);
     this.playing = setInterval(() => {
-      this.go(this.run.steps ? this.stepFrom(1) : this.position + 1);
+      this.go(this.position + 1);
       if (this.position === this.last) this.stop();
-    }, PLAY_EVERY);
+    }, Number(find('speed').value));
     find('play').textContent = 'Pause';
   }
 
@@ -183,7 +195,7 @@ export class Stage {
     find('play').textContent = 'Play';
   }
 
-  // Keys that move, where no control takes them itself.
+  // The arrows.
   key(event) {
     const steps = event.shiftKey ? direction => this.stepFrom(direction) : direction => this.position + direction;
     const targets = { ArrowRight: () => steps(1), ArrowLeft: () => steps(-1) };
@@ -191,6 +203,13 @@ export class Stage {
     event.preventDefault();
     this.go(targets[event.key]());
   }
+}
+
+// The line that an event is about: the one that was executed, or else where the unit stands that acted.
+export function lineOfEvent(state) {
+  if (!state?.event) return null;
+  const executed = state.event.changes.find(it => it.change === 'executed');
+  return executed?.line ?? state.queue.find(it => it.seat === state.actor)?.line ?? null;
 }
 
 // The lines at which units are, each with the seats there, and the seat of the head.

@@ -1,4 +1,4 @@
-// The views of the machine as tabs.
+// The views of the machine as tabs. The arrows step through the events, so each tab is reached by Tab.
 
 import { find } from './elements.js';
 
@@ -11,7 +11,6 @@ export class Tabs {
         this.choose(view);
         changed();
       });
-      find(`tab-${view}`).addEventListener('keydown', event => this.key(event, changed));
     }
   }
 
@@ -20,18 +19,7 @@ export class Tabs {
     for (const view of this.views) {
       const isChosen = view === this.view;
       find(`tab-${view}`).setAttribute('aria-selected', String(isChosen));
-      find(`tab-${view}`).tabIndex = isChosen ? 0 : -1;
       find(`panel-${view}`).hidden = !isChosen;
     }
-  }
-
-  key(event, changed) {
-    const moves = { ArrowRight: 1, ArrowLeft: -1 };
-    if (!moves[event.key]) return;
-    event.preventDefault();
-    const at = (this.views.indexOf(this.view) + moves[event.key] + this.views.length) % this.views.length;
-    this.choose(this.views[at]);
-    find(`tab-${this.view}`).focus();
-    changed();
   }
 }
