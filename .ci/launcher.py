@@ -315,8 +315,8 @@ def try_install(folder):
     release = folder / "release"
     copied(release, "release/install.sh")
     shutil.move(release / "release/install.sh", release / "install.sh")
-    for it in ("multiscalar man/multiscalar.1 completions/multiscalar.bash completions/_multiscalar completions/multiscalar.fish include/multiscalar.h "
-               "lib/libmultiscalar.a lib/libmultiscalar.so.0 lib/multiscalar.pc syntax/a compiler/a python/a README.md CHANGELOG.md LICENSE-APACHE "
+    for it in ("multiscalar man/multiscalar.1 man/c2ms.1 completions/multiscalar.bash completions/_multiscalar completions/multiscalar.fish include/multiscalar.h "
+               "lib/libmultiscalar.a lib/libmultiscalar.so.0 lib/multiscalar.pc syntax/a compiler/c2ms.py python/a README.md CHANGELOG.md LICENSE-APACHE "
                "LICENSE-MIT MANIFEST docs/a examples/a").split():
         make(release / it, it)
     (folder / "elsewhere/release").mkdir(parents=True)
@@ -325,6 +325,9 @@ def try_install(folder):
         done = subprocess.run([shell, "release/install.sh", "to"], cwd=folder, env={**os.environ, "CDPATH": f"{folder}/elsewhere:{folder}"}, capture_output=True, text=True)
         expect(done.returncode == 0 and (folder / "to/bin/multiscalar").is_file() and not done.stderr, shell, done)
         expect(done.stdout.count("\n") == 1 and not list((folder / "elsewhere/to").iterdir()), shell, done.stdout)
+        command = folder / "to/bin/c2ms"
+        expect(os.readlink(command) == "../share/multiscalar/compiler/c2ms.py" and command.read_text() == "compiler/c2ms.py", "c2ms on PATH")
+        expect((folder / "to/share/man/man1/c2ms.1").is_file(), "the page of c2ms")
         shutil.rmtree(folder / "to")
 
 
@@ -415,6 +418,59 @@ def try_refusals(folder):
     shutil.copy(folder / "a.s", folder / "-x.c")
     status, _, said = compiler.call("--", "-x.c")
     expect(status == 1 and said == "./-x.c: wrong\n", status, said)
+
+
+def try_places_of_refusals(folder):
+    """What is refused is named at its own place, and nothing else is."""
+    compiler = Compiler(folder)
+    make(folder / "gcc", "#!/bin/bash\n[ \"$1\" != --version ] || echo 'gcc (kit) 12.2.0'\n")  # it makes nothing of the run-time files
+    texts = {
+        "nomain.s": ("\t.text\n\t.globl f\nf:\tjr $31\n", ["nomain.s: refused: main is called or named, and defined nowhere: a program begins there"]),
+        "slot.s": ("\t.set noreorder\n\t.globl main\nmain:\tbeq $2,$3,main\n\tsync\n\tjr $31\n\tnop\n", ["slot.s:4: refused: sync orders memory between processors"]),
+        "atomic.s": ("\t.globl main\nmain:\tll $2,0($3)\n\tjr $31\n", ["atomic.s:2: refused: ll is part of an atomic operation"]),
+        "pic.s": ("\t.globl main\nmain:\t.cpload $25\n\tlw $25,%call16(f)($4)\n\tjr $31\n", ["pic.s:2: refused: position-independent code", "pic.s:3: refused: position-independent code"]),
+    }
+    for name, (text, wanted) in texts.items():
+        make(folder / name, text, 0o644)
+        status, _, said = compiler.call(name)
+        lines = said.split("\n")[:-1]
+        expect(status == 1 and len(lines) == len(wanted) and all(a.startswith(b) for a, b in zip(lines, wanted)), name, said)
+    status, _, said = compiler.call("pic.s")
+    expect("compile with -fno-pic -mno-abicalls" in said, said)
+
+
+def try_results(folder):
+    """The status of --run is what main returns, modulo 256, where the program halts, and else that of the run."""
+    compiler = Compiler(folder)
+    for status_of_run, word, wanted, line in ((0, 0, 0, "exit 0"), (0, 3, 3, "exit 3"), (0, 4294967291, 251, "exit -5"), (0, 263, 7, "exit 263"),
+                                              (3, 3, 3, "the status 3 is that of multiscalar run"), (1, 9, 1, "the status 1 is that of multiscalar run")):
+        seq = f'seq) grep -q "^ *out  *.2$" "${{@: -1}}" && echo {word}; echo "halted after 9 instructions" ;; run) echo 5; exit {status_of_run} ;;'
+        make(folder / "program", PROGRAM.replace("run) echo 5 ;;", seq))
+        status, out, said = compiler.call("a.s", "--run")
+        expect((status, out, said) == (wanted, "5\n", f"c2ms: {line}\n"), word, status, out, said)
+
+
+def try_options_of_the_compiler(folder):
+    """Words that are for the compiler alone reach it, and no others do."""
+    compiler = Compiler(folder)
+    make(folder / "gcc", GCC.replace("printf", "printf '%s\\n' \"$@\" > words; printf"))
+    shutil.copy(folder / "a.s", folder / "a.c")
+    own = ["-g3", "-Wall", "-Wno-unused", "-std=c99", "-march=mips32", "-UNDEBUG", "-pedantic", "-w"]
+    compiler.call("a.c", *own, "-O3", "-funroll-loops", "-DA=1", "-o", "to.s", "--units", "8")
+    words = (folder / "words").read_text().split("\n")
+    at = [words.index(it) for it in [*own, "-O3", "-funroll-loops", "-DA=1", "./a.c" if "./a.c" in words else "a.c"]]
+    expect(at[:8] == sorted(at[:8]) and words.index("-march=mips1") < words.index("-march=mips32"), words)
+    expect(not {"--units", "8", "to.s"} & set(words), words)
+
+
+def try_places_in_the_text(folder):
+    """Each instruction of a line of C says so at the end of its line."""
+    compiler = Compiler(folder)
+    make(folder / "a.s", '\t.file 1 "one.c"\n\t.globl main\nmain:\n\t.loc 1 12 5\n\tli $2,70000\n\t.loc 1 0 0\n\tjr $31\n', 0o644)
+    _, out, _ = compiler.call("a.s")
+    wanted = ["lui   $2,1", "ori   $2,$2,4464", "jr    $31  !s"]
+    lines = [it for it in out.split("\n") if it.startswith("        ")][-3:]
+    expect([it.split("#")[0].strip() for it in lines] == wanted and all(it.endswith("# at one.c:12") for it in lines), out)
 
 
 # 5. c2ms.py -o

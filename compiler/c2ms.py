@@ -14,20 +14,26 @@ import argparse
 import contextlib
 import errno
 import os
+import re
 import signal
 import stat
 import subprocess
 import sys
 from pathlib import Path
 
-from choice import Choice, Settings, best_of, chosen
+from choice import SHAPES, Choice, Settings, result_of
 from compiling import CompilerFailed, Compiling, program_of
 from names import fault_of, shown, shown_lines
 from refusal import Refused
 from tasks import POLICIES
 from releases import MODES
+from search import chosen
 from tool import Tool, ToolFailed
 from whole_file import NotPut, bits_for, put
+
+
+# Options that the compiler gets as they are.
+FOR_COMPILER = re.compile("-(g.*|W.+|std=.+|m.+|U.+|ansi|pedantic(-errors)?|w)", re.S)
 
 
 class OutputFailed(Exception):
@@ -49,23 +55,42 @@ def arguments() -> argparse.Namespace:
     add = parser.add_argument
     add("files", nargs="+", help="C (.c), assembler text with preprocessor (.S) or without (.s)")
     add("-o", dest="output", metavar="TEXT", help="where the program text goes, whole or not at all; without -o and --run, or as -, to standard output")
-    add("-O", dest="level", choices=["0", "1", "2", "s"], default="1", help="GCC's optimization (1)")
+    add("-O", dest="level", choices=["0", "1", "2", "3", "s", "g"], default="1", help="the compiler's optimization (1)")
     add("-I", dest="folders", metavar="FOLDER", action="append", default=[], help="where headers are")
     add("-D", dest="macros", metavar="NAME[=VALUE]", action="append", default=[], help="defines a macro")
-    add("-f", dest="flags", metavar="FLAG", action="append", default=[], help="another flag -fFLAG for GCC")
+    add("-f", dest="flags", metavar="FLAG", action="append", default=[], help="another flag -fFLAG for the compiler")
+    others = "also for the compiler: -g.., -W.., -std=.., -m.., -U.., -ansi, -pedantic, -w"
+    add("--for-compiler", dest="others", metavar="OPTION", action="append", default=[], help=others)
     add("--tasks", choices=[*POLICIES, "auto"], default="auto", help="where tasks begin (auto)")
     leaves = "whether functions that call nothing are tasks of their own or part of those that call them (auto)"
     add("--leaves", choices=["own", "joined", "auto"], default="auto", help=leaves)
     add("--release", choices=[*MODES, "auto"], default="auto", help="where release instructions are put (auto)")
+    add("--code", choices=[*SHAPES, "auto"], default="auto", help="whether instructions change places and functions are copied where they are called (auto)")
+    add("--search", type=seconds, default=2.0, metavar="SECONDS", help="about how long auto looks for a better cut than rules give (2)")
+    add("--seed", type=int, default=1, metavar="N", help="what that search begins its choices with (1)")
     add("--plain", action="store_true", help="only create masks, forward bits and stops; targets in the order of the code")
-    add("--units", type=int, default=4, metavar="N", help="how many units auto and --run have, 1 to 16 (4)")
+    add("--units", type=int, default=4, metavar="N", help="for how many units the cut is chosen, and how many --run has, 1 to 16 (4)")
     add("--run", action="store_true", help="checks the text and runs it")
     add("--stack", type=int, default=1024, metavar="BYTES", help="what the stack has to have at least (1024)")
     add("--gcc", default="mipsel-linux-gnu-gcc", metavar="COMMAND", help="the compiler (mipsel-linux-gnu-gcc)")
     command = "the command multiscalar; else $MULTISCALAR, else the one built in these sources, else that on PATH"
     add("--multiscalar", metavar="COMMAND", help=command)
     add("--quiet", action="store_true", help="says nothing of what was chosen")
-    return parser.parse_args()
+    return parser.parse_args(with_options_named(sys.argv[1:]))
+
+
+def seconds(word: str) -> float:
+    """A number of seconds from 0 to an hour."""
+    number = float(word)
+    if not 0 <= number <= 3600:
+        raise ValueError
+    return number
+
+
+def with_options_named(words: list[str]) -> list[str]:
+    """The words, with those that are for the compiler alone as values of --for-compiler."""
+    end = words.index("--") if "--" in words else len(words)
+    return [f"--for-compiler={it}" if FOR_COMPILER.fullmatch(it) else it for it in words[:end]] + words[end:]
 
 
 def say(text: str) -> None:
@@ -96,7 +121,7 @@ def keep_numbers_of_streams() -> None:
 
 
 def settings_of(words: argparse.Namespace) -> Settings:
-    return Settings(words.tasks, words.leaves, words.release, words.units, words.plain)
+    return Settings(words.tasks, words.leaves, words.release, words.code, words.units, words.plain, words.search, words.seed)
 
 
 def look_for(files: list[str]) -> None:
@@ -120,24 +145,34 @@ def translate(words: argparse.Namespace) -> int:
     if words.output not in (None, "-"):
         bits_for(words.output)
     tool = Tool(words.multiscalar)
-    compiling = Compiling(words.gcc, words.level, words.folders, words.macros, words.flags)
+    compiling = Compiling(words.gcc, words.level, words.folders, words.macros, words.flags, words.others)
     program = program_of(words.files, compiling, words.stack)
     names = " ".join(shown(Path(it).name) for it in words.files)
-    choices = chosen(program, settings_of(words), tool, [f"Made by c2ms.py from {names}, {compiling.version()} -O{words.level}."])
-    best = best_of(choices)
+    found = chosen(program, settings_of(words), tool, [f"Made by c2ms.py from {names}, {compiling.version()} -O{words.level}."])
+    best = found.best
     put_out(words, best)
     if not words.quiet:
         say(best.summary())
-        if len(choices) > 1:
-            say("measured: " + "; ".join(it.short() for it in choices))
+        if best.last:
+            say(found.speed_up_text())
+            by_rules = [it for it in found.choices if it.way.begins is None]
+            say(f"measured: {'; '.join(it.short() for it in by_rules)}; and {len(found.choices) - len(by_rules)} cuts that were searched")
     return run(words, tool, best) if words.run else 0
 
 
 def run(words: argparse.Namespace, tool: Tool, choice: Choice) -> int:
+    """The status is what main returns, or what exit is given, modulo 256; that of `run` where the program did not halt."""
     done = tool.on(choice.text, "run", "--least", "--units", str(words.units))
     write_out(done.stdout)
     sys.stderr.write(done.stderr)
-    return done.returncode
+    if done.returncode:
+        say(f"the status {done.returncode} is that of multiscalar run")
+        return done.returncode
+    result = result_of(choice, tool)
+    if result is None:
+        return 0
+    say(f"exit {result}")
+    return result & 255
 
 
 def reasons_of(refused: Refused, files: list[str]) -> str:

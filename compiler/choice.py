@@ -1,14 +1,22 @@
-"""Makes annotated texts of a program, by one policy or several, and takes the one with the fewest steps."""
+"""Makes annotated texts of a program in several ways, and takes the one with the fewest steps."""
 
-from dataclasses import dataclass, field
+from collections import Counter
+from dataclasses import dataclass, field, replace
 
+from block_order import with_blocks_in_order
+from copies import with_copies
 from flow import Flow
+from induction import with_inductions_first
+from instructions import Instruction
 from linking import MOST_INSTRUCTIONS, Program
 from refusal import Place, Refused, refuse
 from releases import MODES, with_releases
-from tasks import MOST_TASKS, POLICIES, Cut, cut, spread, wide_jumps
+from tasks import MOST_TASKS, POLICIES, Cut, cut, label_at, spread, wide_jumps
 from tool import Steps, Tool, ToolFailed
 from writer import Writer, aligned
+
+# What is done to the code before it is cut: nothing, the order changed, functions copied, both.
+SHAPES = ("kept", "moved", "copied", "copied and moved")
 
 
 @dataclass(frozen=True)
@@ -18,21 +26,28 @@ class Settings:
     tasks: str = "auto"
     leaves: str = "auto"
     release: str = "auto"
+    code: str = "auto"
     units: int = 4
     plain: bool = False
+    # How long the search may take, about, and what its choices begin with.
+    seconds: float = 2.0
+    seed: int = 1
 
 
 @dataclass(frozen=True)
 class Way:
-    """One way to cut a program and to mark it."""
+    """One way to cut a program and to mark it. A cut that was searched begins tasks at these instructions."""
 
     policy: str
     leaves: str
     release: str
+    code: str = "kept"
+    begins: frozenset[int] | None = None
 
     def __str__(self) -> str:
         leaves = ", leaves joined" if self.leaves == "joined" else ""
-        return f"{self.policy}{leaves}, release {self.release}"
+        code = f", code {self.code}" if self.code != "kept" else ""
+        return f"{self.policy}{leaves}, release {self.release}{code}"
 
 
 @dataclass
@@ -40,17 +55,19 @@ class Choice:
     way: Way
     text: str
     tasks: int
-    instructions: int
-    curve: list[Steps] = field(default_factory=list)
+    program: Program
+    # Its steps on the units that were asked for, and on one; None where it was not measured.
+    last: Steps | None = None
+    on_one: Steps | None = None
 
     @property
-    def last(self) -> Steps | None:
-        return self.curve[-1] if self.curve else None
+    def instructions(self) -> int:
+        return len(self.program.code)
 
     def steps(self) -> str:
         if not self.last:
             return "not measured"
-        if self.last.end == "out of budget":
+        if not self.last.ended:
             return f"out of budget, {self.last.retired / self.last.steps:.2f} per step"
         return f"{self.last.steps} steps"
 
@@ -58,21 +75,90 @@ class Choice:
         return f"{self.way}: {self.steps()}"
 
     def summary(self) -> str:
-        on = f", {self.steps()} on {self.last.units} units (1 unit: {self.curve[0].steps})" if self.last else ""
+        on = f", {self.steps()} on {units_text(self.last.units)}" if self.last else ""
         return f"{self.instructions} instructions, {self.tasks} tasks ({self.way}){on}"
+
+
+def units_text(units: int) -> str:
+    return "1 unit" if units == 1 else f"{units} units"
+
+
+@dataclass
+class Chosen:
+    """What was made: all that was measured on the units asked for, and the best cut on one unit, which they have to beat."""
+
+    choices: list[Choice] = field(default_factory=list)
+    rival: Choice | None = None
+
+    @property
+    def best(self) -> Choice:
+        return min(self.choices, key=lambda it: it.last.key if it.last else (0, 0))
+
+    def speed_up(self) -> float | None:
+        """How many times as fast the best is as the best cut on one unit."""
+        best = self.best
+        if not (self.rival and best.last and best.last.ended and self.rival.on_one.ended):
+            return None
+        return self.rival.on_one.steps / best.last.steps
+
+    def speed_up_text(self) -> str:
+        against, best = self.speed_up(), self.best
+        if against is None:
+            return "the run does not end within the budget, so there is no speed-up to tell"
+        itself = best.on_one.steps / best.last.steps
+        of_rival = f"{against:.2f} times as fast as the best cut on one unit ({self.rival.on_one.steps} steps: {self.rival.way})"
+        return f"{of_rival}; {itself:.2f} times as its own run there ({best.on_one.steps})"
+
+
+class Shape:
+    """A program whose code was changed in one way, with what its run in order tells of it."""
+
+    def __init__(self, program: Program, code: str, tool: Tool) -> None:
+        self.code = code
+        self.program = program.copied()
+        if "copied" in code:
+            with_copies(self.program)
+        if "moved" in code:
+            with_inductions_first(self.program)
+            with_blocks_in_order(self.program)
+        self.tool = tool
+        # The labels of basic blocks, as often as the program came there.
+        self.trace: list[str] | None = None
+
+    def followed(self, made: Cut) -> Counter:
+        """How often each task followed each, by where they begin in the code that is cut."""
+        index_of = made.flow.index_of
+        entries = {task.entry for task in made.tasks}
+        begun = [place for place in (index_of.get(label, -1) for label in self.trace) if place in entries]
+        return Counter(zip(begun, begun[1:]))
+
+    def run_in_order(self) -> list[str]:
+        """What the run on one unit tells. Each place gets a label, so that it is known again between releases."""
+        program = self.program.copied()
+        made = divided(program, Way("blocks", "own", "none"))
+        for task in made.tasks:
+            label = label_at(program, task.entry)
+            if task.entry < len(self.program.code) and not self.program.code[task.entry].labels:
+                self.program.code[task.entry].labels.append(label)
+        writer = Writer(program, made, [])
+        label_of = {name: program.code[index].labels[0] for index, name in writer.names.of_index.items() if program.code[index].labels}
+        return [label_of[it] for it in self.tool.tasks_in_order(marked(writer, self.tool))]
 
 
 def divided(program: Program, way: Way) -> Cut:
     """Cuts a program; jumps with too many places become trees, and releases are put in."""
+    for index in way.begins or ():
+        program.code[index].begins_task = True
+    policy = "calls" if way.begins is not None else way.policy
     while True:
-        made = cut(Flow(program), way.policy, way.leaves == "joined")
+        made = cut(Flow(program), policy, way.leaves == "joined")
         wide = wide_jumps(made)
         if not wide:
             break
         spread(program, made.flow, wide)
     if way.release != "none":
         program.code = with_releases(made, way.release)
-        made = cut(Flow(program), way.policy, way.leaves == "joined")
+        made = cut(Flow(program), policy, way.leaves == "joined")
     if len(made.tasks) > MOST_TASKS:
         raise refuse(Place(), f"the policy {way.policy} makes {len(made.tasks)} tasks; there are at most {MOST_TASKS}")
     if len(program.code) > MOST_INSTRUCTIONS:
@@ -81,19 +167,24 @@ def divided(program: Program, way: Way) -> Cut:
     return made
 
 
-def written(program: Program, way: Way, tool: Tool, head: list[str], is_plain: bool) -> Choice:
-    """An accepted text, made in one way. The run on one unit says which target follows most often."""
-    program = program.copied()
+def written(shape: Shape, way: Way, tool: Tool, head: list[str], is_plain: bool) -> Choice:
+    """A text made in one way. The run on one unit says which target follows most often."""
+    if not is_plain and shape.trace is None:
+        shape.trace = shape.run_in_order()
+    program = shape.program.copied()
     made = divided(program, way)
     about = [*head, f"Tasks: {way}. This translation is not proved; `multiscalar check` judges its marks."]
     writer = Writer(program, made, about)
-    text = marked(writer, tool)
     if not is_plain:
-        text = writer.in_order(text, tool.followers(text))
-    is_right, said = tool.verdict(text)
+        writer.followed = shape.followed(made)
+    return Choice(way, marked(writer, tool), len(made.tasks), program)
+
+
+def judge(choice: Choice, tool: Tool) -> Choice:
+    is_right, said = tool.verdict(choice.text)
     if not is_right:
-        raise ToolFailed(f"the text that was made ({way}) is not accepted, which is a fault of c2ms.py:\n{said[:1000]}")
-    return Choice(way, text, len(made.tasks), len(program.code))
+        raise ToolFailed(f"the text that was made ({choice.way}) is not accepted, which is a fault of c2ms.py:\n{said[:1000]}")
+    return choice
 
 
 def marked(writer: Writer, tool: Tool) -> str:
@@ -110,37 +201,20 @@ def marked(writer: Writer, tool: Tool) -> str:
     return aligned(done)
 
 
-def chosen(program: Program, settings: Settings, tool: Tool, head: list[str]) -> list[Choice]:
-    """The texts that were made. First the policies are compared, then, with the best of them, where releases go."""
-    policies = POLICIES if settings.tasks == "auto" else (settings.tasks,)
-    leaves = (settings.leaves,) if settings.leaves != "auto" else ("own",) if settings.plain else ("own", "joined")
-    first = ("none" if settings.plain else "early") if settings.release == "auto" else settings.release
-    ways = [Way(policy, leaf, first) for policy in policies for leaf in leaves]
-    measured = len(ways) > 1 or settings.release == "auto" and not settings.plain
-    choices = made_in(ways, program, settings, tool, head, measured)
-    if settings.release == "auto" and not settings.plain:
-        best = best_of(choices).way
-        more = [Way(best.policy, best.leaves, mode) for mode in MODES if mode != first]
-        choices += made_in(more, program, settings, tool, head, True)
-    return choices
+# What the program returns
 
 
-def made_in(ways: list[Way], program: Program, settings: Settings, tool: Tool, head: list[str], measured: bool) -> list[Choice]:
-    choices: list[Choice] = []
-    refusals: list[Refused] = []
-    for way in ways:
-        try:
-            choice = written(program, way, tool, head, settings.plain)
-        except Refused as refused:
-            refusals.append(refused)
-            continue
-        if measured:
-            choice.curve = tool.curve(choice.text, settings.units)
-        choices.append(choice)
-    if not choices:
-        raise refusals[0]
-    return choices
+def with_result(it: Instruction) -> list[Instruction]:
+    """Before each halt stands an instruction that puts out $2: what main returned, or what exit was given."""
+    if it.form != "halt":
+        return [it]
+    last = Instruction("out", (2,), None, it.place, labels=it.labels, begins_task=it.begins_task)
+    return [last, replace(it, labels=[], begins_task=False)]
 
 
-def best_of(choices: list[Choice]) -> Choice:
-    return min(choices, key=lambda it: it.last.key if it.last else (0, 0))
+def result_of(choice: Choice, tool: Tool) -> int | None:
+    """The result of main, or of exit, if the program halts: of a text like this one whose last word it is."""
+    program = choice.program.copied()
+    program.code = [made for it in program.code for made in with_result(it)]
+    word = tool.last_word(Writer(program, cut(Flow(program), "calls", False), []).text())
+    return word if word is None or word < 0x80000000 else word - 0x100000000

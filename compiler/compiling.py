@@ -1,11 +1,11 @@
-"""From files to a program: GCC, the reader, the run-time files, and the limits."""
+"""From files to a program: the compiler, the reader, the run-time files, and the limits."""
 
 import functools
 import pickle
 import re
 import subprocess
 import sys
-from dataclasses import dataclass
+from dataclasses import dataclass, replace
 from pathlib import Path
 
 from flow import without_unreached
@@ -17,29 +17,41 @@ from tool import ToolFailed
 
 HERE = Path(__file__).resolve().parent
 RUN_TIME = HERE / "runtime"
-# Code without delay slots, position independence, floating-point registers, and without a C library.
-FLAGS = """-S -g1 -march=mips1 -mabi=32 -mno-abicalls -fno-pic -fno-pie -fno-delayed-branch -msoft-float -G0 -ffreestanding
+# Code without position independence, floating-point registers, and without a C library; but main is that of a program.
+FLAGS = """-S -g1 -mabi=32 -mno-abicalls -fno-pic -fno-pie -msoft-float -G0 -fhosted -fno-builtin
 -mno-check-zero-division -fno-stack-protector -fno-asynchronous-unwind-tables -fno-unwind-tables""".split()
+FLAGS += ["-include", str(HERE / "include" / "freestanding.h")]
+# GCC leaves delay slots empty where it is asked to. Clang has no MIPS I, and would read what asm has.
+OF_GCC = ["-march=mips1", "-fno-delayed-branch"]
+OF_CLANG = ["--target=mipsel-linux-gnu", "-march=mips2", "-fno-integrated-as"]
 
 
 class CompilerFailed(Exception):
-    """GCC refused a file; the text is what it said."""
+    """The compiler refused a file; the text is what it said."""
 
 
 @dataclass(frozen=True)
 class Compiling:
-    """How GCC is called."""
+    """How the compiler is called."""
 
     gcc: str = "mipsel-linux-gnu-gcc"
     level: str = "1"
     folders: tuple[str, ...] | list[str] = ()
     macros: tuple[str, ...] | list[str] = ()
     flags: tuple[str, ...] | list[str] = ()
+    # Options that it gets as they are.
+    others: tuple[str, ...] | list[str] = ()
     shows_warnings: bool = True
 
     def version(self) -> str:
-        first = self.call(["--version"]).split("\n", 1)[0]
-        return f"{Path(self.gcc).name} {first.rsplit(' ', 1)[-1]}"
+        return f"{Path(self.gcc).name} {version_line(self.gcc).rsplit(' ', 1)[-1]}"
+
+    @property
+    def is_clang(self) -> bool:
+        return "clang" in version_line(self.gcc)
+
+    def own_flags(self) -> list[str]:
+        return OF_CLANG if self.is_clang else OF_GCC
 
     def call(self, words: list[str]) -> str:
         try:
@@ -60,8 +72,15 @@ class Compiling:
         if file.endswith(".s"):
             return Path(file).read_text(errors="surrogateescape")
         if file.endswith(".S"):
-            return self.call(["-E", "-x", "assembler-with-cpp", *self.preprocessor_words(), as_word(file)])
-        return self.call([*FLAGS, f"-O{self.level}", *(f"-f{it}" for it in self.flags), *self.preprocessor_words(), "-o", "-", as_word(file)])
+            target = [it for it in self.own_flags() if it.startswith("--target")]
+            return self.call([*target, "-E", "-x", "assembler-with-cpp", *self.preprocessor_words(), as_word(file)])
+        chosen = [f"-O{self.level}", *(f"-f{it}" for it in self.flags), *self.others]
+        return self.call([*self.own_flags(), *FLAGS, *chosen, *self.preprocessor_words(), "-o", "-", as_word(file)])
+
+
+@functools.cache
+def version_line(gcc: str) -> str:
+    return Compiling(gcc).call(["--version"]).split("\n", 1)[0]
 
 
 def as_word(file: str) -> str:
@@ -72,7 +91,10 @@ def as_word(file: str) -> str:
 @functools.cache
 def run_time_unit(gcc: str, name: str, number: int) -> bytes:
     """A run-time file as it was read, for pickle: each program changes its own copy."""
-    compiling = Compiling(gcc, "2", flags=("no-tree-loop-distribute-patterns",), shows_warnings=False)
+    compiling = Compiling(gcc, "2", shows_warnings=False)
+    if not compiling.is_clang:
+        # What copies bytes must not become a call of itself.
+        compiling = replace(compiling, flags=("no-tree-loop-distribute-patterns",))
     return pickle.dumps(read_unit(compiling.assembly(str(RUN_TIME / name)), name, number, is_run_time=True))
 
 

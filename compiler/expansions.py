@@ -6,7 +6,7 @@ The registers $1 (the assembler's own), $26 and $27 (kept from compilers) hold w
 from dataclasses import dataclass
 from typing import Callable
 
-from instructions import ASSEMBLER, FIRST_KEPT, FORM_OF, GLOBAL_POINTER, LINK, SECOND_KEPT, Expression, Instruction
+from instructions import ASSEMBLER, FIRST_KEPT, FORM_OF, GLOBAL_POINTER, LINK, SECOND_KEPT, STACK_POINTER, Expression, Instruction
 from refusal import Place, Refused, refuse
 
 
@@ -42,7 +42,9 @@ REASONS = {
     "syscall": "asks an operating system, and there is none; write a word with out",
     "bltzal": "is a call on a condition, which the machine lacks",
     "bgezal": "is a call on a condition, which the machine lacks",
+    "sync": "orders memory between processors; one program runs, so leave it out (__sync_synchronize and __atomic_thread_fence make it)",
 }
+REASONS |= dict.fromkeys(("ll", "sc"), "is part of an atomic operation, which the machine lacks; one program runs, so a plain access does")
 
 
 def number_of(operand: Operand) -> int | None:
@@ -81,8 +83,10 @@ def trap() -> Expansion:
 class Expander:
     """Expands one instruction of one place; labels of its own have names from `fresh`."""
 
-    def __init__(self, name: str, operands: list[Operand], place: Place, fresh: Callable[[], str]) -> None:
+    def __init__(self, name: str, operands: list[Operand], place: Place, fresh: Callable[[], str], keeps_third: bool = False) -> None:
         self.name, self.operands, self.place, self.fresh = name, operands, place, fresh
+        # Whether $28 stands for the $1 of a file that uses it by itself, and may hold something here.
+        self.keeps_third = keeps_third
 
     def fault(self, why: str) -> Refused:
         return refuse(self.place, f"{self.name} {why}")
@@ -408,7 +412,16 @@ class Expander:
         back = [Instruction(result, (into,))] if into else []
         back = back or [Instruction("sll", (0, 0), Expression(0), note="the division returns here")]
         back[0].labels.append(after)
+        if self.keeps_third:
+            return self.kept([*before, *moved, *upper_and_lower(ASSEMBLER, Expression(symbol=after)), call, *back], into)
         return [*before, *moved, *upper_and_lower(ASSEMBLER, Expression(symbol=after)), call, *back]
+
+    def kept(self, made: Expansion, into: int = 0) -> Expansion:
+        """Puts $28 below the stack while something else uses it."""
+        if into == GLOBAL_POINTER:
+            return made
+        stored = Instruction("sw", (GLOBAL_POINTER, STACK_POINTER), Expression(-4), note="$28 is the $1 of this file")
+        return [stored, *made, Instruction("lw", (GLOBAL_POINTER, STACK_POINTER), Expression(-4))]
 
     of_rem = of_div
 
@@ -431,7 +444,10 @@ class Expander:
         if is_left:
             made.append(Instruction("xori", (ASSEMBLER, ASSEMBLER), Expression(3)))
         made.append(Instruction("sll", (ASSEMBLER, ASSEMBLER), Expression(3)))
-        return [*made, *(self.part_loaded(register, is_left) if is_load else self.part_stored(register, is_left))]
+        if is_load:
+            return [*made, *self.part_loaded(register, is_left)]
+        stored = [*made, *self.part_stored(register, is_left)]
+        return self.kept(stored) if self.keeps_third else stored
 
     of_lwr = of_swl = of_swr = of_lwl
 
@@ -449,16 +465,18 @@ class Expander:
         ]
 
     def part_stored(self, register: int, is_left: bool) -> Expansion:
-        # The address of the word stays in $26.
+        # The address of the word stays in $26. Where $28 is to be stored, it lies below the stack.
         wide, narrow, third = FIRST_KEPT, SECOND_KEPT, GLOBAL_POINTER
         back = "srlv" if is_left else "sllv"
+        again = [Instruction("lw", (narrow, STACK_POINTER), Expression(-4))] if register == third else []
         return [
             Instruction("addiu", (narrow, 0), Expression(-1)),
             Instruction(back, (narrow, narrow, ASSEMBLER)),
             Instruction("nor", (narrow, narrow, 0)),
             Instruction("lw", (third, wide), Expression(0)),
             Instruction("and", (third, third, narrow)),
-            Instruction(back, (narrow, register, ASSEMBLER)),
+            *again,
+            Instruction(back, (narrow, narrow if again else register, ASSEMBLER)),
             Instruction("or", (third, third, narrow)),
             Instruction("sw", (third, wide), Expression(0)),
         ]

@@ -1,5 +1,6 @@
 """Puts files together: one code, one read-only data, one data memory; what is missing comes from the run-time files."""
 
+import re
 from dataclasses import dataclass, field, replace
 from typing import Callable, Iterator
 
@@ -10,6 +11,8 @@ from refusal import Place, Refused, refuse
 MOST_INSTRUCTIONS = 4096
 CODE_START, READ_ONLY_START, DATA_START, MEMORY = 0x00400000, 0x10000000, 0x10010000, 0x10000
 START, STACK_TOP = "_start", "top_of_the_stack"
+# Labels that GCC and clang make inside functions.
+LOCAL = re.compile(r"\.L|\$(L|BB\d|JTI\d|CPI\d|tmp\d|\.)")
 # The caller of a function has 16 bytes for its arguments above its own stack pointer.
 START_TEXT = f"""
         .globl {START}
@@ -124,8 +127,8 @@ def hint(name: str) -> str:
         return ": a program begins there"
     if name in ("printf", "puts", "putchar", "malloc", "free", "calloc", "realloc", "scanf", "getchar"):
         return ": there is no C library; out(unsigned) writes a word"
-    if name.startswith("__sync_") or name.startswith("__atomic_"):
-        return ": there are no atomic operations"
+    if name.startswith(("__sync_", "__atomic_")):
+        return ": it is an atomic operation, which the machine lacks; one program runs, so a plain access does"
     return ""
 
 
@@ -175,7 +178,7 @@ def table_of(program: Program, label: str, is_code: Callable[[str], bool]) -> li
 
 def is_local(label: str) -> bool:
     """Whether a compiler made this label inside a function."""
-    return label.startswith(("$L", ".L"))
+    return bool(LOCAL.match(label))
 
 
 def lay_out(program: Program, least_stack: int) -> None:

@@ -7,14 +7,23 @@ from pathlib import Path
 from assembler_text import calculated, parted, string_bytes, without_comment
 from delay_slots import JUMPS, taken_apart
 from expansions import Expander, Memory, Operand, Register, unaligned_load, unaligned_store
-from instructions import ASSEMBLER, KEPT, REGISTER_NAMES, Expression, Instruction
+from instructions import ASSEMBLER, GLOBAL_POINTER, KEPT, REGISTER_NAMES, Expression, Instruction
 from refusal import Place, Refused, refuse
 
 NAME = r"[A-Za-z_.$][\w.$]*"
 LABEL = re.compile(rf"\s*({NAME}|\d+)\s*:(?!:)")
 ASSIGNED = re.compile(rf"\s*({NAME})\s*=(?!=)\s*(.+)$")
-ADDRESS = re.compile(r"(.*)\(\s*(\$(?:\d+|[a-z]\w*))\s*\)$", re.S)
 HALF = re.compile(r"%(hi|lo)\s*\((.*)\)$", re.S)
+REGISTER = re.compile(r"\$(\d+|f\d+|f?cc\d|" + "|".join(REGISTER_NAMES) + ")$")
+ADDRESS = re.compile(r"(.*)\(\s*(" + REGISTER.pattern[:-1] + r")\s*\)$", re.S)
+# A table of places as clang names it, and labels that only a debugger needs.
+CLANG_TABLE = re.compile(r"\$JTI\d")
+ONLY_FOR_DEBUGGERS = re.compile(r"\$L(text|etext|FB|FE|BB|BE|BI|SI|VL|M|VU)\d+$|\$LC?F[BE]|\$(tmp|func_begin|func_end)\d+$")
+# Clang says so where the address of a label is more than a debugger's.
+TAKEN = re.compile(r"^(\$tmp\d+):.*# Block address taken", re.M)
+# What code has that may lie at any address.
+OF_ANY_ADDRESS = re.compile(r"%(call|got|gottprel|gp_rel|tls|dtprel|tprel|pcrel|neg)")
+ANY_ADDRESS = "position-independent code needs tables that nothing here fills; compile with -fno-pic -mno-abicalls"
 TERM = re.compile(rf"\s*([-+]?)\s*(0[xX][0-9a-fA-F]+|\d+[fb](?![\w.$])|\d+|'(?:\\.|[^\\])'|{NAME})")
 
 # Directives that say nothing about what the program does.
@@ -95,6 +104,12 @@ class Reader:
         # A line of the preprocessor: its number, its file, and where it stands.
         self.marked: tuple[int, str, int] | None = None
         self.no_reorder = False
+        self.orders: list[bool] = []
+        # Whether the file uses $1 by itself, as clang does; $28 stands for it then.
+        self.owns_assembler = False
+        self.taken: list[str] = []
+        # The register into which clang loaded a place, and the table where that stands.
+        self.loaded: tuple[int, str] | None = None
         self.count = 0
         self.local_labels: dict[str, int] = {}
         self.locals: set[str] = set()
@@ -110,7 +125,7 @@ class Reader:
 
     @property
     def place(self) -> Place:
-        return self.source or Place(self.unit.file, self.line)
+        return self.source or Place(self.unit.file, self.line if self.unit.file else 0)
 
     @property
     def raw(self) -> list[tuple[list[Instruction], bool]]:
@@ -118,6 +133,8 @@ class Reader:
 
     def read(self, text: str) -> Unit:
         text = re.sub(r"/\*.*?\*/", lambda it: "\n" * it[0].count("\n") + " ", text, flags=re.S)
+        self.taken = TAKEN.findall(text)
+        self.owns_assembler = not self.is_run_time and bool(re.search(r"\.set\s+noat\b", text) and re.search(r"\$(1|at)\b", text))
         for self.line, line in enumerate(text.split("\n"), 1):
             try:
                 self.read_line(line)
@@ -220,8 +237,9 @@ class Reader:
         if name.isdigit():
             self.local_labels[name] = self.local_labels.get(name, 0) + 1
             name = f".local.{name}.{self.local_labels[name]}"
-        if self.section == OTHER or re.match(r"\$L(text|etext|FB|FE|BB|BE|BI|SI|VL|M|VU)\d+$|\$LC?F[BE]", name):
+        if self.section == OTHER or ONLY_FOR_DEBUGGERS.match(name) and name not in self.taken:
             return
+        self.loaded = None
         if self.section != CODE:
             self.begin_table(name)
             self.data().append(Datum([name], place=Place(self.unit.file)))
@@ -271,6 +289,8 @@ class Reader:
             return
         elif word in (".align", ".p2align", ".balign"):
             self.align(word, rest)
+        elif word in (".cpload", ".cprestore", ".cpsetup", ".cpreturn", ".cplocal", ".cpadd", ".gpword", ".gpdword"):
+            raise refuse(self.place, ANY_ADDRESS)
         elif word in (".init_array", ".ctors"):
             raise refuse(self.place, "constructors that run before main are not supported")
         else:
@@ -298,7 +318,8 @@ class Reader:
     def read_location(self, rest: str) -> None:
         words = rest.split()
         # A line of C that writes a word is more to a reader than the line of the header that does.
-        if self.section == CODE and words[0] in self.files and not self.files[words[0]].endswith("multiscalar.h"):
+        # Line 0 is of no line.
+        if self.section == CODE and words[0] in self.files and not self.files[words[0]].endswith("multiscalar.h") and int(words[1]):
             self.source = Place(self.files[words[0]], int(words[1]))
 
     def read_set(self, rest: str) -> None:
@@ -307,6 +328,10 @@ class Reader:
             self.assign(name.strip(), value)
         elif name.strip() in ("noreorder", "reorder"):
             self.no_reorder = name.strip() == "noreorder"
+        elif name.strip() == "push":
+            self.orders.append(self.no_reorder)
+        elif name.strip() == "pop" and self.orders:
+            self.no_reorder = self.orders.pop()
         elif name.strip() in ("mips16", "micromips"):
             raise refuse(self.place, f"{name.strip()} is another instruction set")
 
@@ -373,9 +398,15 @@ class Reader:
         if name == "release":
             self.add([Instruction("release", tuple(self.register(it) for it in parted(parts[1], ",")))])
             return
-        operands = [self.operand(it) for it in parted(parts[1], ",")] if len(parts) > 1 else []
         note = re.sub(r"\s+", " ", statement)
-        made = self.both_halves(name, operands, note) or Expander(name, operands, self.place, self.fresh).expand()
+        try:
+            operands = [self.operand(it) for it in parted(parts[1], ",")] if len(parts) > 1 else []
+            expander = Expander(name, operands, self.place, self.fresh, self.owns_assembler)
+            made = self.both_halves(name, operands, note) or expander.expand()
+        except Refused:
+            # Something stands here, so that what follows is not taken for a delay slot.
+            self.raw.append(([], self.no_reorder))
+            raise
         for it in made:
             it.note = note if len(made) > 1 or it.value is not None and it.value.half else it.note
         self.add(made)
@@ -421,7 +452,17 @@ class Reader:
             self.table = made[-1] if made[-1].form == "jump_register" else None
             if self.table:
                 made[-1].may_return = self.unit.file.endswith((".s", ".S")) and not self.is_run_time
+            self.find_table(made[-1])
         self.raw.append((made, self.no_reorder))
+
+    def find_table(self, it: Instruction) -> None:
+        """Clang's tables stand after the function: a place is loaded from one, and a jump goes there."""
+        if it.form == "jump_register" and self.loaded and it.registers[0] == self.loaded[0]:
+            it.table = self.loaded[1]
+        elif it.form == "load" and it.value and CLANG_TABLE.match(it.value.symbol):
+            self.loaded = it.registers[0], it.value.symbol
+        elif it.form in JUMPS or self.loaded and self.loaded[0] in it.writes:
+            self.loaded = None
 
     def name_symbol(self, value: Expression) -> None:
         if value.symbol:
@@ -434,6 +475,8 @@ class Reader:
             raise refuse(self.place, "floating-point registers: the machine has none; use -msoft-float code")
         if number > 31 or not text.strip().startswith("$"):
             raise refuse(self.place, f"{text} is not a register")
+        if number == ASSEMBLER and self.owns_assembler:
+            return GLOBAL_POINTER
         if number in (ASSEMBLER, *KEPT) and not self.is_run_time:
             raise refuse(self.place, f"${number} is kept for expansions and run-time routines")
         return number
@@ -443,13 +486,17 @@ class Reader:
         if address:
             offset = self.expression(address[1]) if address[1].strip() else Expression(0)
             return Memory(offset, self.register(address[2]))
-        if text.startswith("$") and not re.match(r"\$L", text):
+        if REGISTER.match(text):
             return Register(self.register(text))
         return self.expression(text)
 
     def expression(self, text: str) -> Expression:
         text = text.strip()
+        while re.fullmatch(r"\([^()]*\)", text):
+            text = text[1:-1].strip()
         half = HALF.match(text)
+        if OF_ANY_ADDRESS.match(text):
+            raise refuse(self.place, ANY_ADDRESS)
         if half:
             inner = self.expression(half[2])
             if inner.half:

@@ -9,7 +9,9 @@ from linking import START, Program
 from refusal import Place, refuse
 
 MOST_TARGETS, MOST_TASKS = 16, 1024
-POLICIES = ("calls", "outer", "loops", "blocks")
+POLICIES = ("calls", "outer", "loops", "blocks", "rounds", "turns", "inner")
+# Those that also begin a task where a loop is left: what comes after it must not keep the rounds from sending.
+WITH_EXITS = ("rounds", "turns", "inner")
 
 
 @dataclass
@@ -127,10 +129,21 @@ def heads(flow: Flow, policy: str) -> set[int]:
             continue
         loops = flow.loop_heads(function)
         for head, body in loops:
-            inside_another = any(head in other and head != above for above, other in loops)
-            if policy == "loops" or not inside_another:
-                found.add(head)
+            if not is_cut(policy, head, body, loops):
+                continue
+            found.add(head)
+            if policy in WITH_EXITS:
+                found |= {place for index in body for place in flow.ways(function, index) if place not in body}
     return found
+
+
+def is_cut(policy: str, head: int, body: set[int], loops: list[tuple[int, set[int]]]) -> bool:
+    """Whether a policy makes tasks of the rounds of this loop."""
+    if policy in ("outer", "rounds"):
+        return not any(head in other and head != above for above, other in loops)
+    if policy == "inner":
+        return not any(above in body and above != head for above, _ in loops)
+    return True
 
 
 def places_of_own_stop(flow: Flow, index: int) -> set[int]:

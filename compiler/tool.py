@@ -5,11 +5,12 @@ import re
 import shutil
 import subprocess
 import tempfile
-from collections import Counter
 from dataclasses import dataclass
 from pathlib import Path
 
 HERE = Path(__file__).resolve().parent
+# The status of a run that has spent its budget.
+OUT_OF_BUDGET = 3
 
 
 class ToolFailed(Exception):
@@ -18,18 +19,17 @@ class ToolFailed(Exception):
 
 @dataclass(frozen=True)
 class Steps:
-    """One line of the table of `curve`."""
+    """How many steps a run took on so many units."""
 
     units: int
     steps: int
     retired: int
-    end: str
+    ended: bool
 
     @property
     def key(self) -> tuple:
         """Less is better. Runs that ended compare by steps; others by the instructions that they retired in a step."""
-        ended = self.end != "out of budget"
-        return (0, self.steps) if ended else (1, -self.retired / max(self.steps, 1))
+        return (0, self.steps) if self.ended else (1, -self.retired / max(self.steps, 1))
 
 
 def found_command() -> str:
@@ -69,15 +69,21 @@ class Tool:
         done = self.on(text, "check", "--least")
         return done.returncode == 0, done.stdout + done.stderr
 
-    def followers(self, text: str) -> Counter:
-        """How often each task followed each, in the order of the program: the run on one unit, where nothing is predicted."""
+    def tasks_in_order(self, text: str) -> list[str]:
+        """The tasks in the order of the program: those of the run on one unit, where nothing is predicted."""
         done = self.on(text, "run", "--least", "--schedule", "steps", "--units", "1", "--emit", "script", "--budget", str(self.budget))
-        tasks = re.findall(r"^assign (\w+)$", done.stdout, re.M)
-        return Counter(zip(tasks, tasks[1:]))
+        return re.findall(r"^assign (\w+)$", done.stdout, re.M)
 
-    def curve(self, text: str, units: int) -> list[Steps]:
-        done = self.on(text, "curve", "--least", "--units", str(units), "--budget", str(self.budget))
-        rows = re.findall(r"^ *(\d+) +(\d+) +(\d+) +\S+ +\S+ +\S+  (.*)$", done.stdout, re.M)
-        if len(rows) != units:
-            raise ToolFailed(f"curve: {done.stdout[:500]}{done.stderr[:500]}")
-        return [Steps(int(a), int(b), int(c), end) for a, b, c, end in rows]
+    def steps(self, text: str, units: int) -> Steps:
+        """A run in steps, which are the same each time and on each machine."""
+        words = ["--schedule", "steps", "--units", str(units), "--emit", "summary", "--budget", str(self.budget)]
+        done = self.on(text, "run", "--least", *words)
+        found = re.search(r"^steps (\d+), retired instructions (\d+)", done.stdout, re.M)
+        if not found:
+            raise ToolFailed(f"run: {done.stdout[:500]}{done.stderr[:500]}")
+        return Steps(units, int(found[1]), int(found[2]), done.returncode != OUT_OF_BUDGET)
+
+    def last_word(self, text: str) -> int | None:
+        """The last word that a program puts out, if it halts."""
+        lines = self.on(text, "seq", "--budget", str(self.budget)).stdout.split("\n")[:-1]
+        return int(lines[-2]) if len(lines) > 1 and lines[-1].startswith("halted") and lines[-2].isdigit() else None

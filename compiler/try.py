@@ -3,15 +3,16 @@
 
     compiler/try.py                    the programs of compiler/programs and 300 of csmith: half an hour of one core
     compiler/try.py --quick            a minute of it
-    compiler/try.py --steps            beside that, the steps of the programs on 1, 2, 4, 8 and 16 units
 
-Each program is translated at -O0, -O1 and -O2, cut and marked in several ways, checked, and run: `seq`, `run` on 1, 4 and
+Each program is translated at -O0 to -O3, by GCC and, for its own programs, by clang, its code as it was, moved or with
+copies of functions, cut and marked in several ways, checked, and run: `seq`, `run` on 1, 4 and
 16 units, and `replay --strict` of the script of a run with its values. What is printed must be what the host prints (not of csmith's programs,
 whose meaning depends on the size of long) and what the program prints that GCC makes for MIPS32 and QEMU runs. The last
 line says how many agree; the status is 0 exactly if none differs. Results are kept in compiler/out, so a run that was
 stopped goes on where it was; a change of a program or of the translator makes its results void.
 
-It needs gcc, gcc-mipsel-linux-gnu, qemu-user, libc6-dev-mipsel-cross, csmith and libcsmith-dev.
+It needs gcc, gcc-mipsel-linux-gnu, qemu-user, libc6-dev-mipsel-cross, csmith and libcsmith-dev; without clang-14 it says
+so and leaves that out. try_steps.py measures.
 """
 
 import argparse
@@ -19,6 +20,7 @@ import hashlib
 import json
 import random
 import re
+import shutil
 import subprocess
 import sys
 import tempfile
@@ -26,11 +28,10 @@ import time
 from collections import Counter
 from concurrent.futures import FIRST_COMPLETED, Future, ProcessPoolExecutor, wait
 from dataclasses import dataclass
-from itertools import repeat
 from pathlib import Path
 from typing import Iterator
 
-from choice import Settings, Way, best_of, chosen, written
+from choice import Shape, Way, judge, result_of, written
 from compiling import CompilerFailed, Compiling, program_of
 from linking import Program
 from refusal import Refused
@@ -39,14 +40,17 @@ from tool import Tool, ToolFailed
 HERE = Path(__file__).resolve().parent
 OUT = HERE / "out"
 CSMITH_HEADERS = "/usr/include/csmith"
-LEVELS = "012"
+LEVELS = "0123"
+GCC, CLANG = "mipsel-linux-gnu-gcc", "clang-14"
 WAYS = [
     Way("calls", "own", "none"),
-    Way("calls", "joined", "early"),
+    Way("calls", "joined", "early", "copied and moved"),
     Way("outer", "joined", "late"),
-    Way("loops", "own", "early"),
-    Way("loops", "joined", "late"),
-    Way("blocks", "own", "early"),
+    Way("loops", "own", "early", "moved"),
+    Way("loops", "joined", "late", "copied"),
+    Way("blocks", "own", "early", "copied and moved"),
+    Way("rounds", "own", "late", "moved"),
+    Way("turns", "joined", "early", "copied"),
 ]
 UNITS = (1, 4, 16)
 # Sizes that often fit 4,096 instructions; three kinds, in turn.
@@ -66,9 +70,10 @@ class Trial:
     level: str
     way: Way
     is_csmith: bool
+    compiler: str = GCC
 
     def name(self) -> str:
-        return f"{Path(self.source).stem} -O{self.level} {self.way}"
+        return f"{Path(self.source).stem} {self.compiler} -O{self.level} {self.way}"
 
 
 def command(words: list[str], seconds: float = 20) -> tuple[int, str]:
@@ -90,7 +95,7 @@ def files_of(source: str) -> list[str]:
 
 
 class References:
-    """What a program prints elsewhere; None where it takes too long there."""
+    """What a program prints elsewhere, and its status after that; None where it takes too long there."""
 
     def __init__(self, folder: Path) -> None:
         self.folder = folder
@@ -115,11 +120,9 @@ class References:
             status, said = command([*(["qemu-mipsel"] if "-static" in compiler else []), built], 5)
             if status < 0:
                 return None
-            if status:
-                raise SystemExit(f"{trial.source}: the reference ended with status {status}")
-            printed.append(said.split())
+            printed.append([*said.split(), str(status)])
         if any(it != printed[0] for it in printed):
-            raise SystemExit(f"{trial.source}: the host and QEMU print different words")
+            raise SystemExit(f"{trial.source}: the host and QEMU print different words, or have different results")
         return printed[0]
 
 
@@ -127,15 +130,15 @@ class Trials:
     def __init__(self, tool: Tool, folder: Path) -> None:
         self.tool, self.folder = tool, folder
         self.references = References(folder)
-        self.programs: dict[tuple[str, str], Program | Exception] = {}
+        self.programs: dict[tuple[str, str, str], Program | Exception] = {}
 
     def program(self, trial: Trial) -> Program:
-        key = trial.source, trial.level
+        key = trial.source, trial.level, trial.compiler
         if key not in self.programs:
             if len(self.programs) > 30:
                 self.programs.clear()
             try:
-                compiling = Compiling(level=trial.level, folders=includes(trial.is_csmith), shows_warnings=False)
+                compiling = Compiling(trial.compiler, trial.level, includes(trial.is_csmith), shows_warnings=False)
                 self.programs[key] = program_of(files_of(trial.source), compiling, 1024)
             except (Refused, CompilerFailed) as fault:
                 self.programs[key] = fault
@@ -150,13 +153,18 @@ class Trials:
         if wanted is None:
             return "too long: in QEMU"
         try:
-            choice = written(self.program(trial), trial.way, self.tool, [], trial.way.release == "none")
+            shape = Shape(self.program(trial), trial.way.code, self.tool)
+            choice = judge(written(shape, trial.way, self.tool, [], trial.way.release == "none"), self.tool)
         except Refused as refused:
             return f"refused: {refused.reasons[0][1]}"
         except (CompilerFailed, ToolFailed) as failed:
             return f"different: {failed}"
         (self.folder / "program.s").write_text(choice.text)
-        return self.runs(wanted)
+        *words, status = wanted
+        found = self.runs(words)
+        if found == "same" and str((result_of(choice, self.tool) or 0) & 255) != status:
+            return f"different: main returns {result_of(choice, self.tool)}, elsewhere {status}"
+        return found
 
     def runs(self, wanted: list[str]) -> str:
         text = str(self.folder / "program.s")
@@ -223,8 +231,14 @@ class Kept:
 
 
 def own_trials() -> list[Trial]:
+    """Each program by GCC at each level in each way, and by clang at each level in one way of two."""
     sources = sorted(str(it) for it in (HERE / "programs").glob("*.c"))
-    return [Trial(source, level, way, False) for source in sources for level in LEVELS for way in WAYS]
+    trials = [Trial(source, level, way, False) for source in sources for level in LEVELS for way in WAYS]
+    if not shutil.which(CLANG):
+        print(f"{CLANG} is not there, and is not tried")
+        return trials
+    pairs = [(source, level) for source in sources for level in LEVELS]
+    return trials + [Trial(source, level, way, False, CLANG) for n, (source, level) in enumerate(pairs) for way in WAYS[n % 2 :: 2]]
 
 
 def csmith_trials(count: int, first: int) -> list[Trial]:
@@ -239,20 +253,20 @@ def csmith_trials(count: int, first: int) -> list[Trial]:
             if status:
                 raise SystemExit(f"csmith: {said}")
             half.rename(source)
-        trials.append(Trial(str(source), LEVELS[number // 3 % 3], WAYS[number // 2 % len(WAYS)], True))
+        trials.append(Trial(str(source), LEVELS[number // 3 % len(LEVELS)], WAYS[number // 2 % len(WAYS)], True))
     return trials
 
 
 def table(rows: list[tuple[Trial, str]]) -> str:
-    lines = [f"{'programs':<10} {'level':<6} {'way':<36} {'same':>6} {'refused':>8} {'too long':>9} {'different':>10}"]
+    lines = [f"{'programs':<10} {'level':<6} {'way':<52} {'same':>6} {'refused':>8} {'too long':>9} {'different':>10}"]
     groups: dict[tuple[str, str, str], Counter] = {}
     for trial, result in rows:
-        kind = "csmith" if trial.is_csmith else "own"
+        kind = "csmith" if trial.is_csmith else "by clang" if trial.compiler == CLANG else "own"
         for key in ((kind, f"-O{trial.level}", str(trial.way)), (kind, "all", "all")):
             groups.setdefault(key, Counter())[result.split(":")[0]] += 1
     for (kind, level, way), counts in sorted(groups.items()):
         row = f"{counts['same']:>6} {counts['refused']:>8} {counts['too long']:>9} {counts['different']:>10}"
-        lines.append(f"{kind:<10} {level:<6} {way:<36} {row}")
+        lines.append(f"{kind:<10} {level:<6} {way:<52} {row}")
     return "\n".join(lines)
 
 
@@ -261,35 +275,12 @@ def reasons(rows: list[tuple[Trial, str]]) -> str:
     return "\n".join(f"{count:>6}  {reason}" for reason, count in counts.most_common())
 
 
-STEPS_ON = (1, 2, 4, 8, 16)
-
-
-def steps_row(command: str, source: str, level: str) -> str:
-    """What `auto` chooses for 4 units, its steps, and the steps of that way with forward bits alone."""
-    tool = Tool(command)
-    program = program_of(files_of(source), Compiling(level=level, shows_warnings=False), 1024)
-    best = best_of(chosen(program, Settings(), tool, []))
-    plain = tool.curve(written(program, Way(best.way.policy, best.way.leaves, "none"), tool, [], True).text, 4)
-    curve = tool.curve(best.text, max(STEPS_ON))
-    steps = "".join(f"{curve[units - 1].steps:>8}" for units in STEPS_ON)
-    return f"{Path(source).stem:<14} {best.instructions:>5} {best.tasks:>6}  {str(best.way):<36}{steps}{plain[3].steps:>8}"
-
-
-def steps_table(command: str, level: str, workers: int) -> Iterator[str]:
-    units = "".join(f"{units:>8}" for units in STEPS_ON)
-    yield f"{'-O' + level:<14} {'size':>5} {'tasks':>6}  {'way':<36}{units}{'plain 4':>8}"
-    sources = sorted(str(it) for it in (HERE / "programs").glob("*.c"))
-    with ProcessPoolExecutor(workers) as pool:
-        yield from pool.map(steps_row, repeat(command), sources, repeat(level))
-
-
 def arguments() -> argparse.Namespace:
     parser = argparse.ArgumentParser(description=__doc__, formatter_class=argparse.RawDescriptionHelpFormatter)
     parser.add_argument("--quick", action="store_true", help="stops after a minute")
     parser.add_argument("--seconds", type=float, default=7200, help="stops after so long (7200)")
     parser.add_argument("--csmith", type=int, default=300, metavar="N", help="how many programs of csmith (300)")
     parser.add_argument("--first", type=int, default=1, metavar="SEED", help="the first seed (1)")
-    parser.add_argument("--steps", choices=list(LEVELS), help="also a table of steps at this level")
     parser.add_argument("--workers", type=int, default=1, metavar="N", help="how many processes share the work (1)")
     parser.add_argument("--anew", action="store_true", help="takes nothing from earlier runs")
     parser.add_argument("--multiscalar", metavar="COMMAND", help="the command multiscalar")
@@ -352,9 +343,6 @@ def main() -> int:
             print(f"{trial.name()}: {result}")
     print(table(found))
     print(reasons(found))
-    if words.steps:
-        for line in steps_table(tool.command, words.steps, words.workers):
-            print(line, flush=True)
     count = Counter(result.split(":")[0] for result in rows.values())
     left = len(set(wanted)) - len(rows)
     print(f"{count['same']} agree, {count['different']} differ, {count['refused']} refused, {count['too long']} too long, {left} not tried")

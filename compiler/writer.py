@@ -93,6 +93,8 @@ class Writer:
         self.sources: dict[str, list[str]] = {}
         # Lines of the text with a forward bit of the author's own.
         self.own_forwards: dict[int, Place] = {}
+        # How often each task followed each, by where they begin.
+        self.followed: Counter = Counter()
 
     def text(self) -> str:
         self.own_forwards.clear()
@@ -105,19 +107,10 @@ class Writer:
         return "\n".join(lines) + "\n"
 
     def descriptors(self) -> list[str]:
-        targets = self.targets(Counter())
-        return [f".task {name} create=- targets={','.join(places) or '-'}" for name, places in targets.items()]
-
-    def targets(self, followed: Counter) -> dict[str, list[str]]:
-        """The names of each task's targets, what followed most often first."""
         names = self.names.of_index
-        ordered = order_targets(self.made, lambda entry, place: followed[names[entry], names[place]])
-        return {names[task.entry]: [names[it] for it in ordered[task.entry]] for task in self.made.tasks}
-
-    def in_order(self, text: str, followed: Counter) -> str:
-        """A text with its targets in the order in which they followed."""
-        targets = self.targets(followed)
-        return re.sub(r"^(\.task (\w+) .* targets=)(?!-).*$", lambda it: it[1] + ",".join(targets[it[2]]), text, flags=re.M)
+        ordered = order_targets(self.made, lambda entry, place: self.followed[entry, place])
+        targets = {names[task.entry]: ",".join(names[it] for it in ordered[task.entry]) for task in self.made.tasks}
+        return [f".task {name} create=- targets={places or '-'}" for name, places in targets.items()]
 
     # Code
 
@@ -149,7 +142,9 @@ class Writer:
     def line(self, index: int, it: Instruction) -> str:
         marks = " ".join(filter(None, ("!f" if it.own_forward else "", self.made.stop_of(index))))
         words = f"        {self.instruction(it)}{'  ' + marks if marks else ''}"
-        return f"{words:<{COMMENT_COLUMN}} # {plain(it.note)}" if it.note else words
+        said = [it.note] if it.note else []
+        said += [f"at {Path(it.place.file).name}:{it.place.line}"] if it.place.line else []
+        return f"{words:<{COMMENT_COLUMN}} # {' # '.join(map(plain, said))}" if said else words
 
     def number(self, it: Instruction) -> int:
         return value_of(self.program, self.index_of, it.value)

@@ -82,7 +82,7 @@ sh "$root/install.sh" "$deb/usr" > /dev/null
 mkdir -p "$deb/DEBIAN" "$share/zsh/vendor-completions"
 mv "$share/zsh/site-functions/_multiscalar" "$share/zsh/vendor-completions/_multiscalar"
 rmdir "$share/zsh/site-functions"
-gzip -9n "$share/man/man1/multiscalar.1"
+gzip -9n "$share/man/man1/multiscalar.1" "$share/man/man1/c2ms.1"
 documents=$share/doc/multiscalar
 rm "$documents/LICENSE-APACHE" "$documents/LICENSE-MIT"
 {

@@ -15,7 +15,7 @@ place() { # FOLDER FILE..
 }
 
 place bin "$from/multiscalar"
-place share/man/man1 "$from/man/multiscalar.1"
+place share/man/man1 "$from/man/multiscalar.1" "$from/man/c2ms.1"
 place share/bash-completion/completions "$from/completions/multiscalar.bash"
 mv "$to/share/bash-completion/completions/multiscalar.bash" "$to/share/bash-completion/completions/multiscalar"
 place share/zsh/site-functions "$from/completions/_multiscalar"
@@ -25,7 +25,8 @@ place lib "$from/lib/libmultiscalar.a" "$from/lib/libmultiscalar.so.0"
 ln -sf libmultiscalar.so.0 "$to/lib/libmultiscalar.so"
 place lib/pkgconfig "$from/lib/multiscalar.pc"
 place share/multiscalar "$from/syntax" "$from/compiler" "$from/python"
+ln -sf ../share/multiscalar/compiler/c2ms.py "$to/bin/c2ms"
 place share/doc/multiscalar "$from/README.md" "$from/CHANGELOG.md" "$from/LICENSE-APACHE" "$from/LICENSE-MIT" \
     "$from/MANIFEST" "$from/docs" "$from/examples"
 if [ -f "$from/multiscalar.html" ]; then place share/doc/multiscalar "$from/multiscalar.html"; fi
-echo "multiscalar is in $to/bin; its documents and examples are in $to/share/doc/multiscalar, c2ms.py, multiscalar.py and syntax files in $to/share/multiscalar, the library in $to/lib"
+echo "multiscalar and c2ms are in $to/bin; their documents and examples are in $to/share/doc/multiscalar, multiscalar.py and syntax files in $to/share/multiscalar, the library in $to/lib"

@@ -13,10 +13,10 @@ static inline __attribute__((always_inline)) void out(unsigned word)
     __asm__ volatile("out\t%0" : : "r"(word));
 }
 
-/* Ends the run, as a return from main does. */
+/* Ends the run, as a return of 0 from main does. */
 static inline __attribute__((always_inline, noreturn)) void halt(void)
 {
-    __asm__ volatile("halt");
+    __asm__ volatile("move\t$2,$0\n\thalt" : : : "$2");
     __builtin_unreachable();
 }
 

@@ -1,4 +1,5 @@
 /* Calls functions of assembly.S, which try what people write for the GNU assembler. */
+#include "input.h"
 #include "multiscalar.h"
 
 unsigned arithmetic(int a, int b), compared(int a, int b), slots(unsigned *cells, int count), unaligned(char *bytes);
@@ -9,7 +10,7 @@ static unsigned cells[8];
 
 int main(void)
 {
-    static const int samples[] = {0, 1, -1, 7, -13, 100000, -2147483647, 65535, -32768};
+    static const int samples[] = {0, 1, -1, INPUT(7, 3000), INPUT(-13, -1), 100000, -2147483647, 65535, -32768};
     for (int n = 0; n < 9; n++)
         for (int k = 0; k < 9; k++) {
             out(arithmetic(samples[n], samples[k]));

@@ -1,8 +1,10 @@
 /* Base64 of a text, and back. */
+#include "input.h"
 #include "multiscalar.h"
 
 static const char digits[] = "ABCDEFGHIJKLMNOPQRSTUVWXYZabcdefghijklmnopqrstuvwxyz0123456789+/";
-static const char text[] = "Multiscalar processors run tasks side by side.";
+static const char text[] = INPUT("Multiscalar processors run tasks side by side.",
+    "Another text, which has just as many letters..");
 static char encoded[80], decoded[64];
 
 static int encode(const char *from, int count, char *into)

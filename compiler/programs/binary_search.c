@@ -1,4 +1,5 @@
 /* Binary search in a sorted table, and how many steps it takes. */
+#include "input.h"
 #include "multiscalar.h"
 
 #define COUNT 128
@@ -26,7 +27,7 @@ int main(void)
     for (unsigned n = 0; n < COUNT; n++)
         numbers[n] = n * n + n / 3;
     int hits = 0, sum = 0;
-    for (unsigned wanted = 0; wanted < 1000; wanted += 7) {
+    for (unsigned wanted = 0; wanted < 1000; wanted += INPUT(7, 9)) {
         int at = found(wanted);
         if (at >= 0) {
             hits++;

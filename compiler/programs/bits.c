@@ -1,4 +1,5 @@
 /* Counts bits in five ways, turns words around, and finds powers of two. */
+#include "input.h"
 #include "multiscalar.h"
 
 static int one_by_one(unsigned value)
@@ -43,7 +44,7 @@ static unsigned turned_around(unsigned value)
 
 int main(void)
 {
-    unsigned sum = 0, value = 1;
+    unsigned sum = 0, value = INPUT(1, 4711);
     for (int n = 0; n < 24; n++) {
         value = value * 1664525 + 1013904223;
         int count = by_clearing(value);

@@ -1,7 +1,9 @@
 /* CRC-32 of a text, bit by bit and with a table; both are printed. */
+#include "input.h"
 #include "multiscalar.h"
 
-static const char text[] = "The quick brown fox jumps over the lazy dog. 0123456789 and so on, until the text is long enough.";
+static const char text[] = INPUT("The quick brown fox jumps over the lazy dog. 0123456789 and so on, until the text is long enough.",
+    "Pack my box with five dozen liquor jugs. 9876543210, and then some more of it, which is not the same text.");
 static unsigned table[256];
 
 static unsigned of_byte(unsigned value)

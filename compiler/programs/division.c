@@ -1,7 +1,8 @@
 /* Quotients and remainders with all signs; the corners of words; divisions by constants. */
+#include "input.h"
 #include "multiscalar.h"
 
-static const int samples[] = {1, -1, 2, -2, 3, 7, -7, 10, 100, -100, 32767, -32768, 65536, 1000000007, -1000000007, 2147483647, -2147483647 - 1};
+static const int samples[] = {1, -1, 2, -2, 3, INPUT(7, 81), -7, INPUT(10, 555), INPUT(100, 999999), -100, 32767, -32768, 65536, 1000000007, -1000000007, 2147483647, -2147483647 - 1};
 
 int main(void)
 {

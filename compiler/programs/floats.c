@@ -1,7 +1,8 @@
 /* Floating point, which run-time routines compute: the bits of sums, products, quotients, conversions and comparisons. */
+#include "input.h"
 #include "multiscalar.h"
 
-static const float samples[] = {0.0f, 1.0f, -1.5f, 3.1415927f, 1e10f, -2.5e-7f, 1e-40f, 123456.789f};
+static const float samples[] = {0.0f, 1.0f, -1.5f, INPUT(3.1415927f, 0.7f), INPUT(1e10f, -33.25f), -2.5e-7f, 1e-40f, 123456.789f};
 static volatile double half = 0.5;
 
 static void put(double value)

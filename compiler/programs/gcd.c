@@ -1,4 +1,5 @@
 /* Greatest common divisors by Euclid, with division and without. */
+#include "input.h"
 #include "multiscalar.h"
 
 static unsigned by_division(unsigned a, unsigned b)
@@ -38,7 +39,7 @@ static unsigned by_shifts(unsigned a, unsigned b)
 int main(void)
 {
     unsigned sum = 0;
-    for (unsigned a = 100; a < 110; a++)
+    for (unsigned a = INPUT(100, 211); a < INPUT(110, 221); a++)
         for (unsigned b = 60; b < 66; b++) {
             sum += by_division(a * 6, b * 4);
             if (by_division(a, b) != by_shifts(a, b))

@@ -1,5 +1,6 @@
 /* Jumps to labels whose addresses are in a table, and variable numbers of arguments. */
 #include <stdarg.h>
+#include "input.h"
 #include "multiscalar.h"
 
 static int sum_of(int count, ...)
@@ -33,7 +34,7 @@ end:
 
 int main(void)
 {
-    out(walk("\0\2\1\2\2\0\1\3"));
+    out(walk(INPUT("\0\2\1\2\2\0\1\3", "\2\2\0\0\1\0\2\1\1\3")));
     out(sum_of(6, 1, 2, 3, 4, 5, 6));
     return 0;
 }

@@ -1,10 +1,13 @@
 /* A hash table with open addressing: counts words of a text. */
+#include "input.h"
 #include "multiscalar.h"
 
 #define SLOTS 64
 
-static const char text[] = "the unit at the head retires and the unit behind the head becomes the head and the queue goes on "
-                           "and the head of the queue is the oldest task and the tail is the youngest task of the queue";
+static const char text[] = INPUT("the unit at the head retires and the unit behind the head becomes the head and the queue goes on "
+                           "and the head of the queue is the oldest task and the tail is the youngest task of the queue",
+    "a task is a part of the code and a unit runs a task and the next unit runs the next task and so all "
+    "units run side by side and the oldest of them all is the head that alone may write to memory");
 
 static struct slot {
     const char *word;

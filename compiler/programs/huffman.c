@@ -1,10 +1,12 @@
 /* A Huffman code of a text: lengths of the code, and how many bits the text takes. */
+#include "input.h"
 #include "multiscalar.h"
 
 #define LETTERS 32
 #define NODES (2 * LETTERS)
 
-static const char text[] = "create masks and forward bits say when each register leaves a task and a release sends what a path does not write";
+static const char text[] = INPUT("create masks and forward bits say when each register leaves a task and a release sends what a path does not write",
+    "a second text has other letters so another tree comes of it which is why zebras and quick foxes jump in here twice");
 static int weight[NODES], parent[NODES];
 
 int main(void)

@@ -1,4 +1,5 @@
 /* An interpreter of a small stack machine, with a switch of many cases; its program computes primes. */
+#include "input.h"
 #include "multiscalar.h"
 
 enum operation { PUSH, LOAD, STORE, ADD, SUBTRACT, MULTIPLY, REMAINDER, LESS, EQUAL, NOT, JUMP, JUMP_IF_ZERO, COPY, SWAP, DROP, PRINT, NEGATE, AND, OR, END };
@@ -6,7 +7,7 @@ enum operation { PUSH, LOAD, STORE, ADD, SUBTRACT, MULTIPLY, REMAINDER, LESS, EQ
 /* for (n = 2; n < 30; n++) { for (d = 2; d * d <= n; d++) if (n % d == 0) goto next; print n; next: } */
 static const signed char code[] = {
     PUSH, 2, STORE, 0,
-    LOAD, 0, PUSH, 30, LESS, JUMP_IF_ZERO, 53,
+    LOAD, 0, PUSH, INPUT(30, 23), LESS, JUMP_IF_ZERO, 53,
     PUSH, 2, STORE, 1,
     LOAD, 0, LOAD, 1, COPY, MULTIPLY, LESS, NOT, JUMP_IF_ZERO, 41,
     LOAD, 0, LOAD, 1, REMAINDER, JUMP_IF_ZERO, 44,

@@ -1,9 +1,11 @@
 /* The best value that fits a knapsack, by dynamic programming. */
+#include "input.h"
 #include "multiscalar.h"
 
 #define CAPACITY 50
 
-static const unsigned char weights[] = {12, 7, 11, 8, 9, 6, 5, 14}, values[] = {24, 13, 23, 15, 16, 11, 9, 28};
+static const unsigned char weights[] = {INPUT(12, 10), 7, INPUT(11, 4), 8, 9, INPUT(6, 13), 5, 14},
+                           values[] = {24, 13, INPUT(23, 9), 15, INPUT(16, 20), 11, 9, INPUT(28, 33)};
 static int best[CAPACITY + 1];
 
 int main(void)

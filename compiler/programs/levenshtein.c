@@ -1,4 +1,5 @@
 /* The edit distance of words. */
+#include "input.h"
 #include "multiscalar.h"
 
 #define LONGEST 24
@@ -30,9 +31,9 @@ static int distance(const char *left, const char *right)
 
 int main(void)
 {
-    out(distance("kitten", "sitting"));
-    out(distance("multiscalar", "superscalar"));
-    out(distance("speculation", "prediction"));
+    out(distance(INPUT("kitten", "intention"), INPUT("sitting", "execution")));
+    out(distance(INPUT("multiscalar", "register"), INPUT("superscalar", "resistor")));
+    out(distance(INPUT("speculation", "forwarding"), INPUT("prediction", "rewarding")));
     out(distance("", "retire"));
     return 0;
 }

@@ -1,4 +1,5 @@
 /* Conway's game of life on a torus of 16 by 16: a glider, and how many cells live. */
+#include "input.h"
 #include "multiscalar.h"
 
 #define SIZE 16
@@ -12,9 +13,9 @@ static unsigned turned(unsigned row, int by)
 
 int main(void)
 {
-    rows[1] = 2 << 5;
-    rows[2] = 1 << 5;
-    rows[3] = 7 << 5;
+    rows[1] = INPUT(2, 6) << 5;
+    rows[2] = INPUT(1, 3) << 5;
+    rows[3] = INPUT(7, 2) << 5;
     for (int generation = 0; generation < 8; generation++) {
         for (int n = 0; n < SIZE; n++) {
             unsigned above = rows[(n + SIZE - 1) % SIZE], here = rows[n], below = rows[(n + 1) % SIZE];

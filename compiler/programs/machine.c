@@ -1,7 +1,9 @@
 /* A state machine: reads numbers in decimal, hexadecimal and octal, with signs, out of a text. */
+#include "input.h"
 #include "multiscalar.h"
 
-static const char text[] = "12, -7; 0x1F + 0755 (skip me) 42-0xBEEF,,,  900 x9 0 -0x10";
+static const char text[] = INPUT("12, -7; 0x1F + 0755 (skip me) 42-0xBEEF,,,  900 x9 0 -0x10",
+    "0x10 -3 (77) 012, 9999 skip 0xFFF; -042 5 5 -5 word2 1x");
 
 enum state { BETWEEN, SIGN, ZERO, DECIMAL, OCTAL, HEXADECIMAL, WORD };
 

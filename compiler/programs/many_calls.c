@@ -1,4 +1,5 @@
 /* A function that is called from more than 16 places, a switch of more than 16 cases, and calls by more than 16 pointers. */
+#include "input.h"
 #include "multiscalar.h"
 
 typedef unsigned function(unsigned);
@@ -48,7 +49,7 @@ static unsigned chosen(unsigned number, unsigned x)
 
 int main(void)
 {
-    unsigned x = 1;
+    unsigned x = INPUT(1, 12);
     for (unsigned n = 0; n < 21; n++)
         x = functions[n * 8 % 21](x);
     out(x);

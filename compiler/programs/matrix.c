@@ -1,7 +1,8 @@
 /* The product of two matrices of 10 by 10, and its trace and sum. */
+#include "input.h"
 #include "multiscalar.h"
 
-#define SIZE 10
+#define SIZE INPUT(10, 9)
 
 static int left[SIZE][SIZE], right[SIZE][SIZE], product[SIZE][SIZE];
 

@@ -1,4 +1,5 @@
 /* MD5 of two short texts; the table of sines is read-only data. */
+#include "input.h"
 #include "multiscalar.h"
 
 static const unsigned sines[64] = {
@@ -41,7 +42,7 @@ static void digest(const char *text)
 
 int main(void)
 {
-    digest("");
-    digest("message digest");
+    digest(INPUT("", "abc"));
+    digest(INPUT("message digest", "abcdefghijklmnopqrstuvwxyz"));
     return 0;
 }

@@ -1,4 +1,5 @@
 /* Structures without padding, unaligned words, bit fields, and copies of memory. */
+#include "input.h"
 #include "multiscalar.h"
 
 struct __attribute__((packed)) record {
@@ -25,7 +26,7 @@ int main(void)
 {
     for (int n = 0; n < 5; n++) {
         records[n].kind = 'a' + n;
-        records[n].number = n * -1234567;
+        records[n].number = n * INPUT(-1234567, 7654321);
         records[n].code = n << 12;
         records[n].wide = (long long)records[n].number * 1000003;
     }

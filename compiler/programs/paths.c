@@ -1,10 +1,11 @@
 /* Shortest paths in a small graph, by Dijkstra's and by Floyd's method. */
+#include "input.h"
 #include "multiscalar.h"
 
 #define COUNT 9
 #define FAR 9999
 
-static const unsigned char edges[][3] = {{0, 1, 4}, {0, 7, 8}, {1, 2, 8}, {1, 7, 11}, {2, 3, 7}, {2, 8, 2}, {2, 5, 4}, {3, 4, 9}, {3, 5, 14}, {4, 5, 10}, {5, 6, 2}, {6, 7, 1}, {6, 8, 6}, {7, 8, 7}};
+static const unsigned char edges[][3] = {{0, 1, INPUT(4, 9)}, {0, 7, INPUT(8, 2)}, {1, 2, INPUT(8, 3)}, {1, 7, 11}, {2, 3, INPUT(7, 1)}, {2, 8, 2}, {2, 5, 4}, {3, 4, 9}, {3, 5, 14}, {4, 5, 10}, {5, 6, 2}, {6, 7, 1}, {6, 8, 6}, {7, 8, 7}};
 static int length[COUNT][COUNT], least[COUNT];
 
 int main(void)

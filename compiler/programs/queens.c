@@ -1,4 +1,5 @@
 /* How many ways there are to put n queens on a board of n by n, for n from 1 to 6; with bits, and recursive. */
+#include "input.h"
 #include "multiscalar.h"
 
 static unsigned ways(unsigned all, unsigned columns, unsigned left, unsigned right)
@@ -15,7 +16,7 @@ static unsigned ways(unsigned all, unsigned columns, unsigned left, unsigned rig
 
 int main(void)
 {
-    for (int size = 1; size <= 6; size++)
+    for (int size = 1; size <= INPUT(6, 5); size++)
         out(ways((1u << size) - 1, 0, 0, 0));
     return 0;
 }

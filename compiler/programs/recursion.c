@@ -1,4 +1,5 @@
 /* Ackermann's function, the towers of Hanoi, and two functions that call each other. */
+#include "input.h"
 #include "multiscalar.h"
 
 static unsigned ackermann(unsigned m, unsigned n)
@@ -33,9 +34,9 @@ static int is_odd(unsigned n)
 
 int main(void)
 {
-    out(ackermann(2, 6));
-    out(hanoi(7, 0, 2, 1));
+    out(ackermann(2, INPUT(6, 5)));
+    out(hanoi(INPUT(7, 6), 0, 2, 1));
     out(hash);
-    out(is_even(30) * 2 + is_odd(30));
+    out(is_even(INPUT(30, 41)) * 2 + is_odd(INPUT(30, 41)));
     return 0;
 }

@@ -1,4 +1,5 @@
 /* Sums a function of each number: rounds that need little of each other. */
+#include "input.h"
 #include "multiscalar.h"
 
 static unsigned mixed(unsigned value)
@@ -12,7 +13,7 @@ static unsigned mixed(unsigned value)
 int main(void)
 {
     unsigned sum = 0;
-    for (unsigned n = 1; n <= 200; n++)
+    for (unsigned n = 1; n <= INPUT(200, 163); n++)
         sum += mixed(mixed(n)) >> 4;
     out(sum);
     return 0;

@@ -1,7 +1,9 @@
 /* Finds a word in a text, letter by letter and by Horspool's method. */
+#include "input.h"
 #include "multiscalar.h"
 
-static const char text[] = "a task has one entry; a task may have many exits; where a task ends, the next task begins, and so the tasks follow each other";
+static const char text[] = INPUT("a task has one entry; a task may have many exits; where a task ends, the next task begins, and so the tasks follow each other",
+    "each unit of a ring has its own words of the registers, and each sends on to the next of the ring what its task has made; so tasks begin early");
 
 static int length_of(const char *word)
 {

@@ -1,4 +1,5 @@
 /* SHA-256 of "abc" and of a text of two blocks. */
+#include "input.h"
 #include "multiscalar.h"
 
 static const unsigned constants[64] = {
@@ -71,7 +72,7 @@ static void digest(const char *text)
 
 int main(void)
 {
-    digest("abc");
-    digest("abcdbcdecdefdefgefghfghighijhijkijkljklmklmnlmnomnopnopq");
+    digest(INPUT("abc", "multiscalar"));
+    digest(INPUT("abcdbcdecdefdefgefghfghighijhijkijkljklmklmnlmnomnopnopq", "a second text, which is also long enough for a second block"));
     return 0;
 }

@@ -1,7 +1,8 @@
 /* The sieve of Eratosthenes: how many primes there are below 2000, and their sum. */
+#include "input.h"
 #include "multiscalar.h"
 
-#define LIMIT 2000
+#define LIMIT INPUT(2000, 1700)
 
 static unsigned char composite[LIMIT];
 

@@ -1,4 +1,5 @@
 /* Words of 64 bits: products, quotients, shifts, comparisons. */
+#include "input.h"
 #include "multiscalar.h"
 
 typedef unsigned long long twice;
@@ -11,8 +12,8 @@ static void both(twice value)
 
 int main(void)
 {
-    volatile twice a = 0xFEDCBA9876543210ull, b = 0x123456789ull;
-    volatile long long c = -1234567890123ll, d = 98765;
+    volatile twice a = INPUT(0xFEDCBA9876543210ull, 0x0123456789ABCDEFull), b = INPUT(0x123456789ull, 0x98765ull);
+    volatile long long c = INPUT(-1234567890123ll, 99887766554433ll), d = INPUT(98765, -77);
     both(a * b);
     both(a / b);
     both(a % b);

@@ -5,12 +5,17 @@ out:
         out     $4
         jr      $31
 
-        .globl  halt
+# What main returns, or what exit is given, stands in $2 at the halt.
         .globl  exit
         .globl  _Exit
-halt:
 exit:
 _Exit:
+        move    $2,$4
+        halt
+
+        .globl  halt
+halt:
+        move    $2,$0
         halt
 
 # Ends the run with a trap.
