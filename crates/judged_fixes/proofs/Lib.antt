@@ -1,2 +1,3 @@
 pub mod Froms
 pub mod Starts
+pub mod Judging

@@ -25,6 +25,18 @@ pub enum Marks {
     Unread,
 }
 
+impl Marks {
+    ghost use Rattle.std.specs.Prelude.{◌≡◌, ◌↔◌, true};
+    ghost use Rattle.judged_fixes.specs.declared.judge.Marks.TheVariants.{Right};
+
+    /// Whether they are right.
+    pub fn are_right(self) -> bool
+        ensures { (result ≡ true) ↔ (self ≡ Right) }
+    {
+        matches!(self, Marks::Right)
+    }
+}
+
 /// Whether the marks of a text are right.
 ///
 /// # Errors

@@ -45,15 +45,14 @@ fn made(
         return Ok(None);
     }
     let new = mended(alloc, text, &proposal.edits)?;
-    let is_right = match marks_of(alloc, &new)? {
-        Marks::Right => true,
-        Marks::Wrong => false,
-        Marks::Unread => return Ok(None),
-    };
+    let marks = marks_of(alloc, &new)?;
+    if marks == Marks::Unread {
+        return Ok(None);
+    }
     Ok(Some(Fixed {
         text: Listed::new(new),
         fixes: proposal.fixes,
-        is_right,
+        is_right: marks.are_right(),
     }))
 }
 
