@@ -6,7 +6,7 @@ use Rattle.annotated_asm.specs.declared.fault.AsmFault.{AsmFault}
 use Rattle.annotated_asm.specs.ProgramText.{parse}
 use Rattle.annotator.specs.Least.{IsLeast}
 use Rattle.diagnostics.specs.declared.diagnostic.Diagnostic.{Diagnostic}
-use Rattle.text_diagnostics.specs.Refusals.{refusal}
+use Rattle.text_diagnostics.specs.Refusals.{IsTold}
 use Rattle.mark_diagnostics.specs.Errors.{AreMarkErrors}
 use Rattle.mark_diagnostics.specs.Warnings.{AreMarkWarnings}
 use Rattle.input_diagnostics.specs.declared.mistaken.Mistaken.{Mistaken}
@@ -54,10 +54,10 @@ pub record IsProgramExplained (cert_file script_file : Option (List ℕ)) (warni
   pub marked : e.has_wrong_marks ≡ not (is_silent errors)
   pub status : e.status ≡ said_status (errors ++ (beside ++ scripted))
 
--- The diagnostics for a text that spells no program: only what it is, if it begins as a certificate or a script of
--- events does.
+-- The diagnostics for a text that spells no program: the fault at which the assembler stops is among them; or only what it
+-- is, if it begins as a certificate or a script of events does.
 abbrev pub IsRefusedBy : Option Mistaken → (text : List ℕ) → AsmFault → List Diagnostic → Type 0
-IsRefusedBy None text fault said = said ≡ refusal text fault
+IsRefusedBy None text fault said = IsTold text fault said
 IsRefusedBy (Some kind) text fault said = (d : Diagnostic) × IsErrorIn Program 1 d × (said ≡ d ∷ [])
 
 pub record IsRefusedSaid (text : List ℕ) (fault : AsmFault) (e : Explanation) : Type 0 where

@@ -4,7 +4,6 @@ ghost use Rattle.std.specs.Option.{option_map};
 ghost use Rattle.std.specs.String.{string_bytes};
 ghost use Rattle.annotated_asm.specs.ProgramText.{parse};
 ghost use Rattle.annotator.specs.Least.{IsLeast};
-ghost use Rattle.text_diagnostics.specs.Refusals.{refusal};
 ghost use Rattle.input_diagnostics.specs.MistakenTexts.{mistaken_kind};
 ghost use Rattle.explain_report.specs.Beside.{IsCertificateSaid, is_silent};
 ghost use Rattle.explain_report.specs.Explained.{AreWarned, IsExplained, IsProgramExplained, IsRefusedBy, IsRefusedSaid, IsScriptSaid, said_status};

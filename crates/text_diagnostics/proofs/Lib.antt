@@ -1,4 +1,1 @@
-mod ToldFaults
 pub mod Refused
-pub mod NoDot
-pub mod NoEntries
