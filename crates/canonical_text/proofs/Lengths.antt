@@ -1,9 +1,10 @@
 -- A canonical text is shorter than the longest text that is read.
-use Rattle.std.proofs.Common.{◌≡◌, ℕ, suc, ◌+◌, ◌*◌, ◌<◌, ◌≤◌, ◌^◌, List, [], ◌∷◌, ◌++◌, Bool, true, false, Option, Some, None, length, map, arith, refl, ap, ◌∙◌, length-append}
+use Rattle.std.proofs.Common.{◌≡◌, ℕ, suc, ◌+◌, ◌*◌, ◌<◌, ◌≤◌, ◌^◌, List, [], ◌∷◌, ◌++◌, Bool, true, false, Option, Some, None, length, map, arith, ◌∙◌, length-append}
 use Rattle.std.specs.Prelude.{◌==◌, ℤ, pos, negsuc, find, filter, IfSome, codes}
 use Rattle.std.specs.List.{flat_map, AllByRecursion as All}
 use Rattle.std.specs.Fmt.{decimal, signed_decimal}
 use Rattle.std.proofs.lemmas.Bool.{cond_both}
+use Rattle.std.proofs.lemmas.List.{length-map}
 use Rattle.std.proofs.lemmas.List.Elements.{recursion_from_All}
 use Rattle.std.proofs.lemmas.Fmt.{length-decimal-le}
 use Rattle.mips_instructions.specs.Words.{has}
@@ -80,13 +81,9 @@ length-filter test [] = omega arith
 length-filter test (x ∷ xs) =
     cond_both (test x) (x ∷ filter test xs) (filter test xs) (λ (kept : List _). length kept ≤ length (x ∷ xs)) (λ _. omega (arith, length-filter test xs)) (λ _. omega (arith, length-filter test xs))
 
-length-mapped : {X Y : Type 0} (f : X → Y) (xs : List X) → length (map f xs) ≡ length xs
-length-mapped f [] = refl
-length-mapped f (x ∷ xs) = ap suc (length-mapped f xs)
-
 length-members : (set : ℕ) → length (map register_text (members set)) ≤ 34
 unfolding members
-length-members set = omega (arith, length-mapped register_text (members set), length-filter (has set) registers)
+length-members set = omega (arith, length-map (members set) register_text, length-filter (has set) registers)
 
 -- Lines.
 
@@ -111,7 +108,7 @@ length-op tasks o t h =
     omega (
       arith,
       few_operands o,
-      length-mapped (operand_text tasks) (operands o),
+      length-map (operands o) (operand_text tasks),
       length-spelled 136 (name_of o) (map (operand_text tasks) (operands o)) (is_named o) each,
     )
 
@@ -163,7 +160,7 @@ length-task tasks task all named within few =
       length-members task.create,
       length-listed 3 (map register_text (members task.create)) (length-registers (members task.create) (members_below task.create)),
       length-listed 32 (map (place_text tasks) task.targets) (length-places tasks task.targets all within),
-      length-mapped (place_text tasks) task.targets,
+      length-map task.targets (place_text tasks),
       length-append task.name (codes " create=" ++ (create ++ (codes " targets=" ++ (targets ++ 10 ∷ [])))),
       length-append create (codes " targets=" ++ (targets ++ 10 ∷ [])),
       length-append targets (10 ∷ []),

@@ -1,6 +1,5 @@
 pub mod CanonicalText
 pub mod Examples
-pub mod FirstTasks
 pub mod FaultText
 pub mod MarkedText
 pub mod MarksInTextExamples
