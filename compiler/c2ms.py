@@ -27,7 +27,7 @@ from names import fault_of, shown, shown_lines
 from refusal import Refused
 from tasks import POLICIES
 from releases import MODES
-from search import chosen
+from search import Trials, chosen
 from tool import Tool, ToolFailed
 from whole_file import NotPut, bits_for, put
 
@@ -148,15 +148,15 @@ def translate(words: argparse.Namespace) -> int:
     compiling = Compiling(words.gcc, words.level, words.folders, words.macros, words.flags, words.others)
     program = program_of(words.files, compiling, words.stack)
     names = " ".join(shown(Path(it).name) for it in words.files)
-    found = chosen(program, settings_of(words), tool, [f"Made by c2ms.py from {names}, {compiling.version()} -O{words.level}."])
+    head = [f"Made by c2ms.py from {names}, {compiling.version()} -O{words.level}."]
+    found = chosen(Trials(program, settings_of(words), tool, head))
     best = found.best
     put_out(words, best)
     if not words.quiet:
         say(best.summary())
         if best.last:
             say(found.speed_up_text())
-            by_rules = [it for it in found.choices if it.way.begins is None]
-            say(f"measured: {'; '.join(it.short() for it in by_rules)}; and {len(found.choices) - len(by_rules)} cuts that were searched")
+            say(f"measured: {found.measured()}")
     return run(words, tool, best) if words.run else 0
 
 

@@ -71,9 +71,6 @@ class Choice:
             return f"out of budget, {self.last.retired / self.last.steps:.2f} per step"
         return f"{self.last.steps} steps"
 
-    def short(self) -> str:
-        return f"{self.way}: {self.steps()}"
-
     def summary(self) -> str:
         on = f", {self.steps()} on {units_text(self.last.units)}" if self.last else ""
         return f"{self.instructions} instructions, {self.tasks} tasks ({self.way}){on}"
@@ -93,6 +90,13 @@ class Chosen:
     @property
     def best(self) -> Choice:
         return min(self.choices, key=lambda it: it.last.key if it.last else (0, 0))
+
+    def measured(self) -> str:
+        """The best of each policy, and how many texts there were in all."""
+        best: dict[str, Choice] = {}
+        for it in sorted(self.choices, key=lambda it: it.last.key if it.last else (0, 0)):
+            best.setdefault(it.way.policy, it)
+        return "; ".join(f"{it.way.policy} {it.steps()}" for it in best.values()) + f"; {len(self.choices)} texts in all"
 
     def speed_up(self) -> float | None:
         """How many times as fast the best is as the best cut on one unit."""

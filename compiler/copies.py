@@ -59,7 +59,7 @@ def calls_of(flow: Flow, program: Program) -> dict[int, Call]:
 def can_be_copied(flow: Flow, entry: int) -> bool:
     """Whether a function calls nothing, leaves only by returning, and is used by no address."""
     function = flow.functions[entry]
-    if function.tails or function.calls or entry in flow.by_address or not function.returns:
+    if function.tails or function.calls or entry in flow.by_address or not function.returns or "main" in flow.code[entry].labels:
         return False
     is_routine = entry in flow.routines
     back = ASSEMBLER if is_routine else LINK

@@ -59,9 +59,9 @@ class Trials:
         return choice.last.key if choice else (2, 0)
 
 
-def chosen(program: Program, settings: Settings, tool: Tool, head: list[str]) -> Chosen:
-    """The texts that were made, each accepted or never to be shown, and what they have to beat."""
-    trials = Trials(program, settings, tool, head)
+def chosen(trials: Trials) -> Chosen:
+    """The texts that were made, the best of them accepted, and what it has to beat."""
+    settings, tool = trials.settings, trials.tool
     codes = distinct_shapes(trials)
     ways = ways_by_rules(settings, codes)
     if len(ways) == 1 and settings.release != "auto" or settings.plain and len(ways) == 1:
@@ -101,11 +101,19 @@ def ways_by_rules(settings: Settings, codes: list[str]) -> list[Way]:
 def by_rules(trials: Trials, ways: list[Way]) -> list[Way]:
     """The best ways by rules: first where tasks begin, then, with the best of these, leaves and releases."""
     settings = trials.settings
-    best = sorted(ways, key=trials.key)[:BEGINS]
+    best = different(sorted(ways, key=trials.key))
     for leaves in ("own", "joined") if settings.leaves == "auto" and not settings.plain else ():
         for mode in MODES if settings.release == "auto" else (settings.release,):
             ways = ways + [Way(it.policy, leaves, mode, it.code) for it in best]
-    return sorted(dict.fromkeys(ways), key=trials.key)[:BEGINS]
+    return different(sorted(dict.fromkeys(ways), key=trials.key))
+
+
+def different(ways: list[Way]) -> list[Way]:
+    """The first ways that differ in where tasks begin, or in the code."""
+    found: dict[tuple[str, str], Way] = {}
+    for way in ways:
+        found.setdefault((way.policy, way.code), way)
+    return list(found.values())[:BEGINS]
 
 
 def rival(trials: Trials, codes: list[str], best: Choice) -> Choice:

@@ -300,7 +300,7 @@ def begin_worker(command: str, folder: str) -> None:
     WORKER.append(Trials(Tool(command), Path(tempfile.mkdtemp(dir=folder))))
 
 
-def result_of(trial: Trial) -> str:
+def trial_result(trial: Trial) -> str:
     try:
         return WORKER[0].result(trial)
     except SystemExit as failed:
@@ -316,7 +316,7 @@ def tried(wanted: list[Trial], command: str, workers: int, end: float) -> Iterat
         while waiting or running:
             while waiting and len(running) < 2 * workers and time.monotonic() < end:
                 trial = waiting.pop()
-                running[pool.submit(result_of, trial)] = trial
+                running[pool.submit(trial_result, trial)] = trial
             if not running:
                 return
             for future in wait(running, return_when=FIRST_COMPLETED).done:
