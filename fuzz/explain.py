@@ -333,9 +333,16 @@ def all_changed(text, results):
     return with_changes(text, reversed(changes))
 
 
-def right_line(fixes):
-    """What the text says last where so many fixes make the marks right."""
-    return f"with {'this fix' if fixes == 1 else f'these {fixes} fixes'} the marks are right"
+def right_line(results):
+    """What the text says last where the fixes of these results make the marks right."""
+    errors = [it for it in results if it["level"] == "error"]
+    fixes = [it for it in errors if it["fixes"]]
+    if len(fixes) == len(errors):
+        which = "this fix" if len(fixes) == 1 else f"these {len(fixes)} fixes"
+    else:
+        lines = [str(it) for it in dict.fromkeys(region_of(it["locations"][0])[0] for it in fixes)]
+        which = f"the fix of line {lines[0]}" if len(lines) == 1 else f"the fixes of lines {', '.join(lines[:-1])} and {lines[-1]}"
+    return f"with {which} the marks are right"
 
 
 STOP = re.compile(r"(?:put !s[tn]?|write !s in place of !s[tn]?) on line (\d+)(?: and write targets=\S+)?, where ")
@@ -515,7 +522,7 @@ class Bench:
             are_right = False
         self.counts["texts that all fixes mend"] += are_right
         last = self.explain(text, "--no-warnings")[0].split("\n")[-2:][0]
-        if mends != are_right or (last == right_line(len(fixes))) != are_right:
+        if mends != are_right or (are_right and last != right_line(results)) or (not are_right and last.endswith(" the marks are right")):
             return f"{len(fixes)} fixes together: {mends}, {last!r}:\n{after}"
 
     def wrong_certificate(self, text, program, said):

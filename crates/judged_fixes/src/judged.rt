@@ -41,7 +41,7 @@ fn made(
     requires { All (IsProposed text.now said.now) proposal.now.edits.items }
     ensures { IfOk result (λ found. IfSome found (IsFixed text.now said.now)) }
 {
-    if proposal.fixes == 0 {
+    if proposal.from.is_empty() {
         return Ok(None);
     }
     let new = mended(alloc, text, &proposal.edits)?;
@@ -51,7 +51,7 @@ fn made(
     }
     Ok(Some(Fixed {
         text: Listed::new(new),
-        fixes: proposal.fixes,
+        fixes: proposal.from.len(),
         is_right: marks.are_right(),
     }))
 }
@@ -113,6 +113,29 @@ fn tell_all_in_words(alloc: Global, errors: &mut Vec<Diagnostic>, places: &[usiz
     }
 }
 
+// The places of the errors whose fix is not among those from these places.
+fn left_out(
+    alloc: Global,
+    errors: &[Diagnostic],
+    from: &[usize],
+) -> Result<Vec<usize>, AllocError> {
+    let mut left = Vec::new(alloc);
+    for (place, error) in errors.iter().enumerate() {
+        if has_fix(error) && !from.contains(&place) {
+            left.push(place)?;
+        }
+    }
+    Ok(left)
+}
+
+// Whether a text with fixes is right.
+fn is_right(fixed: &Option<Fixed>) -> bool {
+    match fixed {
+        Some(fixed) => fixed.is_right,
+        None => false,
+    }
+}
+
 /// Judges the fixes that the errors of a program's marks propose: all of them together, and where that does not make the
 /// marks right, some of them alone, of which those are made that make their error go.
 ///
@@ -131,14 +154,16 @@ pub fn judge_fixes(
     ensures fixed { IfOk result (λ judged. IfSome judged.fixed (IsFixed text.now errors.items)) }
 {
     let all = proposal(alloc, text, &errors, None)?;
-    if all.fixes == 0 {
+    if all.from.is_empty() {
         return Ok(Judged {
             errors,
             fixed: None,
         });
     }
     let together = made(alloc, text, &errors, &all)?;
-    if together.as_ref().is_some_and(|fixed| fixed.is_right) {
+    if is_right(&together) {
+        let left = left_out(alloc, &errors, &all.from)?;
+        tell_all_in_words(alloc, &mut errors, &left);
         return Ok(Judged {
             errors,
             fixed: together,
@@ -148,6 +173,11 @@ pub fn judge_fixes(
     let tried = try_each(alloc, text, &errors, &findings.0)?;
     let some = proposal(alloc, text, &errors, Some(&tried.good))?;
     let fixed = made(alloc, text, &errors, &some)?;
-    tell_all_in_words(alloc, &mut errors, &tried.bad);
+    let left = if is_right(&fixed) {
+        left_out(alloc, &errors, &some.from)?
+    } else {
+        tried.bad
+    };
+    tell_all_in_words(alloc, &mut errors, &left);
     Ok(Judged { errors, fixed })
 }
