@@ -27,7 +27,7 @@ use Rattle.processor_steps.specs.Processors.{QueueView, ProcessorView, state_of,
 use Rattle.processor_steps.proofs.Queues.{changed}
 use Rattle.open_machine.specs.Instructions.{IsAt}
 use Rattle.open_machine.specs.Executions.{Executes, ExecutesAt}
-use Rattle.open_machine.specs.declared.instruction.Next.{Next}
+use Rattle.unit_core.specs.declared.step.Next.{Next}
 
 -- a unit that begins is the one that the model starts
 pub begins_started : (p : Listing) (s : State) (words : List ℕ) (accum t : ℕ) (u : UnitView) → ((r : ℕ) → has accum r ≡ is_reserved p s.queue r) → s.regs ≡ (λ r. slice_index words r) → u.task ≡ t → u.serial ≡ s.assigns → u.place ≡ Inside (task_at p t).entry → arrived_of u.port ≡ arrived_fresh words accum → sent_of u.port ≡ no_pairs → pairs u.local ≡ no_pairs → u.log ≡ [] → active_of u ≡ started p s t
