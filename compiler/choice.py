@@ -126,6 +126,7 @@ class Shape:
             with_inductions_first(self.program)
             with_blocks_in_order(self.program)
         self.tool = tool
+        self.flow = Flow(self.program)
         # The labels of basic blocks, as often as the program came there.
         self.trace: list[str] | None = None
 
@@ -139,7 +140,7 @@ class Shape:
     def run_in_order(self) -> list[str]:
         """What the run on one unit tells. Each place gets a label, so that it is known again between releases."""
         program = self.program.copied()
-        made = divided(program, Way("blocks", "own", "none"))
+        made = divided(program, Way("blocks", "own", "none"), self.flow.of_copy(program))
         for task in made.tasks:
             label = label_at(program, task.entry)
             if task.entry < len(self.program.code) and not self.program.code[task.entry].labels:
@@ -149,17 +150,18 @@ class Shape:
         return [label_of[it] for it in self.tool.tasks_in_order(marked(writer, self.tool))]
 
 
-def divided(program: Program, way: Way) -> Cut:
-    """Cuts a program; jumps with too many places become trees, and releases are put in."""
+def divided(program: Program, way: Way, flow: Flow) -> Cut:
+    """Cuts a program of this flow; jumps with too many places become trees, and releases are put in."""
     for index in way.begins or ():
         program.code[index].begins_task = True
     policy = "calls" if way.begins is not None else way.policy
     while True:
-        made = cut(Flow(program), policy, way.leaves == "joined")
+        made = cut(flow, policy, way.leaves == "joined")
         wide = wide_jumps(made)
         if not wide:
             break
         spread(program, made.flow, wide)
+        flow = Flow(program)
     if way.release != "none":
         program.code = with_releases(made, way.release)
         made = cut(Flow(program), policy, way.leaves == "joined")
@@ -176,7 +178,7 @@ def written(shape: Shape, way: Way, tool: Tool, head: list[str], is_plain: bool)
     if not is_plain and shape.trace is None:
         shape.trace = shape.run_in_order()
     program = shape.program.copied()
-    made = divided(program, way)
+    made = divided(program, way, shape.flow.of_copy(program))
     about = [*head, f"Tasks: {way}. This translation is not proved; `multiscalar check` judges its marks."]
     writer = Writer(program, made, about)
     if not is_plain:

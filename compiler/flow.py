@@ -1,5 +1,6 @@
 """Where control goes: functions, where each returns to, jumps through registers, loops."""
 
+from copy import copy
 from dataclasses import dataclass, field
 
 from instructions import ASSEMBLER, LINK, Instruction
@@ -31,6 +32,12 @@ class Flow:
         self.routines = {self.at(it.destination) for it in self.code if it.comes_back}
         self.functions: dict[int, Function] = {}
         self.find_functions()
+
+    def of_copy(self, program: Program) -> "Flow":
+        """The same flow, of a copy of the program."""
+        made = copy(self)
+        made.program, made.code = program, program.code
+        return made
 
     def at(self, label: str) -> int:
         return self.index_of[label]

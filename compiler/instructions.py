@@ -97,9 +97,8 @@ class Instruction:
     # A jump that calls a run-time routine: the label where that comes back to.
     comes_back: str = ""
 
-    @property
-    def form(self) -> str:
-        return FORM_OF[self.name]
+    def __post_init__(self) -> None:
+        self.form = FORM_OF[self.name]
 
     @property
     def writes(self) -> tuple[int, ...]:

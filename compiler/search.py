@@ -150,7 +150,7 @@ class Climber:
 
     def __init__(self, trials: Trials, way: Way, chance: random.Random) -> None:
         self.trials, self.chance = trials, chance
-        flow = Flow(trials.shape(way.code).program)
+        flow = trials.shape(way.code).flow
         begins = way.begins if way.begins is not None else frozenset(heads(flow, way.policy))
         self.now = Way("searched", way.leaves, way.release, way.code, begins)
         self.best = trials.key(way)

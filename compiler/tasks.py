@@ -34,9 +34,16 @@ class Cut:
     # Calls that do not end the task: it goes on into the function, to its return.
     joined: set[int]
     tasks: list[Task] = field(default_factory=list)
+    # Stop bits that are known, as long as tasks begin where they do.
+    stops: dict[int, str] = field(default_factory=dict)
 
     def stop_of(self, index: int) -> str:
         """The stop bit of an instruction: every edge to where a task begins ends the task."""
+        if index not in self.stops:
+            self.stops[index] = self.found_stop(index)
+        return self.stops[index]
+
+    def found_stop(self, index: int) -> str:
         it = self.flow.code[index]
         if it.form in ("jump_register", "jump_link_register"):
             return "!s"
@@ -171,6 +178,7 @@ def divide(made: Cut) -> None:
         if not more:
             return
         made.entries |= more
+        made.stops.clear()
 
 
 def places_inside(made: Cut, task: Task) -> set[int]:
