@@ -150,7 +150,7 @@ pub enum Why {
 }
 
 /// Steps, one after the other, in which a unit waits for one reason.
-#[derive(Clone, Copy, Debug)]
+#[derive(Clone, Copy, Debug, PartialEq, Eq)]
 pub struct Wait {
     /// The number of the unit.
     pub unit: u32,

@@ -1,6 +1,6 @@
 //! Why units wait: the waits of a run, unit by unit, those in steps one after the other together.
 
-ghost use Rattle.std.specs.Prelude.{◌≡◌, ◌++◌, [], ◌∷◌, IfOk, IfSome, OnOk, flat_map};
+ghost use Rattle.std.specs.Prelude.{◌≡◌, ◌++◌, IfOk, IfSome, OnOk, flat_map};
 ghost use Rattle.std.specs.List.{range_with_len};
 ghost use Rattle.step_picture.specs.Strips.{each_step, option_list, wait_on as wait_on_unit, waits_on, why_of as why_of_reason};
 
@@ -26,61 +26,74 @@ fn push_strips(strips: &mut Vec<Wait>, unit: u32, waits: &[Waiting]) -> Result<(
 {
     let mut current: Option<Wait> = None;
     for waiting in waits {
-        if let Some(next) = wait_on(unit, waiting) {
-            let before = current;
-            current = Some(push_unless_joined(strips, before, next)?);
+        let before = current;
+        current = with_next(strips, before, wait_on(unit, waiting))?;
+    }
+    match current {
+        None => Ok(()),
+        Some(last) => {
+            strips.push(last)?;
+            Ok(())
         }
     }
-    if let Some(last) = current {
-        strips.push(last)?;
-    }
-    Ok(())
 }
 
-/// A wait together with the one before it, if they go together; else, after that one is added, the wait itself.
-fn push_unless_joined(
+/// The wait that goes on: the next one, if there is any, together with the one before it, if they go together. Else the one
+/// before it is added.
+fn with_next(
     strips: &mut Vec<Wait>,
     before: Option<Wait>,
-    next: Wait,
-) -> Result<Wait, AllocError>
-    ensures { IfOk result (λ current. flat_map each_step strips.new.items ++ each_step current
-        ≡ flat_map each_step strips.old.items ++ (flat_map each_step (option_list before) ++ each_step next)) }
+    next: Option<Wait>,
+) -> Result<Option<Wait>, AllocError>
+    ensures { IfOk result (λ current. flat_map each_step strips.new.items ++ flat_map each_step (option_list current)
+        ≡ flat_map each_step strips.old.items ++ (flat_map each_step (option_list before) ++ flat_map each_step (option_list next))) }
 {
+    let Some(next) = next else {
+        return Ok(before);
+    };
     let Some(before) = before else {
-        return Ok(next);
+        return Ok(Some(next));
     };
     match joined(before, next) {
-        Some(both) => Ok(both),
+        Some(both) => Ok(Some(both)),
         None => {
             strips.push(before)?;
-            Ok(next)
+            Ok(Some(next))
         }
     }
 }
 
 /// Two waits as one, if the second is of the next step, of the same task of the same unit, and for the same reason.
+#[tactic(auto, using(crate::proofs::Joining::joined_steps))]
 fn joined(before: Wait, next: Wait) -> Option<Wait>
     ensures { IfSome result (λ both. each_step both ≡ each_step before ++ each_step next) }
 {
-    if before.unit == next.unit
-        && before.task == next.task
-        && before.why == next.why
-        && next.count == 1
-        && before.count < u32::MAX
-        && u64::from(next.step) == u64::from(before.step) + u64::from(before.count)
-    {
-        return Some(Wait {
+    let step = u64::from(before.step) + u64::from(before.count);
+    if u64::from(next.step) != step {
+        return None;
+    }
+    if before.count == u32::MAX {
+        return None;
+    }
+    let expected = Wait {
+        step: next.step,
+        count: 1,
+        ..before
+    };
+    if expected == next {
+        Some(Wait {
             count: before.count + 1,
             ..before
-        });
+        })
+    } else {
+        None
     }
-    None
 }
 
 /// What keeps a unit waiting in a step, if this wait is its own and anything does.
 fn wait_on(unit: u32, waiting: &Waiting) -> Option<Wait>
     ensures value { result ≡ wait_on_unit unit waiting.now }
-    ensures step { IfSome result (λ wait. each_step wait ≡ wait ∷ []) }
+    ensures step { flat_map each_step (option_list result) ≡ option_list result }
 {
     if waiting.unit != unit {
         return None;
