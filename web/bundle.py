@@ -63,9 +63,6 @@ def bundled(root):
                 sys.exit(f'bundle.py: {it} is a name of {owners[it]} and of {name}')
             owners[it] = name
         parts.append(re.sub(r'^export ', '', IMPORT.sub('', text), flags=re.M).strip())
-    left = set(path.name for path in (HERE / 'source').glob('*.js')) - set(name for name, _ in ordered(root))
-    if left:
-        sys.exit(f'bundle.py: no module needs {sorted(left)}')
     return '\n\n'.join(parts)
 
 
@@ -78,15 +75,23 @@ def example(path, title):
     return {'title': title, 'text': (EXAMPLES / path).read_text(), 'scripts': scripts}
 
 
+def check_used(*roots):
+    left = {path.name for path in (HERE / 'source').glob('*.js')} - {name for root in roots for name, _ in ordered(root)}
+    if left:
+        sys.exit(f'bundle.py: no module needs {sorted(left)}')
+
+
 def embedded(script, module):
     examples = {path.removesuffix('/program.s').removesuffix('.s'): example(path, title) for path, title in CHOSEN.items()}
     packed = base64.b64encode(gzip.compress(module, 9, mtime=0)).decode()
     script = script.replace('{/* the examples */}', json.dumps(examples))
     script = script.replace('[/* the exercises */]', json.dumps(json.loads((HERE / 'exercises.json').read_text())))
+    script = script.replace("'/* the worker */'", json.dumps(bundled('worker.js')))
     return script.replace('/* the module */', packed).replace('</script', '<\\/script')
 
 
 def main(module, page):
+    check_used('main.js', 'worker.js')
     script = embedded(bundled('main.js'), pathlib.Path(module).read_bytes())
     text = (HERE / 'page.html').read_text()
     text = text.replace('/* the style */', (HERE / 'style.css').read_text().strip()).replace('/* the script */', script)

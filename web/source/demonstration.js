@@ -54,8 +54,9 @@ function toldOf(jobs, program, { events, sentence }) {
 }
 
 export class Demonstration {
-  constructor(jobs, editor) {
+  constructor(jobs, editor, patience) {
     this.jobs = jobs;
+    this.patience = patience;
     this.editor = editor;
     this.program = null; // the text of which something is shown
     find('demonstrate').addEventListener('click', () => this.look());
@@ -78,6 +79,10 @@ export class Demonstration {
     this.show(LOOKING, []);
     announce(LOOKING.sentence);
     await new Promise(done => setTimeout(done, 30));
+    this.patience.do('look', () => this.found(program));
+  }
+
+  found(program) {
     if (this.program !== program) return;
     const shown = readDemonstration(this.jobs.demonstrate(program, EVERYWHERE).text);
     this.show(shown, toldOf(this.jobs, program, shown));

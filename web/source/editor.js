@@ -1,7 +1,13 @@
 // The program text: a text area over a copy of it in which findings and places are marked.
 
-import { announce, find, make, plural, put } from './elements.js';
+import { announce, find, make, plural, put, say } from './elements.js';
 import { applyEdits, nameOf } from './findings.js';
+import { LONG } from './jobs.js';
+
+// Of a text with more lines only those around what is seen are painted.
+const MOST_PAINTED = 1200;
+const PAINTED_AROUND = 150;
+const PAUSE = 900;
 
 function rangesOf(finding, kind) {
   return finding.place ? [{ ...finding.place, kind, number: finding.number }] : [];
@@ -57,6 +63,7 @@ export class Editor {
     this.mayHelp = true; // not in an exercise before a hint is asked for: findings then say what is wrong alone
     this.pointed = null; // a line that a table or a sentence names
     this.isTyping = false; // whether the arrow keys move in the text; after a click they step the run until one types
+    this.first = 0; // how many lines stand before the first that is painted
     let waiting;
     this.area.addEventListener('input', () => {
       this.hideBubble();
@@ -64,8 +71,11 @@ export class Editor {
       this.isTyping = true;
       this.paint();
       clearTimeout(waiting);
-      waiting = setTimeout(changed, 120);
+      const isLong = this.text.length > LONG;
+      say(find('judging'), isLong ? 'A long text: it is judged once you pause.' : '');
+      waiting = setTimeout(changed, isLong ? PAUSE : 120);
     });
+    find('editor').addEventListener('scroll', () => this.scrolled());
     this.area.addEventListener('focus', () => { this.isTyping = true; });
     this.area.addEventListener('click', () => this.clicked());
     this.area.addEventListener('keydown', event => this.key(event));
@@ -106,35 +116,43 @@ export class Editor {
     this.isTyping = false;
   }
 
-  // Marks a line, and scrolls to it; null marks none. Answers the line, if there is one.
-  mark(number) {
-    this.pointed = number;
-    this.paint();
-    const line = find('marked').children[number - 1];
-    if (!line) return null;
-    const { clientHeight } = find('editor');
-    find('editor').scrollTop = line.offsetTop - (clientHeight - line.offsetHeight) / 2;
-    return line;
+  get rowHeight() {
+    return parseFloat(getComputedStyle(this.area).lineHeight);
   }
 
-  // Takes another text, which the browser can undo; what had the focus keeps it.
-  replace(text) {
-    const held = document.activeElement;
-    this.chosen = null;
-    this.pointed = null;
-    this.hideBubble();
-    this.retype(text.replaceAll('\r\n', '\n'));
-    if (held !== this.area) held?.focus();
+  // Where a line begins, from the top of the text.
+  topOf(number) {
+    return parseFloat(getComputedStyle(this.area).paddingTop) + (number - 1) * this.rowHeight;
+  }
+
+  // The element of a line, if it is painted.
+  lineAt(number) {
+    return find('marked').children[number - 1 - this.first] ?? null;
+  }
+
+  scrollToLine(number) {
+    const place = find('editor');
+    place.scrollTop = this.topOf(number) - (place.clientHeight - this.rowHeight) / 2;
+    this.scrolled();
   }
 
   // Scrolls to a line, if it is not seen.
   follow(number) {
-    const line = find('marked').children[number - 1];
-    if (!line) return;
+    if (!number) return;
     const place = find('editor');
-    const margin = Math.min(2 * line.offsetHeight, place.clientHeight / 4);
-    const isSeen = line.offsetTop - margin >= place.scrollTop && line.offsetTop + line.offsetHeight + margin <= place.scrollTop + place.clientHeight;
-    if (!isSeen) place.scrollTop = line.offsetTop - (place.clientHeight - line.offsetHeight) / 2;
+    const top = this.topOf(number);
+    const margin = Math.min(2 * this.rowHeight, place.clientHeight / 4);
+    const isSeen = top - margin >= place.scrollTop && top + this.rowHeight + margin <= place.scrollTop + place.clientHeight;
+    if (!isSeen) this.scrollToLine(number);
+  }
+
+  // Marks a line, and scrolls to it; null marks none. Answers the line, if there is one.
+  mark(number) {
+    this.pointed = number;
+    this.paint();
+    if (!number) return null;
+    this.scrollToLine(number);
+    return this.lineAt(number);
   }
 
   // Marks a line, and reads it out.
@@ -155,12 +173,43 @@ export class Editor {
     this.paint();
   }
 
+  // The lines that are painted: all, or those around what is seen.
+  windowOf(count) {
+    if (count <= MOST_PAINTED) return { first: 0, last: count };
+    const place = find('editor');
+    const first = Math.floor(place.scrollTop / this.rowHeight) - PAINTED_AROUND;
+    const last = first + 2 * PAINTED_AROUND + Math.ceil(place.clientHeight / this.rowHeight);
+    return { first: Math.max(0, Math.min(first, count - 1)), last: Math.min(count, Math.max(last, 1)) };
+  }
+
   paint() {
     const lines = this.text.split('\n');
+    const { first, last } = this.windowOf(lines.length);
     const ranges = [...noteRanges(this.chosen), ...this.findings.flatMap(it => rangesOf(it, it.level === 'warning' ? 'warning' : 'error'))];
     const seats = number => this.units.get(number) ?? [];
-    put(find('marked'), lines.map((line, at) => markedLine(line, ranges.filter(it => it.line === at + 1), this.kindsOf(at + 1))));
-    put(find('gutter'), lines.map((_, at) => gutterLine(at + 1, seats(at + 1), this.head)));
+    const numbers = Array.from({ length: last - first }, (_, at) => first + at + 1);
+    this.first = first;
+    this.count = lines.length;
+    put(find('marked'), numbers.map(it => markedLine(lines[it - 1], ranges.filter(range => range.line === it), this.kindsOf(it))));
+    put(find('gutter'), numbers.map(it => gutterLine(it, seats(it), this.head)));
+    this.fill(lines, first, last);
+  }
+
+  // Leaves room for the lines that are not painted.
+  fill(lines, first, last) {
+    const isWhole = lines.length <= MOST_PAINTED;
+    for (const id of ['marked', 'gutter']) {
+      find(id).style.paddingTop = isWhole ? '' : `${this.topOf(first + 1)}px`;
+      find(id).style.paddingBottom = isWhole ? '' : `calc(4rem + ${(lines.length - last) * this.rowHeight}px)`;
+    }
+    find('marked').style.minWidth = isWhole ? '' : `${lines.reduce((most, it) => Math.max(most, it.length), 0) + 8}ch`;
+  }
+
+  scrolled() {
+    if (!(this.count > MOST_PAINTED)) return;
+    const { first, last } = this.windowOf(this.count);
+    const isFar = Math.abs(first - this.first) > PAINTED_AROUND / 2 || last - this.first > find('marked').children.length + PAINTED_AROUND / 2;
+    if (isFar) this.paint();
   }
 
   choose(finding) {
@@ -190,11 +239,14 @@ export class Editor {
     const close = make('button', { class: 'close', 'aria-label': 'Close', onclick: () => this.hideBubble() }, '×');
     put(bubble, findingBody(chosen, this), close);
     bubble.hidden = false;
+    this.scrolled();
     bubble.style.left = `${find('editor').scrollLeft + 8}px`;
     bubble.style.width = `${Math.min(540, find('editor').clientWidth - find('gutter').offsetWidth - 16)}px`;
-    const line = find('marked').children[chosen.place.line - 1];
-    bubble.style.top = `${line.offsetTop + line.offsetHeight + 4}px`;
-    find('editor').scrollTop = Math.max(find('editor').scrollTop, line.offsetTop + line.offsetHeight + bubble.offsetHeight + 12 - find('editor').clientHeight);
+    const below = this.topOf(chosen.place.line + 1);
+    bubble.style.top = `${below + 4}px`;
+    const place = find('editor');
+    if (below > place.scrollTop + place.clientHeight || below < place.scrollTop) this.scrollToLine(chosen.place.line);
+    place.scrollTop = Math.max(place.scrollTop, below + bubble.offsetHeight + 12 - place.clientHeight);
   }
 
   applyFix(finding) {
@@ -204,7 +256,7 @@ export class Editor {
 }
 
 // A finding in words: the sentence, its notes, the help, and a button where the help is exact and may be applied.
-export function findingBody(finding, editor) {
+function findingBody(finding, editor) {
   const where = finding.place ? `Line ${finding.place.line}: ` : '';
   const notes = finding.notes.map(it => make('p', { class: 'note' }, it.place ? `Line ${it.place.line}: ${it.sentence}` : it.sentence));
   const path = finding.path.length > 1 ? make('p', { class: 'note' }, `Path: ${finding.path.map(it => it.line).join(' → ')}`) : null;

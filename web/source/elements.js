@@ -43,6 +43,11 @@ export function plural(count, word) {
   return `${count} ${word}${count === 1 ? '' : 's'}`;
 }
 
+// Writes a sentence that a screen reader reads out; the same one is not written again.
+export function say(place, sentence) {
+  if (place.textContent !== sentence) place.textContent = sentence;
+}
+
 // Says something once to a screen reader.
 export function announce(sentence) {
   find('announcement').textContent = sentence;

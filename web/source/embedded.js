@@ -2,6 +2,9 @@
 
 const PACKED_MODULE = '/* the module */';
 
+// The script of the worker.
+export const WORKER = '/* the worker */';
+
 // Each example has a text, a title, and scripts of events.
 export const EXAMPLES = {/* the examples */};
 

@@ -99,7 +99,6 @@ export class Exercises {
   answer(name, value) {
     this.work.answers[name] = value;
     this.work.isTouched = this.work.isOwn = true;
-    this.check();
     this.keep();
     this.answered?.();
   }
@@ -111,8 +110,8 @@ export class Exercises {
     const isChanged = text !== work.text || script.join() !== work.script.join();
     if (isChanged) work.isTouched = work.isOwn = true;
     Object.assign(work, { text, script });
-    this.check();
     if (isChanged) this.keep();
+    this.check();
   }
 
   get name() {
@@ -162,12 +161,20 @@ export class Exercises {
 
   check() {
     const reached = this.reachedOf(this.number);
-    put(find('goals'), this.exercise.goals.map((goal, at) => goalRow(goal, reached[at], standingOf(goal, this.judged(this.number)))));
+    this.showGoals(this.exercise.goals.map((goal, at) => goalRow(goal, reached[at], standingOf(goal, this.judged(this.number)))));
     const isSolved = this.exercise.goals.every((goal, at) => goal.isFurther || reached[at]);
     find('solved').hidden = !isSolved;
     if (isSolved && !this.work.wasSolved) announce(`Exercise ${this.number} is solved.`);
     this.work.wasSolved = isSolved;
     this.markChoices();
+  }
+
+  // Only the goals that change are written, so that a screen reader reads these alone.
+  showGoals(rows) {
+    const place = find('goals');
+    if (place.children.length !== rows.length) return put(place, rows);
+    rows.forEach((row, at) => place.children[at].outerHTML === row.outerHTML || place.children[at].replaceWith(row));
+    return undefined;
   }
 
   // Says in the list of exercises which are solved, by checking all that were worked on.

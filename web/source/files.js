@@ -1,6 +1,6 @@
 // A program from a file: chosen, or dropped on the page.
 
-import { announce, find } from './elements.js';
+import { find, say } from './elements.js';
 
 const MOST_BYTES = 4_000_000;
 
@@ -36,15 +36,14 @@ export class Files {
   async take(file) {
     if (!file) return;
     find('file').value = '';
-    if (file.size > MOST_BYTES) return this.say(`${file.name} is too large for a program: it has ${file.size} bytes.`);
+    if (file.size > MOST_BYTES) return this.tell(`${file.name} is too large for a program: it has ${file.size} bytes.`);
     const text = await file.text();
-    if (text.includes('\0')) return this.say(`${file.name} is no text.`);
-    this.say('');
+    if (text.includes('\0')) return this.tell(`${file.name} is no text.`);
+    this.tell('');
     this.opened(text, file.name);
   }
 
-  say(sentence) {
-    find('file-fault').textContent = sentence;
-    if (sentence) announce(sentence);
+  tell(sentence) {
+    say(find('file-fault'), sentence);
   }
 }

@@ -1,7 +1,7 @@
 // A schedule by hand: the events that the machine allows now, to click; those that it refuses, with the reason.
 
-import { announce, copy, download, find, make, put } from './elements.js';
-import { answerTo, registerName } from './asking.js';
+import { copy, download, find, make, put, say } from './elements.js';
+import { registerName } from './asking.js';
 import { refusalName, refusalSentence } from './sentences.js';
 
 // Refusals that teach nothing: the event makes no sense where the unit stands.
@@ -70,12 +70,12 @@ export class Hand {
     this.script = script;
     if (find('script').value.trimEnd() !== this.text.trimEnd()) find('script').value = this.text;
     find('undo').disabled = find('restart').disabled = script.length === 0;
-    find('refusal').textContent = '';
+    say(find('refusal'), '');
   }
 
   // Says why a script cannot be read, and opens it to be mended.
   sayFault(sentence) {
-    find('refusal').textContent = sentence;
+    say(find('refusal'), sentence);
     find('script-details').open = true;
   }
 
@@ -107,9 +107,7 @@ export class Hand {
 
   refusedButton(event) {
     const why = () => {
-      const said = refusalText(event);
-      find('refusal').textContent = said;
-      announce(said);
+      say(find('refusal'), refusalText(event));
     };
     return make('button', { class: 'is-refused', 'data-key': `hand-${event.line}`, onclick: why },
       make('code', {}, event.line), make('small', {}, `${event.answer.code} ${event.answer.name}`));

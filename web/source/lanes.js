@@ -11,7 +11,7 @@ const MOST_COLUMNS = 260;
 const SIGNS = { assign: '▸', exec: '•', transfer: '↓', drain: '↑', squash: '✕', retire: '✓', drop: '–', fault: '!' };
 
 // The columns that are shown: all, or those around the one that is meant.
-export function windowOf(count, current) {
+function windowOf(count, current) {
   if (count <= MOST_COLUMNS) return { first: 1, last: count };
   const first = Math.max(1, Math.min(current - (MOST_COLUMNS >> 1), count - MOST_COLUMNS + 1));
   return { first, last: first + MOST_COLUMNS - 1 };
@@ -57,6 +57,17 @@ function cursor(column, shown, units) {
   return draw('rect', { x: LEFT + (column - shown.first) * COLUMN - 1, y: 2, width: COLUMN, height: TOP + units * ROW, class: 'cursor' });
 }
 
+const MOST_LIVES = 80;
+
+// The lanes in words: for each unit its tasks, from which column to which, and what became of them.
+function describeLanes(lives, columnOf, count, units) {
+  const few = lives.slice(0, MOST_LIVES);
+  const ofUnit = seat => few.filter(it => it.seat === seat).map(it => `${it.task} from ${columnOf(it.from)} to ${columnOf(it.to ?? count)}, ${it.fate}`).join('; ');
+  const said = Array.from({ length: units }, (_, seat) => `Unit ${seat}: ${ofUnit(seat) || 'nothing'}.`).join(' ');
+  const more = lives.length > few.length ? ` And ${lives.length - few.length} tasks more.` : '';
+  return `Lanes. ${said}${more} The list of events says what each did.`;
+}
+
 // Draws the lanes of a history. `columnOf` is the step of an event, or its number.
 function drawLanes({ states, lives }, columnOf, current, choose, zoom) {
   const count = states.length - 1;
@@ -68,7 +79,7 @@ function drawLanes({ states, lives }, columnOf, current, choose, zoom) {
   const bars = lives.map(life => bar(life, columnOf(life.from), columnOf(life.to ?? count), shown));
   const signs = lives.flatMap(life => signsOf(life, columnOf, shown, choose));
   const parts = [current ? cursor(columnOf(current), shown, units) : null, ...bars, ...signs, ...ruler(shown, units)];
-  const label = 'Lanes: what each unit does over time. The list of events has it in words.';
+  const label = describeLanes(lives, columnOf, count, units);
   return draw('svg', { width: width * zoom, height: height * zoom, viewBox: `0 0 ${width} ${height}`, role: 'img', 'aria-label': label }, parts);
 }
 

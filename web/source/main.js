@@ -3,7 +3,7 @@
 import { Compare } from './compare.js';
 import { Demonstration } from './demonstration.js';
 import { Editor, showFindings, verdictOf } from './editor.js';
-import { copy, download, find, make } from './elements.js';
+import { copy, download, find, make, say } from './elements.js';
 import { EXAMPLES, EXERCISES, moduleBytes } from './embedded.js';
 import { Exercises } from './exercises.js';
 import { Files } from './files.js';
@@ -14,21 +14,26 @@ import { Keys } from './keys.js';
 import { Lecture } from './lecture.js';
 import { readLink, writeLink } from './link.js';
 import { startModule } from './module.js';
+import { Patience } from './patience.js';
 import { savePng, saveSvg } from './picture.js';
 import { Proposal } from './proposal.js';
 import { makeReplay, makeRun, readSettings, writeSettings } from './runner.js';
 import { lineOfEvent, seatsByLine, Stage } from './stage.js';
 import { Tabs } from './tabs.js';
 
+// Longer addresses are cut by mail and by forms.
+const MOST_LINK = 60000;
+
 class Page {
-  constructor(jobs) {
+  constructor(jobs, module) {
     this.jobs = jobs;
+    this.patience = new Patience(jobs, module);
     this.kept = null;
     this.editor = new Editor(() => this.textChanged());
     this.proposal = new Proposal(jobs, this.editor);
-    this.demonstration = new Demonstration(jobs, this.editor);
-    this.stage = new Stage(jobs, (state, ask) => this.moved(state, ask), line => this.editor.point(line));
-    this.hand = new Hand(() => this.playHand(Infinity));
+    this.demonstration = new Demonstration(jobs, this.editor, this.patience);
+    this.stage = new Stage(jobs, this.patience, (state, ask) => this.moved(state, ask), line => this.editor.point(line));
+    this.hand = new Hand(() => this.patience.do('view', () => this.playHand(Infinity)));
     this.compare = new Compare(jobs, () => this.otherText(), line => this.editor.point(line));
     this.lecture = new Lecture(() => this.viewChanged());
     this.tabs = new Tabs(['run', 'hand', 'compare'], () => this.viewChanged());
@@ -51,7 +56,7 @@ class Page {
     find('save-svg').addEventListener('click', saveSvg);
     find('save-png').addEventListener('click', savePng);
     find('copy-link').addEventListener('click', event => copy(location.href, event.target));
-    find('compare-choice').addEventListener('change', () => this.showCompare());
+    find('compare-choice').addEventListener('change', () => this.patience.do('view', () => this.showCompare()));
     find('script-choice').addEventListener('change', event => this.openScript(event.target));
   }
 
@@ -161,9 +166,14 @@ class Page {
   }
 
   textChanged() {
+    this.patience.do('text', () => this.judge());
+  }
+
+  judge() {
     const findings = readFindings(this.jobs.explain(this.editor.text).text);
     const verdict = verdictOf(findings);
-    find('verdict').textContent = verdict.sentence;
+    say(find('verdict'), verdict.sentence);
+    if (!this.patience.isRunning) say(find('judging'), '');
     find('verdict').className = `is-${verdict.kind}`;
     this.editor.show({ findings });
     this.proposal.show(this.editor.text);
@@ -180,6 +190,11 @@ class Page {
   }
 
   answered() {
+    this.patience.do('view', () => this.showAnswered());
+  }
+
+  showAnswered() {
+    if (this.exercises.number) this.exercises.check();
     this.showFindings();
     this.offerDemonstration();
     this.saveLink();
@@ -196,6 +211,10 @@ class Page {
   }
 
   viewChanged() {
+    this.patience.do('view', () => this.showView());
+  }
+
+  showView() {
     find('stage').hidden = this.tabs.view === 'compare';
     document.body.dataset.view = this.tabs.view;
     find('stage').classList.toggle('is-hand', this.tabs.view === 'hand');
@@ -302,10 +321,20 @@ class Page {
     if (!this.isOpen) return;
     this.saving = setTimeout(async () => {
       await this.entered;
-      const hash = await writeLink(this.linkState());
-      this.written = hash;
-      history.replaceState(null, '', hash);
+      this.takeHash(await writeLink(this.linkState()));
     }, 250);
+  }
+
+  // Puts the state into the address, unless it is too long for one.
+  takeHash(hash) {
+    const isLong = hash.length > MOST_LINK;
+    for (const id of ['copy-link', 'exercise-link']) {
+      find(id).disabled = isLong;
+      find(id).title = isLong ? 'This text is too long for a link: save it as a file' : '';
+    }
+    if (isLong) return;
+    this.written = hash;
+    history.replaceState(null, '', hash);
   }
 
   // Leaves the state as it is now in the browser's history, and begins another entry.
@@ -314,7 +343,7 @@ class Page {
     clearTimeout(this.saving);
     const state = this.linkState();
     this.entered = Promise.resolve(this.entered).then(async () => {
-      history.replaceState(null, '', await writeLink(state));
+      this.takeHash(await writeLink(state));
       history.pushState(null, '', location.hash);
       this.written = location.hash;
     });
@@ -358,7 +387,7 @@ class Page {
 
   chooseOther(name) {
     find('compare-choice').value = name;
-    this.showCompare();
+    this.patience.do('view', () => this.showCompare());
   }
 }
 
@@ -375,10 +404,11 @@ function sayNoModule(error) {
 
 async function open() {
   try {
-    const jobs = new Jobs(await startModule(await moduleBytes()));
+    const bytes = await moduleBytes();
+    const jobs = new Jobs(await startModule(bytes));
     globalThis.multiscalar = jobs; // for web/compare, and for the console
     fillExamples();
-    const page = new Page(jobs);
+    const page = new Page(jobs, bytes);
     await page.openLink(location.hash);
     addEventListener('hashchange', () => { if (location.hash !== page.written) page.openLink(location.hash); });
     find('loading').hidden = true;

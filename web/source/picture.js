@@ -36,7 +36,7 @@ function wrappedLines(sentence, most) {
 }
 
 // The picture of what the page shows now.
-export function pictureOf() {
+function pictureOf() {
   const style = getComputedStyle(find('stage'));
   const ring = find('ring').querySelector('svg');
   const lanes = find('lanes').querySelector('svg');

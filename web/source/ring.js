@@ -112,9 +112,20 @@ function drawSeat(seat, state, reasons, plan, tasks) {
   return draw('g', {}, parts);
 }
 
-function describe(state) {
-  const units = state.queue.map((unit, position) => `unit ${unit.seat}${position === 0 ? ', the head' : ''}: ${unit.task}, ${under(unit)}`);
-  return units.length ? units.join('. ') : 'All units are free.';
+function describeUnit(unit, position, reason, tasks) {
+  const { create, waited, numbers } = registersShown(unit, tasks, reason);
+  const registers = numbers.map(it => saidOf(unit, it, create.includes(it), it === waited)).join('; ');
+  const head = position === 0 ? ', the head' : '';
+  return `Unit ${unit.seat}${head}: ${unit.task}, ${under(unit)}${reason ? `, ${reason.sentence}` : ''}.${registers ? ` Registers: ${registers}.` : ''}`;
+}
+
+// The ring in words.
+function describe(state, reasons, tasks) {
+  const units = state.queue.map((unit, position) => describeUnit(unit, position, reasons[position], tasks));
+  const lost = state.left.filter(it => it.fate !== 'retired').map(it => `Unit ${it.seat}: ${it.task} is ${it.fate}.`);
+  const moved = state.moved ? [`$${state.moved.register} = ${state.moved.word} goes from unit ${state.moved.from} to unit ${state.moved.to}.`] : [];
+  const free = state.units - state.queue.length;
+  return [...units, ...lost, ...moved, free ? `${free === 1 ? '1 unit is' : `${free} units are`} free.` : 'No unit is free.'].join(' ');
 }
 
 // Draws the ring of a state; `tasks` has the create masks.
@@ -127,6 +138,6 @@ export function drawRing(state, reasons, tasks, isLecture) {
   const words = state.standing !== 'running' ? [state.standing] : state.units > 1 && state.queue.length ? ['thick ring:', 'the head'] : [];
   const inside = words.map((word, at) => write(middle, (state.units === 1 ? whole - 60 : middle - 4) + 20 * at, word, 'ring-word'));
   const moved = state.moved ? moveOf(state.moved, state.units, plan) : inside;
-  return draw('svg', { viewBox: `0 0 ${whole} ${whole}`, class: isMany(state.units) ? 'is-many' : null, role: 'img', 'aria-label': `The ring. ${describe(state)}` },
+  return draw('svg', { viewBox: `0 0 ${whole} ${whole}`, class: isMany(state.units) ? 'is-many' : null, role: 'img', 'aria-label': `The ring. ${describe(state, reasons, tasks)}` },
     arrowHead(), ring, seats, moved);
 }

@@ -1,6 +1,6 @@
 // The machine at one position of its history: ring, cards, lanes, list of events, output and memory.
 
-import { find, make, plural, put } from './elements.js';
+import { find, make, plural, put, say } from './elements.js';
 import { answerTo, endAfter, reasonOf, registerName } from './asking.js';
 import { makeCards } from './cards.js';
 import { Lanes } from './lanes.js';
@@ -16,8 +16,9 @@ function memoryText(words) {
 
 export class Stage {
   // `moved` is called with the state that is shown, after each move; `pointed` with a line of the program.
-  constructor(jobs, moved, pointed) {
+  constructor(jobs, patience, moved, pointed) {
     this.jobs = jobs;
+    this.patience = patience;
     this.moved = moved;
     this.pointed = pointed;
     this.playing = null;
@@ -62,7 +63,7 @@ export class Stage {
   clear(sentence) {
     this.stop();
     this.run = null;
-    find('no-run').textContent = sentence;
+    say(find('no-run'), sentence);
     find('no-run').hidden = false;
     find('stage-body').hidden = true;
     this.moved(null);
@@ -75,17 +76,39 @@ export class Stage {
   go(position) {
     if (!this.run) return;
     this.position = Math.max(0, Math.min(this.last, Math.round(position)));
+    this.patience.do('move', () => this.show());
+  }
+
+  // What the machine told comes first, then what it is asked.
+  show() {
+    if (!this.run) return;
     const script = this.run.script.slice(0, this.position);
     const ask = line => answerTo(this.jobs, this.run.program, this.run.units, script, line);
     const isOver = this.state.standing !== 'running';
-    const reasons = this.state.queue.map((unit, at) => reasonOf(ask, unit, at, isOver));
     this.showWhere();
+    this.showSentence();
+    this.showLanes();
+    this.markEvent();
+    const reasons = this.state.queue.map((unit, at) => reasonOf(ask, unit, at, isOver));
     this.showRing(reasons);
     put(find('cards'), makeCards(this.state, this.run.tasks, this.lines, reasons));
     this.showFacts(script);
-    this.showLanes();
-    this.markEvent();
     this.moved(this.state, ask);
+  }
+
+  // Each event is read out once, also if it reads as the one before.
+  say(sentence) {
+    const event = `${this.position} ${sentence}`;
+    if (event === this.said) return;
+    this.said = event;
+    find('event-sentence').textContent = sentence;
+  }
+
+  showSentence() {
+    this.say(eventSentence(this.state, this.lines));
+    const squash = squashSentence(this.state);
+    find('squash').hidden = squash === null;
+    find('squash').textContent = squash ?? '';
   }
 
   showRing(reasons) {
@@ -107,10 +130,6 @@ export class Stage {
   }
 
   showFacts(script) {
-    find('event-sentence').textContent = eventSentence(this.state, this.lines);
-    const squash = squashSentence(this.state);
-    find('squash').hidden = squash === null;
-    find('squash').textContent = squash ?? '';
     const after = endAfter(this.jobs, this.run.program, this.run.units, script);
     find('output').textContent = this.state.output.length ? this.state.output.join(' ') : 'nothing yet';
     find('memory').textContent = memoryText(after.memory ?? []);
@@ -187,12 +206,14 @@ export class Stage {
       if (this.position === this.last) this.stop();
     }, Number(find('speed').value));
     find('play').textContent = 'Pause';
+    find('event-sentence').setAttribute('aria-live', 'off');
   }
 
   stop() {
     clearInterval(this.playing);
     this.playing = null;
     find('play').textContent = 'Play';
+    find('event-sentence').setAttribute('aria-live', 'polite');
   }
 
   // The arrows.
