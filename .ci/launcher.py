@@ -436,7 +436,7 @@ def try_places_of_refusals(folder):
         lines = said.split("\n")[:-1]
         expect(status == 1 and len(lines) == len(wanted) and all(a.startswith(b) for a, b in zip(lines, wanted)), name, said)
     status, _, said = compiler.call("pic.s")
-    expect("compile with -fno-pic -mno-abicalls" in said, said)
+    expect("compile without -fPIC, with -fno-pic -mno-abicalls" in said, said)
 
 
 def try_results(folder):

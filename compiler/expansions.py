@@ -42,7 +42,7 @@ REASONS = {
     "syscall": "asks an operating system, and there is none; write a word with out",
     "bltzal": "is a call on a condition, which the machine lacks",
     "bgezal": "is a call on a condition, which the machine lacks",
-    "sync": "orders memory between processors; one program runs, so leave it out (__sync_synchronize and __atomic_thread_fence make it)",
+    "sync": "orders memory between processors, as in an atomic operation or a fence; one program runs, so plain accesses do",
 }
 REASONS |= dict.fromkeys(("ll", "sc"), "is part of an atomic operation, which the machine lacks; one program runs, so a plain access does")
 

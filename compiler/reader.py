@@ -1,5 +1,6 @@
 """Reads assembler text as GCC writes it for MIPS, and as people write it for the GNU assembler."""
 
+import os
 import re
 from dataclasses import dataclass, field
 from pathlib import Path
@@ -23,7 +24,7 @@ ONLY_FOR_DEBUGGERS = re.compile(r"\$L(text|etext|FB|FE|BB|BE|BI|SI|VL|M|VU)\d+$|
 TAKEN = re.compile(r"^(\$tmp\d+):.*# Block address taken", re.M)
 # What code has that may lie at any address.
 OF_ANY_ADDRESS = re.compile(r"%(call|got|gottprel|gp_rel|tls|dtprel|tprel|pcrel|neg)")
-ANY_ADDRESS = "position-independent code needs tables that nothing here fills; compile with -fno-pic -mno-abicalls"
+ANY_ADDRESS = "position-independent code needs tables that nothing here fills; compile without -fPIC, with -fno-pic -mno-abicalls"
 TERM = re.compile(rf"\s*([-+]?)\s*(0[xX][0-9a-fA-F]+|\d+[fb](?![\w.$])|\d+|'(?:\\.|[^\\])'|{NAME})")
 
 # Directives that say nothing about what the program does.
@@ -148,7 +149,7 @@ class Reader:
             if self.labels.get(name):
                 self.unit.code.append(Instruction("sll", (0, 0), Expression(0), self.place, labels=self.labels[name]))
         if self.faults:
-            raise Refused(self.faults[:20])
+            raise Refused(list(dict.fromkeys(self.faults))[:20])
         return self.unit
 
     def fresh(self) -> str:
@@ -289,7 +290,7 @@ class Reader:
             return
         elif word in (".align", ".p2align", ".balign"):
             self.align(word, rest)
-        elif word in (".cpload", ".cprestore", ".cpsetup", ".cpreturn", ".cplocal", ".cpadd", ".gpword", ".gpdword"):
+        elif word in (".cpload", ".cprestore", ".cpsetup", ".cpreturn", ".cplocal", ".cpadd", ".gpword", ".gpdword", ".reloc"):
             raise refuse(self.place, ANY_ADDRESS)
         elif word in (".init_array", ".ctors"):
             raise refuse(self.place, "constructors that run before main are not supported")
@@ -313,7 +314,7 @@ class Reader:
         if found:
             names = re.findall(r'"((?:\\.|[^"])*)"', found[2])
             if names:
-                self.files[found[1]] = str(Path(*names))
+                self.files[found[1]] = str(Path(*names[names[0] == os.getcwd() :] or names))
 
     def read_location(self, rest: str) -> None:
         words = rest.split()
