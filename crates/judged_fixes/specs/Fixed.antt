@@ -13,7 +13,7 @@ use Rattle.judged_fixes.specs.Right.{IsRight}
 pub record IsFixed (text : List ℕ) (said : List Diagnostic) (f : Fixed) : Type 0 where
   pub edits : List Edit
   pub proposed : All (IsProposed text said) edits
-  pub text : f.text ≡ mended text edits
+  pub written : f.text ≡ mended text edits
   pub right : (f.is_right ≡ true) ↔ IsRight f.text
 
 -- a diagnostic without what is to be done

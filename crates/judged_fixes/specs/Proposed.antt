@@ -43,5 +43,5 @@ pub record IsProposed (text : List ℕ) (said : List Diagnostic) (e : Edit) : Ty
   pub is : IsProposedBy text diagnostic e
 
 -- nothing is in a list but what was in one of two others
-abbrev pub IsFrom : (old more new : List Edit) → Type 0
+unfoldable pub IsFrom : (old more new : List Edit) → Type 0
 IsFrom old more new = (e : Edit) → Contains new e → Contains old e ⊎ Contains more e

@@ -1,5 +1,5 @@
 -- A text whose marks are right.
-use Rattle.std.specs.Prelude.{◌≡◌, ◌↔◌, ⊥, ℕ, List, Ok, Err}
+use Rattle.std.specs.Prelude.{◌≡◌, ◌↔◌, ℕ, List, Ok, Err}
 use Rattle.task_descriptor.specs.Listing.{Listing}
 use Rattle.annotated_asm.specs.declared.fault.AsmFault.{AsmFault}
 use Rattle.annotated_asm.specs.ProgramText.{parse}
