@@ -4,7 +4,7 @@ ghost use Rattle.std.specs.Prelude.{◌≡◌, map as each, true, IfOk, IfSome};
 ghost use Rattle.std.specs.List.{list_any};
 ghost use Rattle.program_tokens.specs.Lines.{lines};
 ghost use Rattle.text_diagnostics.specs.Mending.{IsLineError};
-ghost use Rattle.text_diagnostics.specs.Refusals.{build_code, told_as, token_in, token_of, is_on, is_at, tells, IsTold, AreTextErrors};
+ghost use Rattle.text_diagnostics.specs.Refusals.{build_code, told_as, token_in, token_of, is_on, is_at, is_error, is_of_program, tells, IsTold, AreTextErrors};
 
 use crate::advice::{Made, filled};
 use crate::faulty_line::FaultyLine;
@@ -240,15 +240,27 @@ fn is_at(token: Option<Span>, line: Option<u32>, span: Option<Span>) -> bool
     }
 }
 
+/// Whether a diagnostic is an error.
+fn is_error(said: &Diagnostic) -> bool
+    ensures { result ≡ is_error said.now.severity }
+{
+    matches!(said.severity, Severity::Error)
+}
+
+/// Whether it is about the program text.
+fn is_of_program(said: &Diagnostic) -> bool
+    ensures { result ≡ is_of_program said.now.source }
+{
+    matches!(said.source, Source::Program)
+}
+
 /// Whether a diagnostic is the error that reports a fault, at its token.
 fn tells(fault: AsmFault, token: Option<Span>, said: &Diagnostic) -> bool
     ensures { result ≡ tells fault token said.now }
 {
     let (code, line) = told_as(fault);
-    let is_error = matches!(said.severity, Severity::Error)
-        && matches!(said.source, Source::Program);
     let is_code = code.id().as_bytes() == said.code.id().as_bytes();
-    is_error && (is_code && is_at(token, line, said.span))
+    (is_error(said) && is_of_program(said)) && (is_code && is_at(token, line, said.span))
 }
 
 /// The place of a fault: its token, or the beginning of its line, if it has one.
@@ -269,6 +281,7 @@ fn place_of(token: Option<Span>, line: Option<u32>) -> Option<Span>
 }
 
 /// The fault by itself: at its token, or at the beginning of its line.
+#[tactic(auto, using(crate::proofs::Told::told_alone))]
 fn plain(alloc: Global, fault: AsmFault, token: Option<Span>) -> Made<Diagnostic>
     ensures { IfOk result (λ said. tells fault token said ≡ true) }
 {
@@ -314,7 +327,7 @@ fn with_first(
 pub fn refusal(alloc: Global, text: &[u8], fault: AsmFault) -> Result<Vec<Diagnostic>, AllocError>
     ensures { IfOk result (λ list. IsTold text.now fault list.items) }
 {
-    if matches!(fault, AsmFault::TooLong) {
+    if let AsmFault::TooLong = fault {
         let list = with_first(alloc, fault, None, Vec::new(alloc))?;
         return Ok(list);
     }
@@ -335,6 +348,7 @@ pub fn refusal(alloc: Global, text: &[u8], fault: AsmFault) -> Result<Vec<Diagno
 /// # Errors
 ///
 /// `AllocError` where memory was refused.
+#[tactic(auto, using(crate::proofs::Refused::told, crate::proofs::Told::of_program, crate::proofs::Told::of_refusal))]
 pub fn text_diagnostics(alloc: Global, text: &[u8]) -> Result<Vec<Diagnostic>, AllocError>
     ensures { IfOk result (λ list. AreTextErrors text.now list.items) }
 {
