@@ -10,7 +10,7 @@ from dataclasses import dataclass, replace
 from flow import Flow, Function
 from instructions import ASSEMBLER, KEPT, LINK, STACK_POINTER, WRITES_FIRST, Expression, Instruction
 from linking import Program
-from liveness import SAVED, Liveness, bits
+from liveness import Liveness, bits, is_save
 
 # Not for copies and not counted: the stack's and the return's, and what expansions use.
 RESERVED = {0, ASSEMBLER, *KEPT, STACK_POINTER, LINK}
@@ -21,7 +21,7 @@ COPIES = [it for it in (*range(8, 16), 24, 25, *range(2, 8), *range(16, 24), 30)
 class Loop:
     head: int
     body: set[int]
-    # What its calls may write, and what they need.
+    # What its calls may leave changed, and what they need.
     written_by_calls: set[int]
     needed_by_calls: int
     calls: bool
@@ -112,7 +112,11 @@ def loop_of(flow: Flow, live: Liveness, head: int, body: set[int]) -> Loop:
             waiting += function.calls | function.tails
             if any(flow.code[index].form == "jump_link_register" for index in function.members):
                 waiting += flow.by_address
-    written = {register for entry in reached for index in flow.functions[entry].members for register in flow.code[index].writes}
+    written: set[int] = set()
+    for entry in reached:
+        code = [flow.code[index] for index in flow.functions[entry].members]
+        # What a function keeps on the stack it gives back.
+        written |= {register for it in code for register in it.writes} - {it.registers[0] for it in code if is_save(it)}
     needed = 0
     for entry in entries:
         needed |= live.needed[entry]
@@ -125,8 +129,7 @@ def writers(flow: Flow, loop: Loop, register: int) -> list[int]:
 
 def stays(flow: Flow, loop: Loop, register: int) -> bool:
     """Whether the register holds one word through the loop."""
-    is_kept = register in SAVED or register not in loop.written_by_calls
-    return register not in RESERVED and is_kept and not writers(flow, loop, register)
+    return register not in RESERVED and register not in loop.written_by_calls and not writers(flow, loop, register)
 
 
 def is_update(flow: Flow, loop: Loop, at: int) -> bool:
@@ -135,7 +138,7 @@ def is_update(flow: Flow, loop: Loop, at: int) -> bool:
     if not it.writes or it.writes[0] in RESERVED or at == loop.head:
         return False
     register = it.writes[0]
-    if loop.calls and (register not in SAVED or loop.needed_by_calls >> register & 1):
+    if register in loop.written_by_calls or loop.needed_by_calls >> register & 1:
         return False
     if writers(flow, loop, register) != [at]:
         return False
