@@ -83,10 +83,10 @@ fn written(
         Colors::Always => Colour::Always,
         Colors::Auto | Colors::Never => Colour::Never,
     };
-    let mends = mends(explained);
+    let are_right = mends(explained);
     match format {
-        Format::Sarif => return log_text(alloc, files, said, mends),
-        Format::Json => return lines_text(alloc, files, said, mends),
+        Format::Sarif => return log_text(alloc, files, said, are_right),
+        Format::Json => return lines_text(alloc, files, said, are_right),
         Format::Text => {}
     }
     let mut text = text_of(alloc, files, said, colour)?;
@@ -97,7 +97,7 @@ fn written(
             "to look for a run that goes wrong: multiscalar demonstrate {name}"
         )?;
     }
-    if mends(explained) {
+    if are_right {
         write_right(alloc, &mut text, said)?;
     }
     Ok(text.into_bytes())
