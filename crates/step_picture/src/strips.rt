@@ -1,6 +1,6 @@
 //! Why units wait: the waits of a run, unit by unit, those in steps one after the other together.
 
-ghost use Rattle.std.specs.Prelude.{◌≡◌, ◌++◌, IfOk, IfSome, OnOk, flat_map};
+ghost use Rattle.std.specs.Prelude.{◌≡◌, ◌++◌, true, IfOk, IfSome, OnOk, flat_map};
 ghost use Rattle.std.specs.List.{range_with_len};
 ghost use Rattle.step_picture.specs.Strips.{each_step, option_list, wait_on as wait_on_unit, waits_on, why_of as why_of_reason};
 
@@ -64,7 +64,6 @@ fn with_next(
 }
 
 /// Two waits as one, if the second is of the next step, of the same task of the same unit, and for the same reason.
-#[tactic(auto, using(crate::proofs::Joining::joined_steps))]
 fn joined(before: Wait, next: Wait) -> Option<Wait>
     ensures { IfSome result (λ both. each_step both ≡ each_step before ++ each_step next) }
 {
@@ -75,12 +74,7 @@ fn joined(before: Wait, next: Wait) -> Option<Wait>
     if before.count == u32::MAX {
         return None;
     }
-    let expected = Wait {
-        step: next.step,
-        count: 1,
-        ..before
-    };
-    if expected == next {
+    if is_alike(before, next) {
         Some(Wait {
             count: before.count + 1,
             ..before
@@ -88,6 +82,65 @@ fn joined(before: Wait, next: Wait) -> Option<Wait>
     } else {
         None
     }
+}
+
+/// Whether a wait is of one step, of the same task of the same unit as another one, and for the same reason.
+#[tactic(auto, using(crate::proofs::Joining::same_wait))]
+fn is_alike(before: Wait, next: Wait) -> bool
+    ensures { result ≡ true → record before { step = next.step; count = 1 } ≡ next }
+{
+    if next.count != 1 {
+        return false;
+    }
+    if before.unit != next.unit {
+        return false;
+    }
+    if before.task != next.task {
+        return false;
+    }
+    is_same_why(before.why, next.why)
+}
+
+/// Whether two reasons are the same.
+#[tactic(auto, using(crate::proofs::Joining::same_need, crate::proofs::Joining::same_duty))]
+fn is_same_why(one: Why, other: Why) -> bool
+    ensures { result ≡ true → one ≡ other }
+{
+    match one {
+        Why::NeedsRegister(debt) => match other {
+            Why::NeedsRegister(another) => is_same_debt(debt, another),
+            _ => false,
+        },
+        Why::NeedsHead => matches!(other, Why::NeedsHead),
+        Why::HasToPass(debt) => match other {
+            Why::HasToPass(another) => is_same_debt(debt, another),
+            _ => false,
+        },
+        Why::HasFinished => matches!(other, Why::HasFinished),
+    }
+}
+
+/// Whether two registers are the same one, and owed alike.
+#[tactic(auto, using(crate::proofs::Joining::same_debt))]
+fn is_same_debt(one: Debt, other: Debt) -> bool
+    ensures { result ≡ true → one ≡ other }
+{
+    if one.register != other.register {
+        return false;
+    }
+    if one.task != other.task {
+        return false;
+    }
+    if one.unit != other.unit {
+        return false;
+    }
+    if one.is_sent {
+        return other.is_sent;
+    }
+    if other.is_sent {
+        return false;
+    }
+    true
 }
 
 /// What keeps a unit waiting in a step, if this wait is its own and anything does.
