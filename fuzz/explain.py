@@ -504,12 +504,13 @@ class Bench:
         return run.stdout.decode("latin-1"), run.returncode, run.stderr.decode("latin-1")
 
     def results(self, text, *options, certificate=None):
-        """The results of the log, the status, and whether all fixes together are said to make the marks right."""
+        """The results of the log, and the status; and, as `mends`, whether all fixes together are said to make the marks right."""
         log, status, complaint = self.explain(text, "--format", "sarif", *options, certificate=certificate)
         if complaint:
             raise ValueError(complaint)
         run = json.loads(log)["runs"][0]
-        return run["results"], status, run.get("properties") == {"fixesMakeMarksRight": True}
+        self.mends = run.get("properties") == {"fixesMakeMarksRight": True}
+        return run["results"], status
 
     def judged_wrongly(self, text, results, mends):
         """Whether all fixes together make the marks right, but it is not said, or the other way round."""
@@ -529,14 +530,15 @@ class Bench:
         """What is wrong with what is said of a certificate: after what is said without one stand the remarks."""
         certificate = spoiled(cert_text(certify(program), program)).encode()
         wanted = remarks(program, certificate)
-        results, status, _ = self.results(text, "--no-warnings", certificate=certificate)
+        results, status = self.results(text, "--no-warnings", certificate=certificate)
         self.counts["certificates"] += 1
         self.counts["certificates that do not fit"] += bool(wanted)
         if results[:len(said)] != said or sorted(it["ruleId"] for it in results[len(said):] if it["ruleId"] != "more") != sorted(wanted) or status != bool(said or wanted):
             return f"of the certificate {certificate!r}: {[it['ruleId'] for it in results[len(said):]]}, not {wanted}"
 
     def wrong(self, text):
-        results, status, mends = self.results(text, "--no-warnings")
+        results, status = self.results(text, "--no-warnings")
+        mends = self.mends
         try:
             program = assemble(text.encode("latin-1"))
         except Fault as fault:
