@@ -76,19 +76,24 @@ export class Stage {
   go(position) {
     if (!this.run) return;
     this.position = Math.max(0, Math.min(this.last, Math.round(position)));
-    this.patience.do('move', () => this.show());
+    this.showTold();
+    this.patience.do('move', () => this.showAsked());
   }
 
-  // What the machine told comes first, then what it is asked.
-  show() {
-    if (!this.run) return;
-    const script = this.run.script.slice(0, this.position);
-    const ask = line => answerTo(this.jobs, this.run.program, this.run.units, script, line);
-    const isOver = this.state.standing !== 'running';
+  // What the machine told needs no answer.
+  showTold() {
     this.showWhere();
     this.showSentence();
     this.showLanes();
     this.markEvent();
+  }
+
+  // What it is asked at each event can take a while where the text is long.
+  showAsked() {
+    if (!this.run) return;
+    const script = this.run.script.slice(0, this.position);
+    const ask = line => answerTo(this.jobs, this.run.program, this.run.units, script, line);
+    const isOver = this.state.standing !== 'running';
     const reasons = this.state.queue.map((unit, at) => reasonOf(ask, unit, at, isOver));
     this.showRing(reasons);
     put(find('cards'), makeCards(this.state, this.run.tasks, this.lines, reasons));
