@@ -1,5 +1,3 @@
 pub mod StrictScript
 pub mod StrictReplay
-pub mod StandText
-pub mod Laws
-pub mod ValuedScript
+pub mod Lines
