@@ -1,6 +1,6 @@
 -- The lines with a fault: the first is what a script is refused for, and the first of all are those of the lines so far and
 -- of those that are left.
-use Rattle.std.proofs.Common.{◌≡◌, ℕ, zero, suc, ◌+◌, List, [], ◌∷◌, ◌++◌, take, Result, Ok, Err, refl, ◌∙◌, ap}
+use Rattle.std.proofs.Common.{◌≡◌, ℕ, ◌+◌, List, [], ◌∷◌, ◌++◌, Result, Ok, Err, refl, ◌∙◌}
 use Rattle.std.specs.Result.{result_err}
 use Rattle.machine_model.specs.declared.event.Event.{Event}
 use Rattle.event_script.specs.declared.bad_line.BadLine.{BadLine}
@@ -20,9 +20,3 @@ one_line n (Err fault) more rest before = refl
 pub first_refuses : (n : ℕ) (names lines : List (List ℕ)) → first_bad (bad_from n names lines) ≡ result_err (events_from n names lines)
 first_refuses n names [] = refl
 first_refuses n names (line ∷ lines) = one_line n (event_in names line) (bad_from (n + 1) names lines) (events_from (n + 1) names lines) (first_refuses (n + 1) names lines)
-
--- to cut off what is too much before more comes, or after, is the same
-pub take_front : {X : Type 0} (n : ℕ) (xs ys : List X) → take n (take n xs ++ ys) ≡ take n (xs ++ ys)
-take_front zero xs ys = refl
-take_front (suc n) [] ys = refl
-take_front {X} (suc n) (x ∷ xs) ys = ap (λ (zs : List X). x ∷ zs) (take_front n xs ys)

@@ -14,9 +14,9 @@ use Rattle.std.proofs.lemmas.List.Splits.{slice_split_at, slice_split_none}
 use Rattle.std.proofs.lemmas.Slice.Eq.{bytes_eq-Decides}
 use Rattle.std.proofs.lemmas.Str.Parse.{digit_from_value}
 use Rattle.task_descriptor.specs.Names.{is_name, begins, continues_name}
-use Rattle.task_descriptor.specs.Listing.{Listing, IsWellFormed, collide, has_duplicate, is_too_many, has_no_task, has_bad_entry}
+use Rattle.task_descriptor.specs.Listing.{Listing, IsWellFormed, collide, has_duplicate}
+use Rattle.task_descriptor.specs.WellFormed.{passes, name_is_one}
 use Rattle.task_descriptor.specs.declared.descriptor.Descriptor.{Descriptor}
-use Rattle.task_descriptor.specs.declared.program.BuildFault.{BuildFault}
 use Rattle.machine_model.specs.declared.event.Event.{Event}
 use Rattle.machine_model.specs.declared.event.Event.TheVariants.{Assign, Exec, Transfer, Drain, Squash, Retire, Fault, Drop}
 use Rattle.event_script.specs.declared.fault.EventFault.{EventFault}
@@ -110,11 +110,6 @@ there [] i less = absurd (omega arith)
 there (x ∷ xs) zero less = (x, refl)
 there (x ∷ xs) (suc i) less = there xs i (omega arith)
 
-at_place : {X : Type 0} (P : X → Type 0) (xs : List X) (i : ℕ) (x : X) → AllByRecursion P xs → slice_get xs i ≡ Some x → P x
-at_place P [] i x all at = absurd cc
-at_place P (y ∷ ys) zero x all at = (let e : y ≡ x = cc in subst P e all.0)
-at_place P (y ∷ ys) (suc i) x all at = at_place P ys i x all.1 at
-
 none_at : {X : Type 0} (test : X → Bool) (xs : List X) (i : ℕ) (x : X) → list_any test xs ≡ false → slice_get xs i ≡ Some x → test x ≡ false
 none_at test [] i x none at = absurd cc
 none_at test (y ∷ ys) zero x none at = let e : y ≡ x = cc in ap test (sym e) ∙ (or_parts (test y) (list_any test ys) none).0
@@ -134,17 +129,6 @@ first_named (x ∷ xs) (suc i) t h at =
     ap (λ b. cond (not b) (1 + position_or_len (λ u. bytes_eq u.name t.name) xs) 0) other
     ∙ ap (λ n. 1 + n) (first_named xs i t parts.1 at) ∙ omega arith
 
-passed : (b : Bool) (fault : BuildFault) (rest : Option BuildFault) → cond b (Some fault) rest ≡ None → (b ≡ false) × (rest ≡ None)
-passed true fault rest h = absurd cc
-passed false fault rest h = (refl, h)
-
-distinct : (p : Listing) → IsWellFormed p → has_duplicate p.tasks ≡ false
-distinct p well =
-    let few = passed (is_too_many p) _ _ well.passes in
-    let some = passed (has_no_task p.tasks) _ _ few.1 in
-    let entries = passed (has_bad_entry p) _ _ some.1 in
-    (passed (has_duplicate p.tasks) _ _ entries.1).0
-
 -- the task of a number is assigned by its name
 record IsNamed (p : Listing) (task : ℕ) (name : List ℕ) : Type 0 where
   is_there : name_at (slice_get p.tasks task) ≡ name
@@ -155,8 +139,8 @@ named_task : (p : Listing) → IsWellFormed p → (task : ℕ) → task < length
 named_task p well task less =
     let found = there p.tasks task less in
     let name = found.0.name in
-    let named : is_name name ≡ true = at_place (λ t. is_name t.name ≡ true) p.tasks task found.0 (recursion_from_All (λ t. is_name t.name ≡ true) p.tasks well.in_range.names) found.1 in
-    let place = first_named p.tasks task found.0 (distinct p well) found.1 in
+    let named : is_name name ≡ true = name_is_one p well task found.0 found.1 in
+    let place = first_named p.tasks task found.0 (passes p well).distinct found.1 in
     let position_is : position (λ u. bytes_eq u.name name) p.tasks ≡ Some task =
     ap (λ (n : ℕ). cond {A = Option ℕ} (ltb n (length p.tasks)) (Some n) None) place ∙ cond-true (ltb task (length p.tasks)) (Some task) None (lt-ltb task (length p.tasks) less) in
     let right : IsNamed p task name = record {
