@@ -1,2 +1,4 @@
+mod Counting
 mod Numbers
+mod Ranges
 mod Telling
