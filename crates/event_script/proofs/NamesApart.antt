@@ -5,17 +5,12 @@ use Rattle.std.specs.Global.{Global}
 use Rattle.std.specs.declared.string.String.{String}
 use Rattle.std.specs.Str.{bytes_eq}
 use Rattle.std.proofs.lemmas.Bool.{or_parts}
-use Rattle.std.proofs.lemmas.Bool.Decides.{same_from_decides}
 use Rattle.std.proofs.lemmas.List.{take_more, map_push, length-map}
-use Rattle.std.proofs.lemmas.Slice.Eq.{bytes_eq-Decides}
 use Rattle.indexmap.specs.IndexSet.{insert_key}
 use Rattle.task_descriptor.specs.Listing.{collide, has_duplicate}
 use Rattle.task_descriptor.specs.declared.descriptor.Descriptor.{Descriptor}
+use Rattle.task_descriptor.proofs.Duplicates.{bytes_flip}
 use Rattle.event_script.specs.EventScript.{names_in}
-
-pub bytes_flip : (xs ys : List ℕ) → bytes_eq xs ys ≡ bytes_eq ys xs
-bytes_flip xs ys =
-    same_from_decides _ (bytes_eq ys xs) (bytes_eq-Decides xs ys) (λ e. sym ((bytes_eq-Decides ys xs).0 e), λ e. (bytes_eq-Decides ys xs).1 (sym e))
 
 -- a task that collides with none has another name than each
 other_name : (t : Descriptor) (ts : List Descriptor) (i : ℕ) (d : Descriptor) → i < length ts → list_any (collide t) ts ≡ false

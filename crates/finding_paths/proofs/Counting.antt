@@ -9,7 +9,7 @@ use Rattle.task_descriptor.specs.Listing.{Listing}
 use Rattle.task_descriptor.specs.declared.descriptor.Marked.{Marked}
 use Rattle.task_descriptor.specs.declared.descriptor.Descriptor.{Descriptor}
 use Rattle.mask_certificate.specs.Lists.{list_of, Rises}
-use Rattle.mask_certificate.proofs.Rising.{position_small, index_small}
+use Rattle.mask_certificate.proofs.Rising.{few_entries}
 use Rattle.mark_checker.specs.declared.finding.Rule.{Rule}
 use Rattle.mark_checker.specs.declared.finding.Rule.TheVariants.{EntryWithoutMask, NextWithoutMask, LacksDestination, LacksNext, ExceedsCreate, ForwardedInNext, ReleasedInNext, SentNotCreated, ExitNotListed, FallsOff, IndirectGoesOn, TargetNotEntry}
 use Rattle.mark_checker.specs.declared.finding.Finding.{Finding}
@@ -102,20 +102,12 @@ places_few : (entry : ℕ) (es : List (ℕ × ℕ)) → length (places entry es)
 places_few entry [] = omega arith
 places_few entry (e ∷ es) = places_step entry e es (nat_lt e.0 entry) (nat_eq e.0 entry) (places_few entry es)
 
--- the last index is below 4,096, and this many indices stand before it
-list_few : (es : List (ℕ × ℕ)) → Rises es → length es ≤ 4096
-list_few [] rises = omega arith
-list_few (e ∷ es) rises =
-    let before = position_small (e ∷ es) rises (length es) (omega arith) in
-    let inside = index_small (e ∷ es) rises (length es) (omega arith) in
-    omega (arith, before, inside)
-
 task_few : (o : Option Descriptor) (p : Listing) (es : List (ℕ × ℕ)) (t : ℕ) → ((d : Descriptor) → o ≡ Some d → Rises es) → length (task_rules o p es t) ≤ 860370
 task_few None p es t rises = omega arith
 task_few (Some d) p es t rises =
     let all = flat_few (rules_at p d es t) 210 (λ place. found_at_few (slice_get p.code place.0) p d es t place) (places d.entry es) in
     let few = places_few d.entry es in
-    let long = list_few es (rises d refl) in
+    let long = few_entries es (rises d refl) in
     omega (arith, all, few, long)
 
 pub rules_few : (p : Listing) (cert : List (List (ℕ × ℕ))) → IsLeast p cert → (t : ℕ) → length (rules p cert t) ≤ 860370

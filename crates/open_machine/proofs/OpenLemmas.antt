@@ -1,17 +1,15 @@
 -- What the calls on a unit, a queue and a processor leave is what the model's events leave.
-use Rattle.std.specs.Prelude.{◌≡◌, ℕ, ◌+◌, Bool, true, false, ◌||◌, nat_eq, Option, Some, None, is_none, List, [], ◌∷◌, ◌++◌, slice_set, slice_index, map, if◌then◌else◌, Result, Ok, Err, OnOk}
+use Rattle.std.specs.Prelude.{◌≡◌, ℕ, ◌+◌, Bool, ◌||◌, nat_eq, Option, Some, None, is_none, List, [], ◌∷◌, ◌++◌, slice_set, slice_index, map, if◌then◌else◌, Result, Ok, Err, OnOk}
 use Rattle.std.proofs.Common.{refl, sym, ap, ◌∙◌, subst, cond, add-one}
 use Rattle.std.proofs.lemmas.List.{map-append}
 use Rattle.std.proofs.Math.Path.{fun_ext}
 use Rattle.mips_instructions.specs.Words.{has}
 use Rattle.mips_instructions.specs.Instruction.{reg_a, reg_b, waits}
-use Rattle.std.specs.Option.{option_or}
-use Rattle.std.proofs.lemmas.Bool.{eqb-true}
 use Rattle.mips_plain.specs.Effect.{may_run_ahead, memory_after, output_after, outcome_after}
 use Rattle.task_descriptor.specs.Listing.{Listing}
 use Rattle.task_descriptor.specs.declared.descriptor.Marked.{Marked}
-use Rattle.machine_model.specs.Machine.{Active, State, Words, task_at, value}
-use Rattle.machine_model.specs.Unit.{after_exec, exec_refusal, instruction_at, lacks, operand, put}
+use Rattle.machine_model.specs.Machine.{Active, State, task_at, value}
+use Rattle.machine_model.specs.Unit.{after_exec, exec_refusal, instruction_at, lacks, operand}
 use Rattle.machine_model.specs.Refusals.{for_none, for_some, least, unless}
 use Rattle.machine_model.specs.Step.{is_reserved, started, stands}
 use Rattle.machine_model.specs.Answer.{after, with_unit, exec_after, index_of_place}
@@ -19,7 +17,7 @@ use Rattle.machine_model.specs.declared.event.Event.TheVariants.{Assign}
 use Rattle.machine_model.specs.declared.event.Refused.{Refused}
 use Rattle.machine_model.specs.declared.event.Refused.TheVariants as refused
 use Rattle.machine_model.specs.declared.event.Spot.TheVariants.{Inside}
-use Rattle.register_ring.specs.Held.{no_pairs, pairs, put_first}
+use Rattle.register_ring.specs.Held.{no_pairs, pairs}
 use Rattle.register_ring.specs.Ports.{arrived_of, sent_of, arrived_fresh}
 use Rattle.unit_core.specs.Units.{UnitView, active_of}
 use Rattle.unit_core.specs.Worlds.{WorldView, memory_of}
@@ -87,17 +85,6 @@ executed p v q w k (Some u) none leaves = at_instruction p v q w k u (instructio
 pub on_ok : {T E : Type 0} (r : Result T E) (A B : Type 0) → OnOk r A → (A → B) → OnOk r B
 on_ok (Ok x) A B h f = f h
 on_ok (Err e) A B h f = tt
-
--- a register that has not been sent
-
-unsent_put : (here : Bool) (word : Option ℕ) (w : ℕ) → (here ≡ true → word ≡ None) → option_or word (cond here (Some w) None) ≡ cond here (Some w) word
-unsent_put true word w none = ap (λ (o : Option ℕ). option_or o (Some w)) (none refl)
-unsent_put false None w none = refl
-unsent_put false (Some x) w none = refl
-
-pub first_is_put : (r w : ℕ) (words : Words) → words r ≡ None → put_first r w words ≡ put r w words
-first_is_put r w words none =
-    fun_ext (λ (s : ℕ). unsent_put (nat_eq s r) (words s) w (λ here. ap words (eqb-true s r here) ∙ none))
 
 -- what refuses an Exec, put together
 pub exec_refused : (p : Listing) (u : Active) (n : Next) (lacking : Option ℕ) (h : Bool) (set : ℕ) → IsAt p u n → ((r : ℕ) → has set r ≡ waits n.marked.now.op r) → lacking ≡ least (has set) (λ r. is_none (value u r)) → for_none lacking refused.Waiting (unless (h || may_run_ahead n.marked.now.op n.a) refused.NotHead None) ≡ exec_refusal p h u

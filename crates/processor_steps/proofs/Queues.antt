@@ -1,5 +1,5 @@
 -- The units of a queue seen as the model's: a position, the tail.
-use Rattle.std.proofs.Common.{◌≡◌, ℕ, suc, zero, ◌+◌, ◌-◌, ◌<◌, Bool, true, false, ◌||◌, take, drop, get_or, List, [], ◌∷◌, ◌++◌, length, Option, Some, None, refl, sym, ap, ◌∙◌, subst, arith}
+use Rattle.std.proofs.Common.{◌≡◌, ℕ, suc, zero, ◌+◌, ◌-◌, ◌<◌, Bool, ◌||◌, take, drop, get_or, List, [], ◌∷◌, ◌++◌, length, Option, Some, None, refl, sym, ap, ◌∙◌, subst, arith}
 use Rattle.std.specs.Prelude.{slice_get, slice_set, map}
 use Rattle.std.proofs.lemmas.List.{map-set, map-append, take_more}
 use Rattle.std.proofs.lemmas.List.Folds.{list_any-append}
@@ -10,6 +10,7 @@ use Rattle.std.specs.List.{last_or}
 use Rattle.std.specs.Option.{option_map}
 use Rattle.machine_model.specs.Machine.{Active}
 use Rattle.unit_core.specs.Units.{UnitView, active_of}
+use Rattle.unit_core.proofs.StepLemmas.{or_false}
 use Rattle.processor_steps.specs.Processors.{QueueView, actives}
 
 last_from : {X : Type 0} (x : X) (xs : List X) → slice_get (x ∷ xs) (length xs) ≡ last_or (Some x) xs
@@ -59,10 +60,6 @@ holds_after P (z ∷ zs) (suc i) y all h zero x e = all zero x e
 holds_after P (z ∷ zs) (suc i) y all h (suc k) x e = holds_after P zs i y (λ j w f. all (suc j) w f) h k x e
 
 -- the registers that the units may produce, one unit more, and two lists joined
-or_false : (b : Bool) → (b || false) ≡ b
-or_false true = refl
-or_false false = refl
-
 pub reserved_joined : (p : Listing) (us vs : List UnitView) (r : ℕ) → is_reserved p (map active_of (us ++ vs)) r ≡ (is_reserved p (map active_of us) r || is_reserved p (map active_of vs) r)
 reserved_joined p us vs r =
     ap (λ (ws : List Active). is_reserved p ws r) (map-append active_of us vs)

@@ -25,12 +25,9 @@ use Rattle.machine_model.specs.declared.event.Spot.{Spot}
 use Rattle.machine_model.specs.declared.event.Spot.TheVariants.{Inside, Stopped}
 use Rattle.machine_model.specs.declared.event.Standing.{Standing}
 use Rattle.machine_model.specs.declared.event.Standing.TheVariants.{Running}
+use Rattle.machine_model.proofs.Instructions.{address_back}
 use Rattle.processor_steps.specs.Choices.{targets_at, targets_behind, task_chosen, task_at_spot, task_behind}
 use Rattle.sequencer.specs.Choices.{choices_of, choice_of, MayFollow}
-
-address_back : (i j : ℕ) → address i ≡ address j → i ≡ j
-unfolding address
-address_back i j e = omega arith
 
 -- the task that begins at an address
 

@@ -5,7 +5,7 @@ use Rattle.register_ring.specs.Held.{put_first}
 use Rattle.unit_core.specs.Units.{active_of}
 use Rattle.processor_steps.specs.Processors.{QueueView, actives}
 use Rattle.processor_steps.proofs.Queues.{unit_is, changed}
-use Rattle.open_machine.proofs.OpenLemmas.{first_is_put}
+use Rattle.unit_core.proofs.UnitLemmas.{first_is_put}
 use Rattle.open_machine.proofs.queue.Queue.send.Goals as goal
 
 pub returns-clause-active : goal.returns-clause-active
