@@ -2,7 +2,7 @@ mod Among
 mod Standing
 mod Showing
 mod Refuting
-mod Counting
+pub mod Counting
 mod Trails
 pub mod Searches
 mod Nearest

@@ -1,4 +1,2 @@
-mod Counting
 mod Numbers
-mod Ranges
 mod Telling

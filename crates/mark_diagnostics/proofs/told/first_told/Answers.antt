@@ -5,8 +5,8 @@ use Rattle.task_descriptor.specs.declared.descriptor.Descriptor.{Descriptor}
 use Rattle.mark_checker.specs.declared.finding.Finding.{Finding}
 use Rattle.mark_checker.specs.Rules.{rules}
 use Rattle.mark_diagnostics.specs.Told.{told, told_of}
-use Rattle.mark_diagnostics.proofs.Counting.{rules_few}
-use Rattle.mark_diagnostics.proofs.Ranges.{range_more, list_more, count_more}
+use Rattle.mark_checker.proofs.PlaceLists.{range_more}
+use Rattle.finding_paths.proofs.Counting.{list_more, count_more, rules_few}
 use Rattle.mark_diagnostics.proofs.Telling.{told_few}
 use Rattle.mark_diagnostics.proofs.told.first_told.Goals as goal
 
