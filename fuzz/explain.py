@@ -7,7 +7,8 @@ must be what the model tells, at the same places; each path must be a path insid
 says, and none may be shorter; one that is told in short, since a stop may mend it and the one before, has none. Where a
 task ends at a place where no task begins, and no other stop may be meant, it must say to remove the stop exactly where
 each task that reaches it goes right without it. Then it makes the changes of each fix alone, and what the error stands for
-must be gone; of one that puts a stop where a task goes on into a target, that edge.
+must be gone; of one that puts a stop where a task goes on into a target, that edge. The changes of all fixes are made together, too:
+the log, and the last line of the text, must say that the marks are right then exactly where the model finds nothing.
 Of a refused text the model's first fault must be told. Every third program is explained together with a certificate:
 that of the program, one with a wrong mask or a line too few, or a text that is none. It asks for no warnings, which
 `costly_marks.py` compares. PROGRAM is the built `multiscalar`.
@@ -32,6 +33,8 @@ from model import CertFault, Fault, REGNAMES, TOK, assemble, cert_parse, cert_te
 R = random.Random()
 MASK = {5, 8}
 MOST_SHOWN = 1000
+# How many fixes are tried alone, where all together do not make the marks right.
+MOST_TRIED = 15
 
 
 def columns(line):
@@ -284,7 +287,7 @@ def differs(program, text, results):
             return f"the sentence of {error}"
         if removes_wrongly(program, error, result):
             return f"the stop of {error}"
-        advice = [it["description"]["text"] for it in result["fixes"] if STOP.match(it["description"]["text"])]
+        advice = [it for it in [advice_of(result)] if STOP.match(it)]
         in_short = bool(advice) and error != next(it for it in errors if it[0] == error[0])
         if any(("; if it is meant to go on, " in it) == in_short for it in advice):
             return f"what to do about {error}"
@@ -297,17 +300,49 @@ def differs(program, text, results):
     return None
 
 
+def advice_of(result):
+    """What a result says to do."""
+    return result["relatedLocations"][-1]["message"]["text"]
+
+
+def changes_of(result):
+    """The changes of a result's fix: the line, the columns where the part begins and ends, and what is put there."""
+    for it in result["fixes"][0]["artifactChanges"][0]["replacements"] if result["fixes"] else ():
+        region = it["deletedRegion"]
+        yield region["startLine"], region["startColumn"], region["endColumn"], it.get("insertedContent", {}).get("text", "")
+
+
+def with_changes(text, changes):
+    """The text with these changes."""
+    lines = text.split("\n")
+    for line, begin, end, put in sorted(changes, key=lambda it: (-it[0], -it[1], -it[2])):
+        lines[line - 1] = lines[line - 1][:begin - 1] + put + lines[line - 1][end - 1:]
+    return "\n".join(lines)
+
+
 def changed(text, result):
     """The text with the changes of a result's fix; None where it has none."""
-    if not result["fixes"]:
+    return with_changes(text, list(changes_of(result))) if result["fixes"] else None
+
+
+def all_changed(text, results):
+    """The text with the changes of all fixes, each made once; None where two want the same part, or there is none."""
+    changes = list(dict.fromkeys(it for result in results for it in changes_of(result)))
+    if not changes or any(a[0] == b[0] and a[1] < b[2] and b[1] < a[2] for k, a in enumerate(changes) for b in changes[:k]):
         return None
-    lines = text.split("\n")
-    changes = result["fixes"][0]["artifactChanges"][0]["replacements"]
-    places_there = [(it["deletedRegion"], it.get("insertedContent", {}).get("text", "")) for it in changes]
-    for region, put in sorted(places_there, key=lambda it: (-it[0]["startLine"], -it[0]["startColumn"])):
-        line = lines[region["startLine"] - 1]
-        lines[region["startLine"] - 1] = line[:region["startColumn"] - 1] + put + line[region["endColumn"] - 1:]
-    return "\n".join(lines)
+    return with_changes(text, reversed(changes))
+
+
+def right_line(results):
+    """What the text says last where the fixes of these results make the marks right."""
+    errors = [it for it in results if it["level"] == "error"]
+    fixes = [it for it in errors if it["fixes"]]
+    if len(fixes) == len(errors):
+        which = "this fix" if len(fixes) == 1 else f"these {len(fixes)} fixes"
+    else:
+        lines = [str(it) for it in dict.fromkeys(region_of(it["locations"][0])[0] for it in fixes)]
+        which = f"the fix of line {lines[0]}" if len(lines) == 1 else f"the fixes of lines {', '.join(lines[:-1])} and {lines[-1]}"
+    return f"with {which} the marks are right"
 
 
 STOP = re.compile(r"(?:put !s[tn]?|write !s in place of !s[tn]?) on line (\d+)(?: and write targets=\S+)?, where ")
@@ -469,11 +504,27 @@ class Bench:
         return run.stdout.decode("latin-1"), run.returncode, run.stderr.decode("latin-1")
 
     def results(self, text, *options, certificate=None):
-        """The results of the log, and the status."""
+        """The results of the log, and the status; and, as `mends`, whether all fixes together are said to make the marks right."""
         log, status, complaint = self.explain(text, "--format", "sarif", *options, certificate=certificate)
         if complaint:
             raise ValueError(complaint)
-        return json.loads(log)["runs"][0]["results"], status
+        run = json.loads(log)["runs"][0]
+        self.mends = run.get("properties") == {"fixesMakeMarksRight": True}
+        return run["results"], status
+
+    def judged_wrongly(self, text, results, mends):
+        """Whether all fixes together make the marks right, but it is not said, or the other way round."""
+        fixes, after = [it for it in results if it["fixes"]], all_changed(text, results)
+        if len(fixes) > MOST_TRIED:
+            return None
+        try:
+            are_right = after is not None and not told(assemble(after.encode("latin-1")))
+        except Fault:
+            are_right = False
+        self.counts["texts that all fixes mend"] += are_right
+        last = self.explain(text, "--no-warnings")[0].split("\n")[-2:][0]
+        if mends != are_right or (are_right and last != right_line(results)) or (not are_right and last.endswith(" the marks are right")):
+            return f"{len(fixes)} fixes together: {mends}, {last!r}:\n{after}"
 
     def wrong_certificate(self, text, program, said):
         """What is wrong with what is said of a certificate: after what is said without one stand the remarks."""
@@ -487,6 +538,7 @@ class Bench:
 
     def wrong(self, text):
         results, status = self.results(text, "--no-warnings")
+        mends = self.mends
         try:
             program = assemble(text.encode("latin-1"))
         except Fault as fault:
@@ -497,10 +549,10 @@ class Bench:
         if status != (1 if results else 0):
             return f"status {status}, {len(results)} results"
         beside = self.wrong_certificate(text, program, results) if R.random() < 1 / 3 else None
-        return beside or differs(program, text, results) or self.unmended(program, text, results)
+        return beside or differs(program, text, results) or self.unmended(program, text, results, mends) or self.judged_wrongly(text, results, mends)
 
-    def unmended(self, program, text, results):
-        """An error that is there after the changes of its fix."""
+    def unmended(self, program, text, results, mends):
+        """An error that is there after the changes of its fix. Where all fixes together make the marks right, one alone may leave it."""
         for error, result in zip(shown(program, text), results):
             after = changed(text, result)
             if after is None:
@@ -511,6 +563,8 @@ class Bench:
                 self.counts["stops put"] += 1
                 if not stops(program, changed_program, error, text, result["fixes"][0]["description"]["text"]):
                     return f"a stop put for {error}:\n{after}"
+                if not mends and len(results) <= MOST_TRIED and error in told(changed_program):
+                    return f"{error} is there after its stop:\n{after}"
                 continue
             left = told(changed_program)
             alike = lambda errors: sum((it[0], *it[2:]) == (error[0], *error[2:]) for it in errors)

@@ -58,7 +58,7 @@ INVOCATION = record("executionSuccessful", executionSuccessful=BOOLEAN, exitCode
 RUN = record(
     "tool", tool=record("driver", driver=DRIVER), invocations=items(INVOCATION), originalUriBaseIds=mapping(ARTIFACT_LOCATION),
     artifacts=items(record("", location=ARTIFACT_LOCATION, description=MESSAGE), unique=True),
-    columnKind=one_of("utf16CodeUnits", "unicodeCodePoints"), results=items(RESULT))
+    columnKind=one_of("utf16CodeUnits", "unicodeCodePoints"), results=items(RESULT), properties=mapping(BOOLEAN))
 LOG = record("version runs", **{"$schema": URI}, version=one_of("2.1.0"), runs=items(RUN))
 
 

@@ -71,13 +71,9 @@ operands_plain tasks (o ∷ p ∷ os) =
 
 no_colon_marks : (forward : Bool) (s : Stop) (name : List ℕ) → (labels_of (token.Name name ∷ mark_tokens forward s) ≡ []) × (after_labels (token.Name name ∷ mark_tokens forward s) ≡ token.Name name ∷ mark_tokens forward s)
 no_colon_marks false stop.None name = (refl, refl)
-no_colon_marks false stop.Always name = (refl, refl)
-no_colon_marks false stop.Taken name = (refl, refl)
-no_colon_marks false stop.NotTaken name = (refl, refl)
+no_colon_marks false _ name = (refl, refl)
 no_colon_marks true stop.None name = (refl, refl)
-no_colon_marks true stop.Always name = (refl, refl)
-no_colon_marks true stop.Taken name = (refl, refl)
-no_colon_marks true stop.NotTaken name = (refl, refl)
+no_colon_marks true _ name = (refl, refl)
 
 no_label : (name : List ℕ) (t : Token) (rest : List Token) → is_plain t ≡ true
     → (labels_of (token.Name name ∷ t ∷ rest) ≡ []) × (after_labels (token.Name name ∷ t ∷ rest) ≡ token.Name name ∷ t ∷ rest)
@@ -93,36 +89,24 @@ unlabelled name (t ∷ ts) forward s h = no_label name t (ts ++ mark_tokens forw
 
 marks_are : (forward : Bool) (s : Stop) → list_all is_mark (reverse (mark_tokens forward s)) ≡ true
 marks_are false stop.None = refl
-marks_are false stop.Always = refl
-marks_are false stop.Taken = refl
-marks_are false stop.NotTaken = refl
+marks_are false _ = refl
 marks_are true stop.None = refl
-marks_are true stop.Always = refl
-marks_are true stop.Taken = refl
-marks_are true stop.NotTaken = refl
+marks_are true _ = refl
 
 as_many : (forward : Bool) (s : Stop) → length (reverse (mark_tokens forward s)) ≡ length (mark_tokens forward s)
 as_many false stop.None = refl
-as_many false stop.Always = refl
-as_many false stop.Taken = refl
-as_many false stop.NotTaken = refl
+as_many false _ = refl
 as_many true stop.None = refl
-as_many true stop.Always = refl
-as_many true stop.Taken = refl
-as_many true stop.NotTaken = refl
+as_many true _ = refl
 
 abbrev marks : Bool → Stop → Marks
 marks forward s = record { forward = forward; stop = s }
 
 marked_code : (i : Instruction) (forward : Bool) (s : Stop) → with_marks (mark_tokens forward s) (statement.Code i no_marks) ≡ Ok (statement.Code i (marks forward s))
 marked_code i false stop.None = refl
-marked_code i false stop.Always = refl
-marked_code i false stop.Taken = refl
-marked_code i false stop.NotTaken = refl
+marked_code i false _ = refl
 marked_code i true stop.None = refl
-marked_code i true stop.Always = refl
-marked_code i true stop.Taken = refl
-marked_code i true stop.NotTaken = refl
+marked_code i true _ = refl
 
 code_of : (name : List ℕ) (operands : List Token) (i : Instruction) (forward : Bool) (s : Stop) → list_all is_plain operands ≡ true
     → unmarked section.Text (token.Name name ∷ operands) ≡ Ok (statement.Code i no_marks)

@@ -38,10 +38,6 @@ none_so_far f [] i h = absurd (omega arith)
 none_so_far f (x ∷ xs) zero h = refl
 none_so_far f (x ∷ xs) (suc i) h = eqb_false (suc i) 0 (λ (e : suc i ≡ 0). omega arith)
 
-pub no_pieces-map : {X : Type 0} (f : X → List ℕ) (xs : List X) → no_pieces (map f xs) ≡ nat_eq (length xs) 0
-no_pieces-map f [] = refl
-no_pieces-map f (x ∷ xs) = sym (eqb_false (suc (length xs)) 0 (λ (e : suc (length xs) ≡ 0). omega arith))
-
 pub one_more_of : {X : Type 0} (f : X → List ℕ) (xs : List X) (i : ℕ) (d : X) (before now after : List ℕ) → i < length xs
     → now ≡ before ++ commas (map f (take i xs)) → after ≡ now ++ (comma_unless (nat_eq i 0) ++ f (get_or xs i d))
     → after ≡ before ++ commas (map f (take (i + 1) xs))

@@ -23,7 +23,8 @@ use Rattle.program_statements.specs.declared.statement.Section.TheVariants as se
 use Rattle.annotated_asm.specs.declared.table.Symbol.{Symbol}
 use Rattle.canonical_text.proofs.Meanings.{written}
 use Rattle.canonical_text.proofs.Layouts.{found, swap_bytes, code_symbol, label_rows, rows, lookup-append, other_label}
-use Rattle.canonical_text.proofs.SourceItems.{item, start_items, behind_one, task_items, behind_tasks, label_items, code_statement, code_items, behind_code, byte_items, data_items, section_items, behind_section, section_behind, items}
+use Rattle.canonical_text.proofs.SectionItems.{section_alike}
+use Rattle.canonical_text.proofs.SourceItems.{item, start_items, behind_one, task_items, behind_tasks, label_items, code_statement, code_items, behind_code, section_items, behind_section, section_behind, items}
 
 -- One list of items after another.
 
@@ -130,46 +131,15 @@ laid_code tasks n index (m ∷ code) b f labels names started apart small new =
 abbrev with_sizes : Layout → Sizes → Layout
 with_sizes l sizes = record l { sizes = sizes }
 
-counted_twice : (size a b : ℕ) → counted (counted size a) b ≡ counted size (a + b)
-counted_twice size a b = omega arith
-
-grown_twice : (sizes : Sizes) (here : Section) (a b : ℕ) → grown (grown sizes here a) here b ≡ grown sizes here (a + b)
-grown_twice sizes section.Text a b = ap (λ n. record sizes { code = n }) (counted_twice sizes.code a b)
-grown_twice sizes section.Data a b = ap (λ n. record sizes { bytes = n }) (counted_twice sizes.bytes a b)
-grown_twice sizes section.Rodata a b = ap (λ n. record sizes { fixed = n }) (counted_twice sizes.fixed a b)
-
-laid_bytes : (n : ℕ) (here : Section) (bytes : List ℕ) (l : Layout) (sizes : Sizes) (done : ℕ)
-    → laid (with_sizes l (grown sizes here done)) (byte_items n here bytes) ≡ Ok (with_sizes l (grown sizes here (done + length bytes)))
-laid_bytes n here [] l sizes done =
-    let same : done ≡ done + length {A = ℕ} [] = omega arith in ap (λ k. Ok (with_sizes l (grown sizes here k))) same
-laid_bytes n here (b ∷ bytes) l sizes done =
-    let same : (done + 1) + length bytes ≡ done + length (b ∷ bytes) = omega arith in
-    ap (λ s. laid (with_sizes l s) (byte_items (n + 1) here bytes)) (grown_twice sizes here done 1)
-    ∙ laid_bytes (n + 1) here bytes l sizes (done + 1)
-    ∙ ap (λ k. Ok (with_sizes l (grown sizes here k))) same
-
-laid_data : (n : ℕ) (here : Section) (bytes : List ℕ) (l : Layout) (sizes : Sizes) (done : ℕ)
-    → laid (with_sizes l (grown sizes here done)) (data_items n here bytes) ≡ Ok (with_sizes l (grown sizes here (done + length bytes)))
-laid_data n here [] l sizes done = laid_bytes n here [] l sizes done
-laid_data n here (a ∷ []) l sizes done = laid_bytes n here (a ∷ []) l sizes done
-laid_data n here (a ∷ b ∷ []) l sizes done = laid_bytes n here (a ∷ b ∷ []) l sizes done
-laid_data n here (a ∷ b ∷ c ∷ []) l sizes done = laid_bytes n here (a ∷ b ∷ c ∷ []) l sizes done
-laid_data n here (a ∷ b ∷ c ∷ d ∷ bytes) l sizes done =
-    let same : (done + 4) + length bytes ≡ done + length (a ∷ b ∷ c ∷ d ∷ bytes) = omega arith in
-    ap (λ s. laid (with_sizes l s) (data_items (n + 1) here bytes)) (grown_twice sizes here done 4)
-    ∙ laid_data (n + 1) here bytes l sizes (done + 4)
-    ∙ ap (λ k. Ok (with_sizes l (grown sizes here k))) same
-
 laid_section : (n : ℕ) (before here : Section) (bytes : List ℕ) (l : Layout) (sizes : Sizes) → grown sizes here 0 ≡ sizes
-    → laid (with_sizes l sizes) (section_items n before here bytes) ≡ Ok (with_sizes l (grown sizes here (0 + length bytes)))
+    → laid (with_sizes l sizes) (section_items n before here bytes) ≡ Ok (with_sizes l (grown sizes here (length bytes)))
 laid_section n before here [] l sizes none = ap (λ s. Ok (with_sizes l s)) (sym none)
-laid_section n before here (b ∷ bytes) l sizes none =
-    ap (λ s. laid (with_sizes l s) (data_items (n + 1) here (b ∷ bytes))) (sym none) ∙ laid_data (n + 1) here (b ∷ bytes) l sizes 0
+laid_section n before here (b ∷ bytes) l sizes none = sym ((section_alike n before here b bytes).layout (with_sizes l sizes))
 
 -- The whole program.
 
 abbrev pub sizes : Listing → Sizes
-sizes p = record { code = 0 + length p.code; bytes = counted 0 (0 + length p.bytes); fixed = counted 0 (0 + length p.fixed) }
+sizes p = record { code = 0 + length p.code; bytes = counted 0 (length p.bytes); fixed = counted 0 (length p.fixed) }
 
 abbrev pub final_layout : Listing → Bool → Layout
 final_layout p started = record {
@@ -204,13 +174,13 @@ laid_out p apart small =
     then_laid no_layout (layout 0 0 0 [] [] (is_some start)) (start_items 1 start) _ _ (laid_start 1 start)
     (then_laid (layout 0 0 0 [] [] (is_some start)) (layout 0 0 0 [] names (is_some start)) (task_items p.tasks tasks_at p.tasks) _ _ (laid_tasks p.tasks tasks_at p.tasks 0 0 0 [] [] (is_some start) apart (no_names p.tasks))
     (then_laid (layout 0 0 0 [] names (is_some start)) (layout (0 + length p.code) 0 0 labels names (is_some start)) (code_items p.tasks code_at 0 p.code) _ _ (laid_code p.tasks code_at 0 p.code 0 0 [] names (is_some start) apart few (λ k t there above. refl))
-    (then_laid (layout (0 + length p.code) 0 0 labels names (is_some start)) (layout (0 + length p.code) (counted 0 (0 + length p.bytes)) 0 labels names (is_some start)) (section_items data_at section.Text section.Data p.bytes) _ _
+    (then_laid (layout (0 + length p.code) 0 0 labels names (is_some start)) (layout (0 + length p.code) (counted 0 (length p.bytes)) 0 labels names (is_some start)) (section_items data_at section.Text section.Data p.bytes) _ _
     (laid_section data_at section.Text section.Data p.bytes (layout (0 + length p.code) 0 0 labels names (is_some start)) (record { code = 0 + length p.code; bytes = 0; fixed = 0 }) refl)
-    (laid_section (behind_section data_at p.bytes) before section.Rodata p.fixed (layout (0 + length p.code) (counted 0 (0 + length p.bytes)) 0 labels names (is_some start)) (record { code = 0 + length p.code; bytes = counted 0 (0 + length p.bytes); fixed = 0 }) refl))))
+    (laid_section (behind_section data_at p.bytes) before section.Rodata p.fixed (layout (0 + length p.code) (counted 0 (length p.bytes)) 0 labels names (is_some start)) (record { code = 0 + length p.code; bytes = counted 0 (length p.bytes); fixed = 0 }) refl))))
 
 pub within_limits : (p : Listing) → length p.code ≤ 4096 → length p.bytes ≤ 65536 → length p.fixed ≤ 65536 → is_beyond (sizes p) ≡ false
 within_limits p code bytes fixed =
     let few : 0 + length p.code ≤ 4096 = omega arith in
-    let some : counted 0 (0 + length p.bytes) ≤ 65536 = omega arith in
-    let others : counted 0 (0 + length p.fixed) ≤ 65536 = omega arith in
-    or_from _ _ (or_from _ _ (le-ltb 4096 (0 + length p.code) few) (le-ltb 65536 (counted 0 (0 + length p.bytes)) some)) (le-ltb 65536 (counted 0 (0 + length p.fixed)) others)
+    let some : counted 0 (length p.bytes) ≤ 65536 = omega arith in
+    let others : counted 0 (length p.fixed) ≤ 65536 = omega arith in
+    or_from _ _ (or_from _ _ (le-ltb 4096 (0 + length p.code) few) (le-ltb 65536 (counted 0 (length p.bytes)) some)) (le-ltb 65536 (counted 0 (length p.fixed)) others)

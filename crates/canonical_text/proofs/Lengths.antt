@@ -1,9 +1,10 @@
 -- A canonical text is shorter than the longest text that is read.
-use Rattle.std.proofs.Common.{◌≡◌, ℕ, suc, ◌+◌, ◌*◌, ◌<◌, ◌≤◌, ◌^◌, List, [], ◌∷◌, ◌++◌, Bool, true, false, Option, Some, None, length, map, arith, refl, ap, ◌∙◌, length-append}
+use Rattle.std.proofs.Common.{◌≡◌, ℕ, suc, ◌+◌, ◌*◌, ◌<◌, ◌≤◌, ◌^◌, List, [], ◌∷◌, ◌++◌, Bool, true, false, Option, Some, None, length, map, arith, ◌∙◌, length-append}
 use Rattle.std.specs.Prelude.{◌==◌, ℤ, pos, negsuc, find, filter, IfSome, codes}
 use Rattle.std.specs.List.{flat_map, AllByRecursion as All}
 use Rattle.std.specs.Fmt.{decimal, signed_decimal}
 use Rattle.std.proofs.lemmas.Bool.{cond_both}
+use Rattle.std.proofs.lemmas.List.{length-map}
 use Rattle.std.proofs.lemmas.List.Elements.{recursion_from_All}
 use Rattle.std.proofs.lemmas.Fmt.{length-decimal-le}
 use Rattle.mips_instructions.specs.Words.{has}
@@ -41,9 +42,10 @@ length-listed most (a ∷ pieces) h = omega (arith, length-commas most (a ∷ pi
 length-register : (r : ℕ) → r < 34 → length (register_text r) ≤ 3
 length-register r below = let h : length (decimal r) ≤ 2 = length-decimal-le 2 r (omega arith) (omega arith) (omega arith) in omega arith
 
-length-registers : (rs : List ℕ) → All (λ r. r < 34) rs → All (λ piece. length piece ≤ 3) (map register_text rs)
-length-registers [] h = tt
-length-registers (r ∷ rs) h = (length-register r h.0, length-registers rs h.1)
+each-mapped : {X : Type 0} (f : X → List ℕ) (P : X → Type 0) (most : ℕ) → ((x : X) → P x → length (f x) ≤ most) → (xs : List X) → All P xs
+    → All (λ piece. length piece ≤ most) (map f xs)
+each-mapped f P most each [] h = tt
+each-mapped f P most each (x ∷ xs) h = (each x h.0, each-mapped f P most each xs h.1)
 
 length-half : (n : ℤ) → IsHalf n → length (signed_decimal n) ≤ 6
 length-half (pos n) h = let e : length (decimal n) ≤ 5 = length-decimal-le 5 n (omega arith) (omega arith) (omega arith) in omega arith
@@ -60,11 +62,6 @@ length-place : (tasks : List Descriptor) (place : ℕ) → All (λ t. is_name t.
 length-place tasks place named h =
     length-named (find (λ t. t.entry == place) tasks) place (found_passes (λ t. is_name t.name ≡ true) (λ t. t.entry == place) tasks named) h
 
-length-places : (tasks : List Descriptor) (places : List ℕ) → All (λ t. is_name t.name ≡ true) tasks → All (λ place. place ≤ 4096) places
-    → All (λ piece. length piece ≤ 32) (map (place_text tasks) places)
-length-places tasks [] named h = tt
-length-places tasks (place ∷ places) named h = (length-place tasks place named h.0, length-places tasks places named h.1)
-
 length-based : (n : ℤ) (base : ℕ) → IsHalf n → base < 32 → length (based n base) ≤ 32
 length-based n base half below =
     omega (arith, length-half n half, length-register base (omega arith), length-append (signed_decimal n) (40 ∷ (register_text base ++ 41 ∷ [])), length-append (register_text base) (41 ∷ []))
@@ -80,13 +77,9 @@ length-filter test [] = omega arith
 length-filter test (x ∷ xs) =
     cond_both (test x) (x ∷ filter test xs) (filter test xs) (λ (kept : List _). length kept ≤ length (x ∷ xs)) (λ _. omega (arith, length-filter test xs)) (λ _. omega (arith, length-filter test xs))
 
-length-mapped : {X Y : Type 0} (f : X → Y) (xs : List X) → length (map f xs) ≡ length xs
-length-mapped f [] = refl
-length-mapped f (x ∷ xs) = ap suc (length-mapped f xs)
-
 length-members : (set : ℕ) → length (map register_text (members set)) ≤ 34
 unfolding members
-length-members set = omega (arith, length-mapped register_text (members set), length-filter (has set) registers)
+length-members set = omega (arith, length-map (members set) register_text, length-filter (has set) registers)
 
 -- Lines.
 
@@ -98,32 +91,23 @@ length-operand tasks (Unsigned n) t h = omega (arith, length-number n h)
 length-operand tasks (Offset n base) t h = omega (arith, length-based n base h.0 h.1)
 length-operand tasks (Place place) t h = omega (arith, length-place tasks place t h)
 length-operand tasks (Registers set) t h =
-    omega (arith, length-members set, length-commas 3 (map register_text (members set)) (length-registers (members set) (members_below set)))
-
-length-operands : (tasks : List Descriptor) (os : List InstructionOperand) → All (λ t. is_name t.name ≡ true) tasks → All IsOperandInRange os
-    → All (λ piece. length piece ≤ 136) (map (operand_text tasks) os)
-length-operands tasks [] t h = tt
-length-operands tasks (o ∷ os) t h = (length-operand tasks o t h.0, length-operands tasks os t h.1)
+    omega (arith, length-members set, length-commas 3 (map register_text (members set)) (each-mapped register_text (λ r. r < 34) 3 length-register (members set) (members_below set)))
 
 length-op : (tasks : List Descriptor) (o : Op) → All (λ t. is_name t.name ≡ true) tasks → IsInRange o → length (op_text tasks o) ≤ 444
 length-op tasks o t h =
-    let each = length-operands tasks (operands o) t (recursion_from_All IsOperandInRange (operands o) h) in
+    let each = each-mapped (operand_text tasks) IsOperandInRange 136 (λ operand h. length-operand tasks operand t h) (operands o) (recursion_from_All IsOperandInRange (operands o) h) in
     omega (
       arith,
       few_operands o,
-      length-mapped (operand_text tasks) (operands o),
+      length-map (operands o) (operand_text tasks),
       length-spelled 136 (name_of o) (map (operand_text tasks) (operands o)) (is_named o) each,
     )
 
 length-marks : (forward : Bool) (s : Stop) → length (forward_text forward ++ stop_text s) ≤ 7
 length-marks false stop.None = omega arith
-length-marks false stop.Always = omega arith
-length-marks false stop.Taken = omega arith
-length-marks false stop.NotTaken = omega arith
+length-marks false _ = omega arith
 length-marks true stop.None = omega arith
-length-marks true stop.Always = omega arith
-length-marks true stop.Taken = omega arith
-length-marks true stop.NotTaken = omega arith
+length-marks true _ = omega arith
 
 length-line : (text : List ℕ) → length (line text) ≡ length text + 1
 length-line text = length-append text (10 ∷ [])
@@ -161,9 +145,9 @@ length-task tasks task all named within few =
       arith,
       within_name task.name named,
       length-members task.create,
-      length-listed 3 (map register_text (members task.create)) (length-registers (members task.create) (members_below task.create)),
-      length-listed 32 (map (place_text tasks) task.targets) (length-places tasks task.targets all within),
-      length-mapped (place_text tasks) task.targets,
+      length-listed 3 (map register_text (members task.create)) (each-mapped register_text (λ r. r < 34) 3 length-register (members task.create) (members_below task.create)),
+      length-listed 32 (map (place_text tasks) task.targets) (each-mapped (place_text tasks) (λ place. place ≤ 4096) 32 (λ place h. length-place tasks place all h) task.targets within),
+      length-map task.targets (place_text tasks),
       length-append task.name (codes " create=" ++ (create ++ (codes " targets=" ++ (targets ++ 10 ∷ [])))),
       length-append create (codes " targets=" ++ (targets ++ 10 ∷ [])),
       length-append targets (10 ∷ []),

@@ -3,9 +3,7 @@ pub mod Spelled
 pub mod Members
 pub mod DataLines
 pub mod Parts
-pub mod TableLemmas
 pub mod Digits
-pub mod Names
 mod LineSteps
 pub mod Spelling
 pub mod ByteTests
@@ -18,6 +16,7 @@ pub mod Meanings
 pub mod Chunks
 pub mod Layouts
 pub mod SourceItems
+mod SectionItems
 pub mod CodeLines
 pub mod TaskLines
 pub mod CanonicalRoundTripDataLines
@@ -27,16 +26,3 @@ pub mod Resolved
 pub mod Lengths
 pub mod Loops
 pub mod RoundTrip
-mod Cuts
-mod Replaced
-mod MarkLists
-mod Statements
-mod CodeParts
-mod TaskParts
-mod Touching
-mod Remarked
-mod OwnTokens
-mod MarksReadBackCodeLines
-mod MarksReadBackTaskLines
-mod Lines
-mod ReadBack

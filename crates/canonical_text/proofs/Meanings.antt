@@ -6,25 +6,15 @@ use Rattle.std.specs.Str.{bytes_eq}
 use Rattle.std.proofs.lemmas.Bool.{lt-ltb, le-leb, cond-true, false≢true, and_parts}
 use Rattle.std.proofs.lemmas.List.Elements.{recursion_from_All}
 use Rattle.std.proofs.lemmas.Slice.Eq.{bytes_eq-Decides}
-use Rattle.mips_instructions.specs.declared.instruction.ThreeKind.{ThreeKind}
 use Rattle.mips_instructions.specs.declared.instruction.ThreeKind.TheVariants.{Addu}
-use Rattle.mips_instructions.specs.declared.instruction.ShiftByKind.{ShiftByKind}
 use Rattle.mips_instructions.specs.declared.instruction.ShiftByKind.TheVariants.{Sll}
-use Rattle.mips_instructions.specs.declared.instruction.ShiftVarKind.{ShiftVarKind}
 use Rattle.mips_instructions.specs.declared.instruction.ShiftVarKind.TheVariants.{Sllv}
-use Rattle.mips_instructions.specs.declared.instruction.ImmKind.{ImmKind}
 use Rattle.mips_instructions.specs.declared.instruction.ImmKind.TheVariants.{Addiu}
-use Rattle.mips_instructions.specs.declared.instruction.LogicKind.{LogicKind}
 use Rattle.mips_instructions.specs.declared.instruction.LogicKind.TheVariants.{Andi}
-use Rattle.mips_instructions.specs.declared.instruction.MultKind.{MultKind}
 use Rattle.mips_instructions.specs.declared.instruction.MultKind.TheVariants as mult
-use Rattle.mips_instructions.specs.declared.instruction.MoveFromKind.{MoveFromKind}
 use Rattle.mips_instructions.specs.declared.instruction.MoveFromKind.TheVariants.{Mfhi}
-use Rattle.mips_instructions.specs.declared.instruction.MoveToKind.{MoveToKind}
 use Rattle.mips_instructions.specs.declared.instruction.MoveToKind.TheVariants.{Mthi}
-use Rattle.mips_instructions.specs.declared.instruction.LoadKind.{LoadKind}
 use Rattle.mips_instructions.specs.declared.instruction.LoadKind.TheVariants.{Lw}
-use Rattle.mips_instructions.specs.declared.instruction.StoreKind.{StoreKind}
 use Rattle.mips_instructions.specs.declared.instruction.StoreKind.TheVariants.{Sw}
 use Rattle.mips_instructions.specs.declared.instruction.BranchTwoKind.{BranchTwoKind}
 use Rattle.mips_instructions.specs.declared.instruction.BranchTwoKind.TheVariants.{Beq}
@@ -38,9 +28,9 @@ use Rattle.program_tokens.specs.declared.token.Token.{Token}
 use Rattle.program_tokens.specs.declared.token.Token.TheVariants as token
 use Rattle.program_tokens.specs.declared.token.Number.TheVariants.{Small}
 use Rattle.canonical_text.specs.CanonicalText.{members}
-use Rattle.mips_instructions.specs.InstructionTable.{mnemonic_named, mnemonics, mnemonic_of, word_of, name_of, operands, three_name, shift_by_name, shift_var_name, imm_name, logic_name, mult_name, move_from_name, move_to_name, load_name, store_name, branch_two_name, branch_one_name}
+use Rattle.mips_instructions.specs.InstructionTable.{mnemonic_named, mnemonics, mnemonic_of, word_of, name_of, operands}
 use Rattle.annotated_asm.specs.Tables.{Names}
-use Rattle.annotated_asm.specs.Resolve.{is_known_target, is_known_instruction, target_place, spelled}
+use Rattle.annotated_asm.specs.Resolve.{target_place, spelled}
 use Rattle.program_statements.specs.Steps.{◌>>=◌}
 use Rattle.program_statements.specs.Operands.{operands_of, operand_at, base_at, after_one, after_two}
 use Rattle.program_statements.specs.Rows.{three, shift_by, shift_var, imm, logic, lui, mult as mult_of, move_from, move_to, load, store, branch_two, branch_one, jump, jump_link, jump_reg, jump_link_reg, out, halt}
@@ -62,7 +52,7 @@ use Rattle.mips_instructions.specs.Words.{has}
 use Rattle.task_descriptor.specs.Listing.{release_fits, registers}
 use Rattle.canonical_text.proofs.SetTexts.{members_back, registers_back}
 use Rattle.canonical_text.specs.Ranges.{IsHalf, IsOperandInRange, IsInRange}
-use Rattle.canonical_text.proofs.Operations.{comma_tokens, register_tokens, place_token_named, reg, num, base_tokens, behind_name, op_tokens}
+use Rattle.canonical_text.proofs.Operations.{comma_tokens, register_tokens, place_token_named, reg, behind_name, op_tokens}
 
 -- a place by name where a task begins there
 abbrev pub target_named : Option Descriptor → ℕ → Target
@@ -80,15 +70,6 @@ written tasks (Jump place) = instruction.Jump (target_of tasks place)
 written tasks (JumpLink place) = instruction.JumpLink (target_of tasks place)
 written tasks o = instruction.One o
 
--- its targets are known if its places are
-pub written_known : (labels : Names) (tasks : List Descriptor) (o : Op) → ((place : ℕ) → is_known_target labels (target_of tasks place) ≡ true)
-    → is_known_instruction labels (written tasks o) ≡ true
-written_known labels tasks (BranchTwo k rs rt place) known = known place
-written_known labels tasks (BranchOne k rs place) known = known place
-written_known labels tasks (Jump place) known = known place
-written_known labels tasks (JumpLink place) known = known place
-written_known labels tasks _ known = refl
-
 -- the same instruction is read, if its places are found
 pub written_back : (labels : Names) (tasks : List Descriptor) (n : ℕ) (o : Op) → ((place : ℕ) → target_place labels n (target_of tasks place) ≡ Ok place)
     → spelled labels n (written tasks o) ≡ Ok (o ∷ [])
@@ -100,67 +81,32 @@ written_back labels tasks n _ found = refl
 
 -- Names.
 
-three_found : (k : ThreeKind) → mnemonic_named (three_name k) mnemonics ≡ Some (mnemonic.Three k)
-three_found Addu = refl
-three_found _ = refl
-
-shift_by_found : (k : ShiftByKind) → mnemonic_named (shift_by_name k) mnemonics ≡ Some (mnemonic.ShiftBy k)
-shift_by_found Sll = refl
-shift_by_found _ = refl
-
-shift_var_found : (k : ShiftVarKind) → mnemonic_named (shift_var_name k) mnemonics ≡ Some (mnemonic.ShiftVar k)
-shift_var_found Sllv = refl
-shift_var_found _ = refl
-
-imm_found : (k : ImmKind) → mnemonic_named (imm_name k) mnemonics ≡ Some (mnemonic.Imm k)
-imm_found Addiu = refl
-imm_found _ = refl
-
-logic_found : (k : LogicKind) → mnemonic_named (logic_name k) mnemonics ≡ Some (mnemonic.Logic k)
-logic_found Andi = refl
-logic_found _ = refl
-
-mult_found : (k : MultKind) → mnemonic_named (mult_name k) mnemonics ≡ Some (mnemonic.Mult k)
-mult_found mult.Mult = refl
-mult_found _ = refl
-
-move_from_found : (k : MoveFromKind) → mnemonic_named (move_from_name k) mnemonics ≡ Some (mnemonic.MoveFrom k)
-move_from_found Mfhi = refl
-move_from_found _ = refl
-
-move_to_found : (k : MoveToKind) → mnemonic_named (move_to_name k) mnemonics ≡ Some (mnemonic.MoveTo k)
-move_to_found Mthi = refl
-move_to_found _ = refl
-
-load_found : (k : LoadKind) → mnemonic_named (load_name k) mnemonics ≡ Some (mnemonic.Load k)
-load_found Lw = refl
-load_found _ = refl
-
-store_found : (k : StoreKind) → mnemonic_named (store_name k) mnemonics ≡ Some (mnemonic.Store k)
-store_found Sw = refl
-store_found _ = refl
-
-branch_two_found : (k : BranchTwoKind) → mnemonic_named (branch_two_name k) mnemonics ≡ Some (mnemonic.BranchTwo k)
-branch_two_found Beq = refl
-branch_two_found _ = refl
-
-branch_one_found : (k : BranchOneKind) → mnemonic_named (branch_one_name k) mnemonics ≡ Some (mnemonic.BranchOne k)
-branch_one_found Blez = refl
-branch_one_found _ = refl
-
+-- each mnemonic is found by its word: one computation for each kind
 word_found : (m : Mnemonic) → mnemonic_named (word_of m) mnemonics ≡ Some m
-word_found (mnemonic.Three k) = three_found k
-word_found (mnemonic.ShiftBy k) = shift_by_found k
-word_found (mnemonic.ShiftVar k) = shift_var_found k
-word_found (mnemonic.Imm k) = imm_found k
-word_found (mnemonic.Logic k) = logic_found k
-word_found (mnemonic.Mult k) = mult_found k
-word_found (mnemonic.MoveFrom k) = move_from_found k
-word_found (mnemonic.MoveTo k) = move_to_found k
-word_found (mnemonic.Load k) = load_found k
-word_found (mnemonic.Store k) = store_found k
-word_found (mnemonic.BranchTwo k) = branch_two_found k
-word_found (mnemonic.BranchOne k) = branch_one_found k
+word_found (mnemonic.Three Addu) = refl
+word_found (mnemonic.Three _) = refl
+word_found (mnemonic.ShiftBy Sll) = refl
+word_found (mnemonic.ShiftBy _) = refl
+word_found (mnemonic.ShiftVar Sllv) = refl
+word_found (mnemonic.ShiftVar _) = refl
+word_found (mnemonic.Imm Addiu) = refl
+word_found (mnemonic.Imm _) = refl
+word_found (mnemonic.Logic Andi) = refl
+word_found (mnemonic.Logic _) = refl
+word_found (mnemonic.Mult mult.Mult) = refl
+word_found (mnemonic.Mult _) = refl
+word_found (mnemonic.MoveFrom Mfhi) = refl
+word_found (mnemonic.MoveFrom _) = refl
+word_found (mnemonic.MoveTo Mthi) = refl
+word_found (mnemonic.MoveTo _) = refl
+word_found (mnemonic.Load Lw) = refl
+word_found (mnemonic.Load _) = refl
+word_found (mnemonic.Store Sw) = refl
+word_found (mnemonic.Store _) = refl
+word_found (mnemonic.BranchTwo Beq) = refl
+word_found (mnemonic.BranchTwo _) = refl
+word_found (mnemonic.BranchOne Blez) = refl
+word_found (mnemonic.BranchOne _) = refl
 word_found _ = refl
 
 name_found : (o : Op) → mnemonic_named (name_of o) mnemonics ≡ Some (mnemonic_of o)
@@ -184,51 +130,7 @@ pub few_operands : (o : Op) → length (operands o) ≤ 3
 few_operands Halt = omega arith
 few_operands _ = omega arith
 
--- Operands in range.
-
-three_row : (k : ThreeKind) (rd rs rt : ℕ) → nat_lt rd 32 ≡ true → nat_lt rs 32 ≡ true → nat_lt rt 32 ≡ true → instruction_of (mnemonic.Three k) (comma_tokens (reg rd ∷ reg rs ∷ reg rt ∷ [])) ≡ Ok (instruction.One (Three k rd rs rt))
-unfolding operands_of operand_at base_at after_one after_two three
-three_row k rd rs rt a b c = rw (a, b, c) refl
-
-shift_by_row : (k : ShiftByKind) (rd rt n : ℕ) → nat_lt rd 32 ≡ true → nat_lt rt 32 ≡ true → nat_le n 31 ≡ true → instruction_of (mnemonic.ShiftBy k) (comma_tokens (reg rd ∷ reg rt ∷ num (pos n) ∷ [])) ≡ Ok (instruction.One (ShiftBy k rd rt n))
-unfolding operands_of operand_at base_at after_one after_two shift_by
-shift_by_row k rd rt n a b c = rw (a, b, c) refl
-
-shift_var_row : (k : ShiftVarKind) (rd rt rs : ℕ) → nat_lt rd 32 ≡ true → nat_lt rt 32 ≡ true → nat_lt rs 32 ≡ true → instruction_of (mnemonic.ShiftVar k) (comma_tokens (reg rd ∷ reg rt ∷ reg rs ∷ [])) ≡ Ok (instruction.One (ShiftVar k rd rt rs))
-unfolding operands_of operand_at base_at after_one after_two shift_var
-shift_var_row k rd rt rs a b c = rw (a, b, c) refl
-
-imm_row : (k : ImmKind) (rt rs : ℕ) (n : ℤ) → nat_lt rt 32 ≡ true → nat_lt rs 32 ≡ true → signed_half (Small n) ≡ Ok n → instruction_of (mnemonic.Imm k) (comma_tokens (reg rt ∷ reg rs ∷ num n ∷ [])) ≡ Ok (instruction.One (Imm k rt rs n))
-unfolding operands_of operand_at base_at after_one after_two imm
-imm_row k rt rs n a b c = rw (a, b, c) refl
-
-logic_row : (k : LogicKind) (rt rs n : ℕ) → nat_lt rt 32 ≡ true → nat_lt rs 32 ≡ true → nat_le n 65535 ≡ true → instruction_of (mnemonic.Logic k) (comma_tokens (reg rt ∷ reg rs ∷ num (pos n) ∷ [])) ≡ Ok (instruction.One (Logic k rt rs n))
-unfolding operands_of operand_at base_at after_one after_two logic
-logic_row k rt rs n a b c = rw (a, b, c) refl
-
-lui_row : (rt n : ℕ) → nat_lt rt 32 ≡ true → nat_le n 65535 ≡ true → instruction_of mnemonic.Lui (comma_tokens (reg rt ∷ num (pos n) ∷ [])) ≡ Ok (instruction.One (Lui rt n))
-unfolding operands_of operand_at base_at after_one after_two lui
-lui_row rt n a b = rw (a, b) refl
-
-mult_row : (k : MultKind) (rs rt : ℕ) → nat_lt rs 32 ≡ true → nat_lt rt 32 ≡ true → instruction_of (mnemonic.Mult k) (comma_tokens (reg rs ∷ reg rt ∷ [])) ≡ Ok (instruction.One (Mult k rs rt))
-unfolding operands_of operand_at base_at after_one after_two mult_of
-mult_row k rs rt a b = rw (a, b) refl
-
-move_from_row : (k : MoveFromKind) (rd : ℕ) → nat_lt rd 32 ≡ true → instruction_of (mnemonic.MoveFrom k) (comma_tokens (reg rd ∷ [])) ≡ Ok (instruction.One (MoveFrom k rd))
-unfolding operands_of operand_at base_at after_one after_two move_from
-move_from_row k rd a = rw (a) refl
-
-move_to_row : (k : MoveToKind) (rs : ℕ) → nat_lt rs 32 ≡ true → instruction_of (mnemonic.MoveTo k) (comma_tokens (reg rs ∷ [])) ≡ Ok (instruction.One (MoveTo k rs))
-unfolding operands_of operand_at base_at after_one after_two move_to
-move_to_row k rs a = rw (a) refl
-
-load_row : (k : LoadKind) (rt base : ℕ) (n : ℤ) → nat_lt rt 32 ≡ true → nat_lt base 32 ≡ true → signed_half (Small n) ≡ Ok n → instruction_of (mnemonic.Load k) (comma_tokens (reg rt ∷ base_tokens n base ∷ [])) ≡ Ok (instruction.One (Load k rt base n))
-unfolding operands_of operand_at base_at after_one after_two load
-load_row k rt base n a b c = rw (a, b, c) refl
-
-store_row : (k : StoreKind) (rt base : ℕ) (n : ℤ) → nat_lt rt 32 ≡ true → nat_lt base 32 ≡ true → signed_half (Small n) ≡ Ok n → instruction_of (mnemonic.Store k) (comma_tokens (reg rt ∷ base_tokens n base ∷ [])) ≡ Ok (instruction.One (Store k rt base n))
-unfolding operands_of operand_at base_at after_one after_two store
-store_row k rt base n a b c = rw (a, b, c) refl
+-- Operands in range: a place stands for its task where one begins there.
 
 branch_two_row : (k : BranchTwoKind) (rs rt : ℕ) (at : Option Descriptor) (place : ℕ) → nat_lt rs 32 ≡ true → nat_lt rt 32 ≡ true → nat_le place 4096 ≡ true → instruction_of (mnemonic.BranchTwo k) (comma_tokens (reg rs ∷ reg rt ∷ (place_token_named at place ∷ []) ∷ [])) ≡ Ok (instruction.BranchTwo k rs rt (target_named at place))
 unfolding operands_of operand_at base_at after_one after_two branch_two
@@ -249,22 +151,6 @@ jump_link_row : (at : Option Descriptor) (place : ℕ) → nat_le place 4096 ≡
 unfolding operands_of operand_at base_at after_one after_two jump_link
 jump_link_row (Some task) place h = refl
 jump_link_row None place h = rw (h) refl
-
-jump_reg_row : (rs : ℕ) → nat_lt rs 32 ≡ true → instruction_of mnemonic.JumpReg (comma_tokens (reg rs ∷ [])) ≡ Ok (instruction.One (JumpReg rs))
-unfolding operands_of operand_at base_at after_one after_two jump_reg
-jump_reg_row rs a = rw (a) refl
-
-jump_link_reg_row : (rd rs : ℕ) → nat_lt rd 32 ≡ true → nat_lt rs 32 ≡ true → instruction_of mnemonic.JumpLinkReg (comma_tokens (reg rd ∷ reg rs ∷ [])) ≡ Ok (instruction.One (JumpLinkReg rd rs))
-unfolding operands_of operand_at base_at after_one after_two jump_link_reg
-jump_link_reg_row rd rs a b = rw (a, b) refl
-
-out_row : (rs : ℕ) → nat_lt rs 32 ≡ true → instruction_of mnemonic.Out (comma_tokens (reg rs ∷ [])) ≡ Ok (instruction.One (Out rs))
-unfolding operands_of operand_at base_at after_one after_two out
-out_row rs a = rw (a) refl
-
-halt_row : instruction_of mnemonic.Halt [] ≡ Ok (instruction.One Halt)
-unfolding operands_of halt
-halt_row = refl
 
 abbrev pub is_empty : List ℕ → Bool
 is_empty [] = true
@@ -306,26 +192,27 @@ half (negsuc n) h = cond-true (nat_lt n (2 ^ 15)) (Ok (negsuc n)) (Err fault.Num
 -- the operands, all in range, are those of the instruction
 operands_mean : (tasks : List Descriptor) (o : Op) → AllByRecursion IsOperandInRange (operands o) → release_fits o ≡ true
     → instruction_of (mnemonic_of o) (behind_name tasks o) ≡ Ok (written tasks o)
-operands_mean tasks (Three k rd rs rt) h f = three_row k rd rs rt (below rd h.0) (below rs h.1.0) (below rt h.1.1.0)
-operands_mean tasks (ShiftBy k rd rt n) h f = shift_by_row k rd rt n (below rd h.0) (below rt h.1.0) (at_most 31 n (omega (arith, h.1.1.0)))
-operands_mean tasks (ShiftVar k rd rt rs) h f = shift_var_row k rd rt rs (below rd h.0) (below rt h.1.0) (below rs h.1.1.0)
-operands_mean tasks (Imm k rt rs n) h f = imm_row k rt rs n (below rt h.0) (below rs h.1.0) (half n h.1.1.0)
-operands_mean tasks (Logic k rt rs n) h f = logic_row k rt rs n (below rt h.0) (below rs h.1.0) (at_most 65535 n (omega (arith, h.1.1.0)))
-operands_mean tasks (Lui rt n) h f = lui_row rt n (below rt h.0) (at_most 65535 n (omega (arith, h.1.0)))
-operands_mean tasks (Mult k rs rt) h f = mult_row k rs rt (below rs h.0) (below rt h.1.0)
-operands_mean tasks (MoveFrom k rd) h f = move_from_row k rd (below rd h.0)
-operands_mean tasks (MoveTo k rs) h f = move_to_row k rs (below rs h.0)
-operands_mean tasks (Load k rt base n) h f = load_row k rt base n (below rt h.0) (below base h.1.0.1) (half n h.1.0.0)
-operands_mean tasks (Store k rt base n) h f = store_row k rt base n (below rt h.0) (below base h.1.0.1) (half n h.1.0.0)
+unfolding operands_of operand_at base_at after_one after_two three shift_by shift_var imm logic lui mult_of move_from move_to load store jump_reg jump_link_reg out halt
+operands_mean tasks (Three k rd rs rt) h f = rw (below rd h.0, below rs h.1.0, below rt h.1.1.0) refl
+operands_mean tasks (ShiftBy k rd rt n) h f = rw (below rd h.0, below rt h.1.0, at_most 31 n (omega (arith, h.1.1.0))) refl
+operands_mean tasks (ShiftVar k rd rt rs) h f = rw (below rd h.0, below rt h.1.0, below rs h.1.1.0) refl
+operands_mean tasks (Imm k rt rs n) h f = rw (below rt h.0, below rs h.1.0, half n h.1.1.0) refl
+operands_mean tasks (Logic k rt rs n) h f = rw (below rt h.0, below rs h.1.0, at_most 65535 n (omega (arith, h.1.1.0))) refl
+operands_mean tasks (Lui rt n) h f = rw (below rt h.0, at_most 65535 n (omega (arith, h.1.0))) refl
+operands_mean tasks (Mult k rs rt) h f = rw (below rs h.0, below rt h.1.0) refl
+operands_mean tasks (MoveFrom k rd) h f = rw (below rd h.0) refl
+operands_mean tasks (MoveTo k rs) h f = rw (below rs h.0) refl
+operands_mean tasks (Load k rt base n) h f = rw (below rt h.0, below base h.1.0.1, half n h.1.0.0) refl
+operands_mean tasks (Store k rt base n) h f = rw (below rt h.0, below base h.1.0.1, half n h.1.0.0) refl
 operands_mean tasks (BranchTwo k rs rt place) h f = branch_two_row k rs rt (find (λ t. t.entry == place) tasks) place (below rs h.0) (below rt h.1.0) (at_most 4096 place h.1.1.0)
 operands_mean tasks (BranchOne k rs place) h f = branch_one_row k rs (find (λ t. t.entry == place) tasks) place (below rs h.0) (at_most 4096 place h.1.0)
 operands_mean tasks (Jump place) h f = jump_row (find (λ t. t.entry == place) tasks) place (at_most 4096 place h.0)
 operands_mean tasks (JumpLink place) h f = jump_link_row (find (λ t. t.entry == place) tasks) place (at_most 4096 place h.0)
-operands_mean tasks (JumpReg rs) h f = jump_reg_row rs (below rs h.0)
-operands_mean tasks (JumpLinkReg rd rs) h f = jump_link_reg_row rd rs (below rd h.0) (below rs h.1.0)
-operands_mean tasks (Out rs) h f = out_row rs (below rs h.0)
+operands_mean tasks (JumpReg rs) h f = rw (below rs h.0) refl
+operands_mean tasks (JumpLinkReg rd rs) h f = rw (below rd h.0, below rs h.1.0) refl
+operands_mean tasks (Out rs) h f = rw (below rs h.0) refl
 operands_mean tasks (Release set) h f = release_row (members set) set (some_member set f) (members_back set h.0)
-operands_mean tasks Halt h f = halt_row
+operands_mean tasks Halt h f = refl
 
 -- an instruction's name gives its row
 from_row : (name : List ℕ) (m : Mnemonic) (operands : List Token) (i : Instruction) → mnemonic_named name mnemonics ≡ Some m

@@ -5,7 +5,7 @@ use Rattle.std.specs.List.{list_any, position, position_or_len, All as AllAt, Al
 use Rattle.std.proofs.lemmas.Bool.{or_parts, cond-false, le-ltb, cases_lt, lt-ltb, cond-true, not-false}
 use Rattle.std.proofs.lemmas.List.Elements.{recursion_from_All}
 use Rattle.task_descriptor.specs.Names.{is_name}
-use Rattle.task_descriptor.specs.Listing.{Listing, IsWellFormed, build_fault, is_bad_mark, release_fits, stop_fits, has_destination}
+use Rattle.task_descriptor.specs.Listing.{Listing, IsWellFormed, is_bad_mark, release_fits, stop_fits, has_destination}
 use Rattle.task_descriptor.specs.WellFormed.{passes, limits, entry_below, start_is_entry}
 use Rattle.task_descriptor.specs.declared.descriptor.Descriptor.{Descriptor}
 use Rattle.task_descriptor.specs.declared.descriptor.Marked.{Marked}
@@ -13,21 +13,21 @@ use Rattle.program_tokens.specs.Lines.{lines}
 use Rattle.canonical_text.specs.CanonicalText.{canonical_text}
 use Rattle.program_statements.specs.Steps.{◌>>=◌}
 use Rattle.annotated_asm.specs.Items.{items_from}
-use Rattle.annotated_asm.specs.Layout.{laid, no_layout, is_beyond}
-use Rattle.annotated_asm.specs.Resolve.{index_of_symbol, code_label, parts, no_parts}
+use Rattle.annotated_asm.specs.Layout.{laid, no_layout}
+use Rattle.annotated_asm.specs.Resolve.{index_of_symbol, code_label}
 use Rattle.annotated_asm.specs.ProgramText.{built, program_of, parse}
 use Rattle.annotated_asm.specs.declared.fault.AsmFault.{AsmFault}
 use Rattle.annotated_asm.specs.declared.fault.AsmFault.TheVariants as fault
 use Rattle.annotated_asm.specs.declared.layout.Layout.{Layout}
 use Rattle.annotated_asm.specs.declared.item.PlacedStatement.{PlacedStatement}
 use Rattle.program_statements.specs.declared.statement.Section.TheVariants as section
-use Rattle.task_descriptor.specs.declared.program.BuildFault.TheVariants.{TooMany}
 use Rattle.canonical_text.specs.Ranges.{IsInRange, IsTaskInRange}
+use Rattle.annotated_asm.proofs.Knowns.{built_of}
 use Rattle.canonical_text.proofs.Layouts.{rows, lookup_rows}
 use Rattle.canonical_text.proofs.SourceItems.{items}
 use Rattle.canonical_text.proofs.TextItems.{IsSpellable, text_items}
-use Rattle.canonical_text.proofs.LaidOut.{sizes, final_layout, laid_out, within_limits}
-use Rattle.canonical_text.proofs.Resolved.{AreLabelled, all_known, program_back}
+use Rattle.canonical_text.proofs.LaidOut.{final_layout, laid_out, within_limits}
+use Rattle.canonical_text.proofs.Resolved.{AreLabelled, program_back}
 use Rattle.canonical_text.proofs.Lengths.{length-canonical}
 
 all_from_gets : {X : Type 0} (P : X → Type 0) (xs : List X) → ((k : ℕ) (x : X) → slice_get xs k ≡ Some x → P x) → All P xs
@@ -94,14 +94,10 @@ targets_of (t ∷ tasks) h = (recursion_from_All (λ place. place ≤ 4096) t.ta
 -- The program of the items.
 
 program_is : (p : Listing) (started : Bool) → IsWellFormed p → program_of (items p) (final_layout p started) ≡ Ok p
-unfolding program_of
 program_is p started h =
-    let labels = rows p.tasks 0 p.code in
     let limit = limits p h in
     let some = some_found (λ t. t.entry == p.start) p.tasks (start_is_entry p h) in
-    ap (λ (read : Result (Unit {0}) AsmFault). read >>= λ _. cond (is_beyond (sizes p)) (Err (fault.Build TooMany)) (parts labels no_parts (items p) >>= λ q. built q (build_fault q))) (all_known p labels (labelled p h))
-    ∙ cond-false (is_beyond (sizes p)) (Err (fault.Build TooMany)) (parts labels no_parts (items p) >>= λ q. built q (build_fault q)) (within_limits p limit.code limit.bytes limit.fixed)
-    ∙ ap (λ (read : Result Listing AsmFault). read >>= λ q. built q (build_fault q)) (program_back p labels (labelled p h) some)
+    built_of (items p) (final_layout p started) p (within_limits p limit.code limit.bytes limit.fixed) (program_back p (rows p.tasks 0 p.code) (labelled p h) some)
     ∙ ap (built p) h.passes
 
 parsed : (p : Listing) → IsWellFormed p → IsSpellable p → parse (canonical_text p) ≡ Ok p

@@ -1,8 +1,6 @@
 pub mod CanonicalText
 pub mod Examples
-pub mod FirstTasks
 pub mod FaultText
 pub mod MarkedText
 pub mod MarksInTextExamples
 pub mod Ranges
-pub mod Differs

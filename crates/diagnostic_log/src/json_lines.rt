@@ -47,8 +47,8 @@ fn write_note(out: &mut JsonText, note: &Note) -> Written {
     out.end()
 }
 
-/// Adds what to do, if that is given.
-fn write_help(out: &mut JsonText, help: &Option<Help>) -> Written {
+/// Adds what to do, if that is given; and where all that is to be written makes the marks right, that it does.
+fn write_help(out: &mut JsonText, help: &Option<Help>, mends: bool) -> Written {
     let Some(help) = help else {
         return out.null("help");
     };
@@ -62,11 +62,19 @@ fn write_help(out: &mut JsonText, help: &Option<Help>) -> Written {
         out.end()?;
     }
     out.end_list()?;
+    if mends && !help.replacements.as_slice().is_empty() {
+        out.boolean("makes_marks_right", true)?;
+    }
     out.end()
 }
 
 /// The line of a diagnostic of a file of this name.
-fn line_of(alloc: Global, file: &str, said: &Diagnostic) -> Result<Vec<u8>, AllocError> {
+fn line_of(
+    alloc: Global,
+    file: &str,
+    said: &Diagnostic,
+    mends: bool,
+) -> Result<Vec<u8>, AllocError> {
     let mut out = JsonText::new(alloc);
     out.begin()?;
     out.number("version", 1)?;
@@ -80,12 +88,13 @@ fn line_of(alloc: Global, file: &str, said: &Diagnostic) -> Result<Vec<u8>, Allo
         write_note(&mut out, note)?;
     }
     out.end_list()?;
-    write_help(&mut out, &said.help)?;
+    write_help(&mut out, &said.help, mends)?;
     out.end()?;
     out.into_line()
 }
 
-/// What is reported about these texts, as lines of JSON: an object for each diagnostic, in order.
+/// What is reported about these texts, as lines of JSON: an object for each diagnostic, in order. `mends` where all that
+/// helps say to write makes the marks right.
 ///
 /// # Errors
 ///
@@ -94,11 +103,12 @@ pub fn lines_text(
     alloc: Global,
     files: &Files<'_>,
     diagnostics: &[Diagnostic],
+    mends: bool,
 ) -> Result<Vec<u8>, AllocError> {
     let mut text = Vec::new(alloc);
     for said in diagnostics {
         let file = files.text_of(said.source).name;
-        text.extend_from_slice(line_of(alloc, file, said)?.as_slice())?;
+        text.extend_from_slice(line_of(alloc, file, said, mends)?.as_slice())?;
     }
     Ok(text)
 }

@@ -108,7 +108,15 @@ fn write_results(
     results.out.end_list()
 }
 
-/// The text of a log of what is reported about these texts: one line of JSON.
+/// Adds that all that is to be written makes the marks right.
+fn write_properties(out: &mut JsonText) -> Written {
+    out.object("properties")?;
+    out.boolean("fixesMakeMarksRight", true)?;
+    out.end()
+}
+
+/// The text of a log of what is reported about these texts: one line of JSON. `mends` where all that helps say to write
+/// makes the marks right.
 ///
 /// # Errors
 ///
@@ -117,6 +125,7 @@ pub fn log_text(
     alloc: Global,
     files: &Files<'_>,
     diagnostics: &[Diagnostic],
+    mends: bool,
 ) -> Result<Vec<u8>, AllocError> {
     let rules = rules_of(alloc, diagnostics)?;
     let artifacts = Artifacts::new(alloc, files)?;
@@ -131,6 +140,9 @@ pub fn log_text(
     write_invocation(&mut out, diagnostics, reads_input)?;
     write_places(&mut out, reads_input)?;
     write_results(alloc, &mut out, files, &artifacts, &rules, diagnostics)?;
+    if mends {
+        write_properties(&mut out)?;
+    }
     out.end()?;
     out.end_list()?;
     out.end()?;

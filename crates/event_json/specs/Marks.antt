@@ -5,7 +5,7 @@ use Rattle.json.specs.Json.{Json}
 use Rattle.machine_model.specs.declared.event.Event.{Event}
 use Rattle.machine_model.specs.declared.event.Event.TheVariants.{Transfer, Squash}
 use Rattle.machine_model.specs.HeadEvent.{unit_of, retired_after}
-use Rattle.run_picture.specs.Marks.{unit_before}
+use Rattle.run_picture.specs.Meanings.{unit_before}
 use Rattle.event_json.specs.Fields.{number_field, text_field}
 use Rattle.event_json.specs.Entries.{timed_entry}
 use Rattle.event_json.specs.Times.{time_at}

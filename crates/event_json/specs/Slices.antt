@@ -4,11 +4,19 @@ use Rattle.std.specs.Prelude.{ℕ, ◌+◌, ◌-◌, List, [], ◌∷◌, map, s
 use Rattle.json.specs.Json.{Json}
 use Rattle.task_descriptor.specs.Listing.{Listing}
 use Rattle.event_script.specs.ScriptText.{name_at}
+use Rattle.task_lives.specs.declared.life.Ending.{Ending}
+use Rattle.task_lives.specs.declared.life.Ending.TheVariants.{Retired, Squashed, Dropped, Unfinished}
 use Rattle.task_lives.specs.declared.life.Life.{Life}
-use Rattle.run_picture.specs.ShapeText.{ending_text}
 use Rattle.event_json.specs.Fields.{Field, number_field, text_field}
 use Rattle.event_json.specs.Entries.{timed_entry, told}
 use Rattle.event_json.specs.Times.{time_at}
+
+-- how a life ended, in a word
+abbrev pub ending_text : Ending → List ℕ
+ending_text Retired = codes "retired"
+ending_text Squashed = codes "squashed"
+ending_text Dropped = codes "dropped"
+ending_text Unfinished = codes "unfinished"
 
 -- the fields of a life: the task, how many instructions its unit executed for it, and how it ended
 abbrev pub life_fields : (name : List ℕ) → Life → List Field

@@ -3,7 +3,7 @@
 ghost use Rattle.std.specs.Prelude.{◌≡◌, ◌+◌, ◌++◌, ◌%◌, ◌<◌, ◌≤◌, ◌^◌, OnOk, flat_map, length};
 ghost use Rattle.json.specs.Tree.{json_tokens};
 ghost use Rattle.machine_model.specs.HeadEvent.{retired_after, unit_of};
-ghost use Rattle.run_picture.specs.Marks.{unit_before};
+ghost use Rattle.run_picture.specs.Meanings.{unit_before};
 ghost use Rattle.event_json.specs.Times.{time_at as time_of};
 ghost use Rattle.event_json.specs.Marks.{arrow, arrow_begin, arrow_end, marks_at, marks_of, squash_of};
 

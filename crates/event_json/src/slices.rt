@@ -2,10 +2,9 @@
 
 ghost use Rattle.std.specs.Prelude.{◌≡◌, ◌++◌, [], ◌∷◌, OnOk, flat_map};
 ghost use Rattle.json.specs.Tree.{json_tokens};
-ghost use Rattle.run_picture.specs.ShapeText.{ending_text};
 ghost use Rattle.event_json.specs.Fields.{fields_tokens};
 ghost use Rattle.event_json.specs.Entries.{told};
-ghost use Rattle.event_json.specs.Slices.{duration_of, life_fields, slice, slice_of};
+ghost use Rattle.event_json.specs.Slices.{duration_of, ending_text, life_fields, slice, slice_of};
 
 use crate::entries::begin_timed_entry;
 use crate::times::time_at;

@@ -1,12 +1,12 @@
 -- What `explain` says: what is wrong with a program text, or with the marks of its program, what could be better about
 -- them, and what is wrong with a certificate and with an event script that are given beside it.
-use Rattle.std.specs.Prelude.{◌≡◌, ℕ, Bool, true, false, not, ◌&&◌, List, [], ◌∷◌, ◌++◌, Option, Some, None, Result, Ok, Err}
+use Rattle.std.specs.Prelude.{◌≡◌, ℕ, Bool, true, false, not, ◌&&◌, List, [], ◌∷◌, ◌++◌, Option, Some, None, IfSome, Result, Ok, Err}
 use Rattle.task_descriptor.specs.Listing.{Listing}
 use Rattle.annotated_asm.specs.declared.fault.AsmFault.{AsmFault}
 use Rattle.annotated_asm.specs.ProgramText.{parse}
 use Rattle.annotator.specs.Least.{IsLeast}
 use Rattle.diagnostics.specs.declared.diagnostic.Diagnostic.{Diagnostic}
-use Rattle.text_diagnostics.specs.Refusals.{refusal}
+use Rattle.text_diagnostics.specs.Refusals.{IsTold}
 use Rattle.mark_diagnostics.specs.Errors.{AreMarkErrors}
 use Rattle.mark_diagnostics.specs.Warnings.{AreMarkWarnings}
 use Rattle.input_diagnostics.specs.declared.mistaken.Mistaken.{Mistaken}
@@ -14,6 +14,7 @@ use Rattle.diagnostics.specs.declared.diagnostic.Source.TheVariants.{Program}
 use Rattle.input_diagnostics.specs.Advice.{IsErrorIn}
 use Rattle.input_diagnostics.specs.MistakenTexts.{mistaken_kind}
 use Rattle.input_diagnostics.specs.ScriptErrors.{AreScriptErrors}
+use Rattle.judged_fixes.specs.Fixed.{AreSameErrors, IsFixed}
 use Rattle.explain_report.specs.declared.explanation.Explanation.{Explanation}
 use Rattle.explain_report.specs.Beside.{IsCertificateSaid, is_silent}
 use Rattle.explain_report.specs.Order.{in_order}
@@ -34,30 +35,35 @@ IsScriptSaid None p script said = said ≡ []
 IsScriptSaid (Some name) p script said = AreScriptErrors p script said
 
 -- The diagnostics for a program: for its marks, the certificate, and the script. What could be better about marks is
--- reported only where none is wrong, and leaves the status as it is.
+-- reported only where none is wrong, and leaves the status as it is. Errors of marks are told as they are, but for fixes that
+-- are not right; the text with the others is what they propose to write, and it is said to be right exactly where its marks
+-- are.
 pub record IsProgramExplained (cert_file script_file : Option (List ℕ)) (warnings : Bool) (text certificate script : List ℕ) (p : Listing) (e : Explanation) : Type 0 where
   pub errors : List Diagnostic
   pub wrong : AreMarkErrors text errors
+  pub told : List Diagnostic
+  pub same : AreSameErrors told errors
+  pub fixed : IfSome e.fixed (IsFixed text errors)
   pub warned : List Diagnostic
   pub better : AreWarned (warnings && is_silent errors) text p warned
   pub beside : List Diagnostic
   pub certified : IsCertificateSaid cert_file p certificate beside
   pub scripted : List Diagnostic
   pub played : IsScriptSaid script_file p script scripted
-  pub said : e.said ≡ in_order (errors ++ (warned ++ (beside ++ scripted)))
+  pub said : e.said ≡ in_order (told ++ (warned ++ (beside ++ scripted)))
   pub marked : e.has_wrong_marks ≡ not (is_silent errors)
   pub status : e.status ≡ said_status (errors ++ (beside ++ scripted))
 
--- The diagnostics for a text that spells no program: only what it is, if it begins as a certificate or a script of
--- events does.
+-- The diagnostics for a text that spells no program: the fault at which the assembler stops is among them; or only what it
+-- is, if it begins as a certificate or a script of events does.
 abbrev pub IsRefusedBy : Option Mistaken → (text : List ℕ) → AsmFault → List Diagnostic → Type 0
-IsRefusedBy None text fault said = said ≡ refusal text fault
+IsRefusedBy None text fault said = IsTold text fault said
 IsRefusedBy (Some kind) text fault said = (d : Diagnostic) × IsErrorIn Program 1 d × (said ≡ d ∷ [])
 
 pub record IsRefusedSaid (text : List ℕ) (fault : AsmFault) (e : Explanation) : Type 0 where
   pub errors : List Diagnostic
   pub wrong : IsRefusedBy (mistaken_kind text) text fault errors
-  pub is : e ≡ record { said = in_order errors; has_wrong_marks = false; status = 1 }
+  pub is : e ≡ record { said = in_order errors; has_wrong_marks = false; status = 1; fixed = None }
 
 abbrev pub IsReadExplained : (cert_file script_file : Option (List ℕ)) → (warnings : Bool) → (text certificate script : List ℕ) → Result Listing AsmFault → Explanation → Type 0
 IsReadExplained cert_file script_file warnings text certificate script (Ok p) e =

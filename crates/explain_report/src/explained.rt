@@ -4,7 +4,6 @@ ghost use Rattle.std.specs.Option.{option_map};
 ghost use Rattle.std.specs.String.{string_bytes};
 ghost use Rattle.annotated_asm.specs.ProgramText.{parse};
 ghost use Rattle.annotator.specs.Least.{IsLeast};
-ghost use Rattle.text_diagnostics.specs.Refusals.{refusal};
 ghost use Rattle.input_diagnostics.specs.MistakenTexts.{mistaken_kind};
 ghost use Rattle.explain_report.specs.Beside.{IsCertificateSaid, is_silent};
 ghost use Rattle.explain_report.specs.Explained.{AreWarned, IsExplained, IsProgramExplained, IsRefusedBy, IsRefusedSaid, IsScriptSaid, said_status};
@@ -20,6 +19,7 @@ use diagnostics::diagnostic::Diagnostic;
 use diagnostics::listed::Listed;
 use input_diagnostics::mistaken::{Mistaken, mistaken_error, mistaken_kind};
 use input_diagnostics::script::script_errors;
+use judged_fixes::judged::judge_fixes;
 use mark_diagnostics::error::mark_errors;
 use mark_diagnostics::warning::mark_warnings;
 use mask_certificate::certificate::Cert;
@@ -98,6 +98,7 @@ fn refusal_explained(alloc: Global, text: &[u8], fault: AsmFault) -> Result<Expl
         said: Listed::new(said),
         has_wrong_marks: false,
         status: 1,
+        fixed: None,
     })
 }
 
@@ -120,10 +121,20 @@ fn program_explained(
     let errors = mark_errors(alloc, text, program, &least)?;
     let asked = is_asked(warnings, &errors);
     let warned = warned(alloc, text, program, &least, asked)?;
-    let beside = certificate_said(alloc, cert_file, text, program, &least, certificate)?;
+    let certified = certificate_said(alloc, cert_file, text, program, &least, certificate)?;
     let scripted = script_said(alloc, script_file, program, script)?;
-    let explained = explained_by(alloc, errors, warned, both(beside, scripted)?)?;
-    Ok(explained)
+    let beside = both(certified, scripted)?;
+    let status = status_of(&errors, &beside);
+    let has_wrong_marks = !is_silent(&errors);
+    let judged = judge_fixes(alloc, text, program, &least, errors)?;
+    let all = both(judged.errors, both(warned, beside)?)?;
+    let said = in_order(alloc, all)?;
+    Ok(Explanation {
+        said: Listed::new(said),
+        has_wrong_marks,
+        status,
+        fixed: judged.fixed,
+    })
 }
 
 // What is wrong with the text of an event script, if a file of one is named.
@@ -139,29 +150,6 @@ fn script_said(
         Some(_) => script_errors(alloc, script, program),
         None => Ok(Vec::new(alloc)),
     }
-}
-
-// What is wrong with the marks, what could be better about them, and what is wrong with the texts beside the program, in
-// the order of their places.
-fn explained_by(
-    alloc: Global,
-    errors: Vec<Diagnostic>,
-    warned: Vec<Diagnostic>,
-    beside: Vec<Diagnostic>,
-) -> Result<Explanation, AllocError>
-    ensures said { IfOk result (λ explained. explained.said ≡ in_order (errors.items ++ (warned.items ++ beside.items))) }
-    ensures wrong { IfOk result (λ explained. explained.has_wrong_marks ≡ not (is_silent errors.items)) }
-    ensures status { IfOk result (λ explained. explained.status ≡ said_status (errors.items ++ beside.items)) }
-{
-    let status = status_of(&errors, &beside);
-    let has_wrong_marks = !is_silent(&errors);
-    let all = both(errors, both(warned, beside)?)?;
-    let said = in_order(alloc, all)?;
-    Ok(Explanation {
-        said: Listed::new(said),
-        has_wrong_marks,
-        status,
-    })
 }
 
 // What could be better about the marks, where that is asked for.

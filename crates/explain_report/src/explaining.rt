@@ -10,9 +10,11 @@ use crate::inputs::{file_lines, file_name, joined, lines_of};
 use diagnostic_log::json_lines::lines_text;
 use diagnostic_log::sarif::log_text;
 use diagnostics::colour::Colour;
+use diagnostics::diagnostic::{Diagnostic, Severity, Source};
 use diagnostics::files::{Files, TextFile};
 use diagnostics::text::text_of;
 use jobs::job::{Colors, Format, Texts};
+use judged_fixes::proposal::has_fix;
 use report_texts::report::JobReport;
 use shown_names::shell::shell_word;
 use std::alloc::{AllocError, Global};
@@ -81,9 +83,10 @@ fn written(
         Colors::Always => Colour::Always,
         Colors::Auto | Colors::Never => Colour::Never,
     };
+    let are_right = mends(explained);
     match format {
-        Format::Sarif => return log_text(alloc, files, said),
-        Format::Json => return lines_text(alloc, files, said),
+        Format::Sarif => return log_text(alloc, files, said, are_right),
+        Format::Json => return lines_text(alloc, files, said, are_right),
         Format::Text => {}
     }
     let mut text = text_of(alloc, files, said, colour)?;
@@ -94,5 +97,59 @@ fn written(
             "to look for a run that goes wrong: multiscalar demonstrate {name}"
         )?;
     }
+    if are_right {
+        write_right(alloc, &mut text, said)?;
+    }
     Ok(text.into_bytes())
+}
+
+// Whether what is told to write makes the marks right.
+fn mends(explained: &Explanation) -> bool {
+    match &explained.fixed {
+        Some(fixed) => fixed.is_right,
+        None => false,
+    }
+}
+
+// Adds that with the fixes that are told the marks are right; where not every error has one, with the fixes of which lines.
+fn write_right(alloc: Global, text: &mut String, said: &[Diagnostic]) -> Result<(), AllocError> {
+    let mut lines = Vec::new(alloc);
+    let mut fixes: usize = 0;
+    let mut is_each = true;
+    for one in said {
+        if one.severity == Severity::Error && one.source == Source::Program {
+            if has_fix(one) {
+                fixes = fixes.saturating_add(1);
+                lines.push(one.span.map_or(0, |span| span.line))?;
+            } else {
+                is_each = false;
+            }
+        }
+    }
+    lines.dedup();
+    match (is_each, fixes) {
+        (true, 1) => writeln!(text, "with this fix the marks are right"),
+        (true, _) => writeln!(text, "with these {fixes} fixes the marks are right"),
+        _ => write_lines(text, &lines),
+    }
+}
+
+// Adds that with the fixes of these lines the marks are right.
+fn write_lines(text: &mut String, lines: &[u32]) -> Result<(), AllocError> {
+    let last = lines.len().saturating_sub(1);
+    write!(
+        text,
+        "with the fix{} of line{} ",
+        if last == 0 { "" } else { "es" },
+        if last == 0 { "" } else { "s" }
+    )?;
+    for (place, line) in lines.iter().enumerate() {
+        let before = match place {
+            0 => "",
+            _ if place == last => " and ",
+            _ => ", ",
+        };
+        write!(text, "{before}{line}")?;
+    }
+    writeln!(text, " the marks are right")
 }

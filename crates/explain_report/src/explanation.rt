@@ -2,6 +2,7 @@
 
 use diagnostics::diagnostic::Diagnostic;
 use diagnostics::listed::Listed;
+use judged_fixes::fixed::Fixed;
 
 /// The diagnostics for the texts of `explain`, whether marks are wrong, and the status of the program.
 #[derive(Debug, Drop)]
@@ -12,4 +13,6 @@ pub struct Explanation {
     pub has_wrong_marks: bool,
     /// 1 where something is wrong, else 0.
     pub status: u8,
+    /// The program text with fixes made in it, which were judged; `None` where there is none to make.
+    pub fixed: Option<Fixed>,
 }

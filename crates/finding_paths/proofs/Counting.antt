@@ -1,9 +1,9 @@
 -- A place has at most 210 findings and a task at most 4,097 places, so the findings can be counted.
 use Rattle.std.proofs.Common.{◌≡◌, ℕ, zero, suc, ◌+◌, ◌-◌, ◌*◌, ◌≤◌, List, [], ◌∷◌, ◌++◌, Bool, true, false, nat_eq, nat_lt, if◌then◌else◌, cond, Option, Some, None, length, take, slice_get, refl, sym, ◌∙◌, ap, subst, arith, length-append}
-use Rattle.std.specs.Prelude.{Contains, filter}
+use Rattle.std.specs.Prelude.{filter}
 use Rattle.std.specs.List.{flat_map, range_with_len}
 use Rattle.std.proofs.Math.Nat.{suc-mul}
-use Rattle.std.proofs.lemmas.List.{get_or-take, length-map}
+use Rattle.std.proofs.lemmas.List.{length-map}
 use Rattle.std.proofs.lemmas.List.FromFn.{length-range_with_len}
 use Rattle.task_descriptor.specs.Listing.{Listing}
 use Rattle.task_descriptor.specs.declared.descriptor.Marked.{Marked}
@@ -24,22 +24,10 @@ take_room (suc n) (x ∷ xs) ys =
     let e : n - length (take n xs) ≡ suc n - suc (length (take n xs)) = omega arith in
     ap (λ rest. x ∷ rest) (take_room n xs ys) ∙ ap (λ m. x ∷ (take n xs ++ take m ys)) e
 
-pub take_few : {X : Type 0} (most : ℕ) (xs : List X) → length (take most xs) ≤ most
-take_few zero xs = omega arith
-take_few (suc n) [] = omega arith
-take_few (suc n) (x ∷ xs) = let h = take_few n xs in omega arith
-
 pub take_less : {X : Type 0} (most : ℕ) (xs : List X) → length (take most xs) ≤ length xs
 take_less zero xs = omega arith
 take_less (suc n) [] = omega arith
 take_less (suc n) (x ∷ xs) = let h = take_less n xs in omega arith
-
--- what is in the first of a list is in the list
-pub first_contains : {X : Type 0} (most : ℕ) (xs : List X) (x : X) → Contains (take most xs) x → Contains xs x
-first_contains most xs x h =
-    let few = take_few most xs in
-    let less = take_less most xs in
-    (h.0, omega (arith, less, h.1), sym (get_or-take most xs h.0 x (omega (arith, few, h.1))) ∙ h.2)
 
 -- the list with the first of what is after it
 pub list_more : {X : Type 0} (most : ℕ) (xs ys all list new : List X) → list ≡ take most xs → xs ++ ys ≡ all → new ≡ list ++ take (most - length list) ys → new ≡ take most all

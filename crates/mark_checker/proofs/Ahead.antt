@@ -1,8 +1,7 @@
 -- A test of some end of an instruction's edges is the test of one of the two indices that the code
 -- has: each way an index goes over, by cases on which of the two it is.
-use Rattle.std.proofs.Common.{◌≡◌, ℕ, ◌+◌, ◌<◌, ◌≤◌, ◌⊎◌, ◌↔◌, Bool, true, false, not, ◌&&◌, ◌||◌, cond, nat_eq, nat_lt, nat_le, Option, Some, None, List, [], ◌∷◌, ◌++◌, length, slice_get, refl, sym, ◌∙◌, ap, subst, inl, inr, arith, suc}
-use Rattle.std.specs.List.{list_any, prefix_len}
-use Rattle.std.specs.Prelude.{position, is_some}
+use Rattle.std.proofs.Common.{◌≡◌, ℕ, ◌+◌, ◌<◌, ◌≤◌, ◌⊎◌, ◌↔◌, Bool, true, false, ◌&&◌, ◌||◌, nat_lt, nat_le, Option, Some, None, ◌++◌, length, slice_get, refl, sym, ◌∙◌, ap, subst, inl, inr, arith}
+use Rattle.std.specs.List.{list_any}
 use Rattle.std.specs.Option.{option_to_list}
 use Rattle.std.proofs.lemmas.Bool.{or_cases, or_left, or_right, and_parts, and_from, ltb-true, lt-ltb, leb-true, le-leb, eqb-true, eq-eqb}
 use Rattle.task_descriptor.specs.Listing.{Listing}
@@ -153,30 +152,3 @@ any_beyond p i m off there exact =
 
     beyond : ℕ → Bool
     beyond j = nat_le (length p.code) j
-
-one_before : (b rest : Bool) (n k : ℕ) → nat_lt n k ≡ rest → nat_lt (cond (not b) (1 + n) 0) (suc k) ≡ (b || rest)
-one_before true rest n k e = lt-ltb 0 (suc k) (omega arith)
-one_before false rest n k e = bool_same (nat_lt (1 + n) (suc k)) rest
-    (λ h. let less : 1 + n < suc k = ltb-true (1 + n) (suc k) h in
-    sym e ∙ lt-ltb n k (omega arith))
-    (λ h. let less : n < k = ltb-true n k (e ∙ h) in
-    lt-ltb (1 + n) (suc k) (omega arith))
-
--- some element passes where the first that does comes before the end
-stops_before : {X : Type 0} (test : X → Bool) (xs : List X) → nat_lt (prefix_len (λ x. not (test x)) xs) (length xs) ≡ list_any test xs
-stops_before test [] = refl
-stops_before test (x ∷ xs) = one_before (test x) (list_any test xs) (prefix_len (λ y. not (test y)) xs) (length xs) (stops_before test xs)
-
-pub is_some_position : {X : Type 0} (test : X → Bool) (xs : List X) → is_some (position test xs) ≡ list_any test xs
-is_some_position test xs = by_less (nat_lt (prefix_len (λ x. not (test x)) xs) (length xs)) ∙ stops_before test xs
-  where
-    by_less : (b : Bool) → is_some (cond b (Some (prefix_len (λ x. not (test x)) xs)) None) ≡ b
-    by_less true = refl
-    by_less false = refl
-
-pub same_test : {X : Type 0} (f g : X → Bool) → ((x : X) → f x ≡ g x) → (xs : List X) → list_any f xs ≡ list_any g xs
-same_test f g e [] = refl
-same_test f g e (x ∷ xs) = λ k. e x k || same_test f g e xs k
-
-pub eq_turned : (a b : ℕ) → nat_eq a b ≡ nat_eq b a
-eq_turned a b = bool_same (nat_eq a b) (nat_eq b a) (λ h. eq-eqb b a (sym (eqb-true a b h))) (λ h. eq-eqb a b (sym (eqb-true b a h)))

@@ -186,9 +186,12 @@ flat_range f a (suc n) =
     ap (λ zs. f a ++ zs) (flat_range f (a + 1) n ∙ ap (λ (k : ℕ). flat_map f (range_with_len (a + 1) n) ++ f k) e)
     ∙ sym (append_assoc (f a) (flat_map f (range_with_len (a + 1) n)) (f (a + suc n)))
 
+pub range_more : {X : Type 0} (f : ℕ → List X) (n : ℕ) → flat_map f (range_with_len 0 n) ++ f n ≡ flat_map f (range_with_len 0 (n + 1))
+range_more f n =
+    let e : n ≡ 0 + n = omega arith in
+    ap (λ (k : ℕ). flat_map f (range_with_len 0 n) ++ f k) e
+    ∙ sym (flat_range f 0 n) ∙ ap (λ (k : ℕ). flat_map f (range_with_len 0 k)) (sym (add-one n))
+
 pub one_task_more : (p : Listing) (cert : List (List (ℕ × ℕ))) (n : ℕ)
     → flat_map (rules p cert) (range_with_len 0 n) ++ rules p cert n ≡ flat_map (rules p cert) (range_with_len 0 (n + 1))
-one_task_more p cert n =
-    let e : n ≡ 0 + n = omega arith in
-    ap (λ (k : ℕ). flat_map (rules p cert) (range_with_len 0 n) ++ rules p cert k) e
-    ∙ sym (flat_range (rules p cert) 0 n) ∙ ap (λ (k : ℕ). flat_map (rules p cert) (range_with_len 0 k)) (sym (add-one n))
+one_task_more p cert n = range_more (rules p cert) n

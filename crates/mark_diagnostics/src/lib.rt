@@ -7,5 +7,5 @@ mod mask;
 mod release;
 mod sending;
 mod together;
-mod told;
+pub mod told;
 pub mod warning;

@@ -106,7 +106,7 @@ fn add_first(list: &mut Vec<Finding>, found: &[Finding], most: usize) -> Made<()
 
 /// The first findings to report of a program with its least certificate, at most `most`, and how many there are in all.
 /// It holds the findings of one task at a time.
-pub(crate) fn first_told(
+pub fn first_told(
     alloc: Global,
     program: &Program,
     cert: &Cert,

@@ -1,5 +1,5 @@
 -- The digits in front of the first space: what they write, and what shows that they write no index.
-use Rattle.std.proofs.Common.{◌≡◌, ℕ, ◌<◌, ◌≤◌, true, false, not, ◌&&◌, eqb, ltb, leb, List, length, get_or, take, Some, None, refl, sym, ◌∙◌, ap, arith, ⊎_elim, inl, inr}
+use Rattle.std.proofs.Common.{◌≡◌, ℕ, ◌<◌, ◌≤◌, true, false, not, ◌&&◌, eqb, ltb, leb, List, length, get_or, take, Some, None, sym, ◌∙◌, ap, arith, ⊎_elim, inl, inr}
 use Rattle.std.specs.Char.{is_ascii_digit}
 use Rattle.std.specs.List.{list_all, position, position_or_len}
 use Rattle.std.specs.Str.Parse.{digits_value}
@@ -21,17 +21,6 @@ index_done ds some few no_zero digits =
 
 no_index : (ds : List ℕ) → is_index ds ≡ false → index_in ds ≡ None
 no_index ds wrong = cond-false (is_index ds) (Some (digits_value 10 ds)) None wrong
-
--- what keeps digits from being an index
-pub empty_is_none : (ds : List ℕ) → length ds ≡ 0 → index_in ds ≡ None
-empty_is_none ds empty = no_index ds (and_left _ _ (lt-leb 1 (length ds) (omega arith)))
-
-pub zero_is_none : (ds : List ℕ) → get_or ds 0 0 ≡ 48 → 1 < length ds → index_in ds ≡ None
-zero_is_none ds zero more =
-    let first : eqb (get_or ds 0 0) 48 ≡ true = eq-eqb _ _ zero in
-    let longer : ltb 1 (length ds) ≡ true = lt-ltb _ _ more in
-    let wrong : (not (eqb (get_or ds 0 0) 48 && ltb 1 (length ds)) && list_all is_ascii_digit ds) ≡ false = rw (first, longer) refl in
-    no_index ds (and_right (leb 1 (length ds)) _ (and_right (leb (length ds) 5) _ wrong))
 
 pub long_is_none : (ds : List ℕ) → 5 < length ds → index_in ds ≡ None
 long_is_none ds long = no_index ds (and_right _ _ (and_left _ _ (lt-leb (length ds) 5 long)))

@@ -4,7 +4,7 @@ use Rattle.std.proofs.lemmas.Bool.{and_parts}
 use Rattle.mask_certificate.specs.declared.fault.CertFault.{CertFault}
 use Rattle.mask_certificate.specs.CertificateReading.{◌>>=◌, Judged, entries_in, behind_task_line, lists_at}
 use Rattle.mask_certificate.specs.Blocks.{TellsOf}
-use Rattle.mask_certificate.proofs.Telling.{TellsOfAll, tells_none, tells_push}
+use Rattle.mask_certificate.proofs.Telling.{TellsOfAll, tells_push}
 
 -- what was read before, and what is still read
 abbrev pub with_front : List (List (ℕ × ℕ)) → Result (List (List (ℕ × ℕ))) CertFault → Result (List (List (ℕ × ℕ))) CertFault
@@ -36,13 +36,6 @@ pub record HasRead (n : ℕ) (names : List (List ℕ)) (lines : List Judged) (wh
   pub lists : with_front front (lists_at n names lines) ≡ whole
   pub told : TellsOfAll front right
   pub same : right ≡ true → kept ≡ front
-
-none_front : (read : Result (List (List (ℕ × ℕ))) CertFault) → with_front [] read ≡ read
-none_front (Ok lists) = refl
-none_front (Err fault) = refl
-
-pub none_read : (n : ℕ) (names : List (List ℕ)) (lines : List Judged) → HasRead n names lines (lists_at n names lines) [] true
-none_read n names lines = record { front = []; lists = none_front (lists_at n names lines); told = tells_none; same = λ e. refl }
 
 module _ (n : ℕ) (name : List ℕ) (names : List (List ℕ)) (lines : List Judged) (whole : Result (List (List (ℕ × ℕ))) CertFault) (kept : List (List (ℕ × ℕ))) (right : Bool)
     (read : HasRead n (name ∷ names) lines whole kept right) where

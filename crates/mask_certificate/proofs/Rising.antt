@@ -80,9 +80,6 @@ module _ (entries : List (ℕ × ℕ)) (rises : Rises entries) (index : ℕ) whe
   pairs_rise : AllPairs (λ x y. x < y) (indices entries)
   pairs_rise = AllPairs-from_increasing (indices entries) rises.rising
 
-  index_at : ℕ → ℕ
-  index_at k = (get_or entries k (0, 0)).0
-
   indices_rise : (i j : ℕ) → i < j → j < length entries → (get_or entries i (0, 0)).0 < (get_or entries j (0, 0)).0
   indices_rise i j lt within =
       let at : (k : ℕ) → k < length entries → get_or (indices entries) k 0 ≡ (get_or entries k (0, 0)).0 = λ k in'. get_or-map (λ (e : ℕ × ℕ). e.0) entries k (0, 0) 0 in' in

@@ -4,10 +4,10 @@ use Rattle.std.specs.List.{All}
 use Rattle.std.specs.Option.{option_or}
 use Rattle.std.proofs.Common.{◌≡◌, ℕ, ◌+◌, ◌^◌, ◌<◌, ◌≤◌, Bool, true, false, cond, ◌&&◌, ltb, leb, List, [], ◌∷◌, ◌++◌, length, Option, Some, None, refl, sym, ◌∙◌, ap}
 use Rattle.std.proofs.lemmas.Bool.{and_parts}
-use Rattle.std.proofs.lemmas.List.Elements.{All-nil, All-push}
+use Rattle.std.proofs.lemmas.List.Elements.{All-push}
 use Rattle.std.proofs.lemmas.List.Recursion.{and_push}
 use Rattle.mask_certificate.specs.declared.certificate.ListFault.{ListFault}
-use Rattle.mask_certificate.specs.Lists.{fault_in, first_fault, IsCertificate}
+use Rattle.mask_certificate.specs.Lists.{fault_in, first_fault}
 use Rattle.mask_certificate.specs.Blocks.{TellsOf}
 use Rattle.mask_certificate.proofs.Rising.{rises_alone, few_entries}
 
@@ -42,9 +42,6 @@ faults_cons : (list : List (ℕ × ℕ)) (lists : List (List (ℕ × ℕ))) → 
 faults_cons list lists =
     none_or (fault_in 0 0 0 list) (first_fault 1 lists) ∙ ap (λ (b : Bool). is_none (fault_in 0 0 0 list) && b) (same_faults 1 0 lists)
 
-pub tells_none : TellsOfAll [] true
-tells_none = record { rising = refl; masks = λ e. All-nil _ }
-
 pub tells_push : (lists : List (List (ℕ × ℕ))) (list : List (ℕ × ℕ)) (right here : Bool) → TellsOfAll lists right → TellsOf list here → TellsOfAll (lists ++ list ∷ []) (right && here)
 tells_push lists list right here all one = record {
   rising =
@@ -62,12 +59,6 @@ fault_none (Some fault) e = cc
 -- a list that is right has few entries
 pub told_few : (list : List (ℕ × ℕ)) (right : Bool) → TellsOf list right → right ≡ true → length list ≤ 4096
 told_few list right tells e = few_entries list (rises_alone list 0 (fault_none (fault_in 0 0 0 list) (sym e ∙ tells.rising)))
-
-pub told_right : (lists : List (List (ℕ × ℕ))) (right : Bool) → TellsOfAll lists right → right ≡ true → IsCertificate lists
-told_right lists right tells e = record {
-  rising = fault_none (first_fault 0 lists) (sym e ∙ tells.rising);
-  masks = tells.masks e;
-}
 
 masks_of : {P : Type 0} (o : Option ListFault) → IfNone o P → is_none o ≡ true → P
 masks_of None p e = p

@@ -1,13 +1,12 @@
 -- What is pushed at the end of a text, one piece after another.
-use Rattle.std.proofs.Common.{◌≡◌, ℕ, zero, suc, ◌+◌, ◌-◌, ◌/◌, ◌%◌, ◌^◌, ◌<◌, ◌≤◌, List, [], ◌∷◌, ◌++◌, length, get_or, take, drop, refl, sym, ◌∙◌, ap, arith, append_assoc}
+use Rattle.std.proofs.Common.{◌≡◌, ℕ, zero, suc, ◌+◌, ◌-◌, ◌/◌, ◌%◌, ◌^◌, ◌<◌, ◌≤◌, List, [], ◌∷◌, ◌++◌, length, get_or, take, sym, ◌∙◌, ap, arith, append_assoc}
 use Rattle.std.specs.Char.{digit_char}
 use Rattle.std.specs.Fmt.{decimal}
 use Rattle.std.specs.List.{flat_map}
 use Rattle.std.proofs.lemmas.Fmt.{decimal_digit, decimal_step}
-use Rattle.std.proofs.lemmas.List.{take_more, flat_map_more, drop_all}
+use Rattle.std.proofs.lemmas.List.{take_more, flat_map_more}
 use Rattle.mask_certificate.specs.declared.fault.MaskSpelling.TheVariants.{Wide}
-use Rattle.mask_certificate.specs.Lists.{list_of}
-use Rattle.mask_certificate.specs.CertificateText.{hexadecimal, entry_text, task_text, tasks_text}
+use Rattle.mask_certificate.specs.CertificateText.{hexadecimal, entry_text, task_text}
 
 -- a last decimal digit
 pub decimal_more : (old text : List ℕ) (n digit : ℕ) → 10 ≤ n → n < 2 ^ 64 → text ≡ old ++ decimal (n / 10) → digit ≡ 48 + n % 10 → text ++ digit ∷ [] ≡ old ++ decimal n
@@ -49,26 +48,3 @@ task_more old name list i entry within is =
     append_assoc old (task_text Wide name front) (entry_text Wide entry)
     ∙ ap (λ (t : List ℕ). old ++ (116 ∷ 97 ∷ 115 ∷ 107 ∷ 32 ∷ t)) (append_assoc name (10 ∷ flat_map (entry_text Wide) front) (entry_text Wide entry))
     ∙ ap (λ (t : List ℕ). old ++ (116 ∷ 97 ∷ 115 ∷ 107 ∷ 32 ∷ (name ++ 10 ∷ t))) entries
-
--- one task more, where the list may be missing
-pub tasks_more : (name : List ℕ) (names : List (List ℕ)) (lists : List (List (ℕ × ℕ))) (task : ℕ)
-    → tasks_text Wide (name ∷ names) (drop task lists) ≡ task_text Wide name (list_of lists task) ++ tasks_text Wide names (drop (task + 1) lists)
-tasks_more name names [] zero = refl
-tasks_more name names [] (suc task) = rw drop_nil refl
-  where
-    drop_nil : drop {A = List (ℕ × ℕ)} (suc task + 1) [] ≡ []
-    drop_nil = drop_all (suc task + 1) [] (omega arith)
-tasks_more name names (list ∷ lists) zero = refl
-tasks_more name names (list ∷ lists) (suc task) =
-    tasks_more name names lists task ∙ ap (λ n. task_text Wide name (list_of lists task) ++ tasks_text Wide names (drop n (list ∷ lists))) (next task)
-  where
-    next : (n : ℕ) → suc (n + 1) ≡ suc n + 1
-    next n = omega arith
-
--- a task written
-pub task_written : (old text whole : List ℕ) (name : List ℕ) (names : List (List ℕ)) (lists : List (List (ℕ × ℕ))) (task : ℕ) → old ++ tasks_text Wide (name ∷ names) (drop task lists) ≡ whole
-    → text ≡ old ++ task_text Wide name (list_of lists task) → text ++ tasks_text Wide names (drop (task + 1) lists) ≡ whole
-task_written old text whole name names lists task so_far pushed =
-    let rest = tasks_text Wide names (drop (task + 1) lists) in
-    ap (λ (t : List ℕ). t ++ rest) pushed ∙ append_assoc old (task_text Wide name (list_of lists task)) rest
-    ∙ sym (ap (λ (t : List ℕ). old ++ t) (tasks_more name names lists task)) ∙ so_far

@@ -1,5 +1,5 @@
 -- What the calls on a unit, a queue and a processor leave is what the model's events leave.
-use Rattle.std.specs.Prelude.{◌≡◌, ℕ, ◌+◌, Bool, true, false, ◌||◌, nat_eq, Option, Some, None, is_none, List, [], ◌∷◌, ◌++◌, slice_get, slice_set, slice_index, map, if◌then◌else◌, Result, Ok, Err, OnOk}
+use Rattle.std.specs.Prelude.{◌≡◌, ℕ, ◌+◌, Bool, true, false, ◌||◌, nat_eq, Option, Some, None, is_none, List, [], ◌∷◌, ◌++◌, slice_set, slice_index, map, if◌then◌else◌, Result, Ok, Err, OnOk}
 use Rattle.std.proofs.Common.{refl, sym, ap, ◌∙◌, subst, cond, add-one}
 use Rattle.std.proofs.lemmas.List.{map-append}
 use Rattle.std.proofs.Math.Path.{fun_ext}
@@ -10,12 +10,12 @@ use Rattle.std.proofs.lemmas.Bool.{eqb-true}
 use Rattle.mips_plain.specs.Effect.{may_run_ahead, memory_after, output_after, outcome_after}
 use Rattle.task_descriptor.specs.Listing.{Listing}
 use Rattle.task_descriptor.specs.declared.descriptor.Marked.{Marked}
-use Rattle.machine_model.specs.Machine.{Active, State, Words, task_at, creates, value}
-use Rattle.machine_model.specs.Unit.{after_exec, after_drain, drain_refusal, exec_refusal, exit_of, instruction_at, lacks, operand, put}
+use Rattle.machine_model.specs.Machine.{Active, State, Words, task_at, value}
+use Rattle.machine_model.specs.Unit.{after_exec, exec_refusal, instruction_at, lacks, operand, put}
 use Rattle.machine_model.specs.Refusals.{for_none, for_some, least, unless}
 use Rattle.machine_model.specs.Step.{is_reserved, started, stands}
-use Rattle.machine_model.specs.Answer.{after, with_queue, with_unit, exec_after, index_of_place, refusal}
-use Rattle.machine_model.specs.declared.event.Event.TheVariants.{Assign, Drain}
+use Rattle.machine_model.specs.Answer.{after, with_unit, exec_after, index_of_place}
+use Rattle.machine_model.specs.declared.event.Event.TheVariants.{Assign}
 use Rattle.machine_model.specs.declared.event.Refused.{Refused}
 use Rattle.machine_model.specs.declared.event.Refused.TheVariants as refused
 use Rattle.machine_model.specs.declared.event.Spot.TheVariants.{Inside}
@@ -27,7 +27,7 @@ use Rattle.processor_steps.specs.Processors.{QueueView, ProcessorView, state_of,
 use Rattle.processor_steps.proofs.Queues.{changed}
 use Rattle.open_machine.specs.Instructions.{IsAt}
 use Rattle.open_machine.specs.Executions.{Executes, ExecutesAt}
-use Rattle.open_machine.specs.declared.instruction.Next.{Next}
+use Rattle.unit_core.specs.declared.step.Next.{Next}
 
 -- a unit that begins is the one that the model starts
 pub begins_started : (p : Listing) (s : State) (words : List ℕ) (accum t : ℕ) (u : UnitView) → ((r : ℕ) → has accum r ≡ is_reserved p s.queue r) → s.regs ≡ (λ r. slice_index words r) → u.task ≡ t → u.serial ≡ s.assigns → u.place ≡ Inside (task_at p t).entry → arrived_of u.port ≡ arrived_fresh words accum → sent_of u.port ≡ no_pairs → pairs u.local ≡ no_pairs → u.log ≡ [] → active_of u ≡ started p s t
@@ -98,24 +98,6 @@ unsent_put false (Some x) w none = refl
 pub first_is_put : (r w : ℕ) (words : Words) → words r ≡ None → put_first r w words ≡ put r w words
 first_is_put r w words none =
     fun_ext (λ (s : ℕ). unsent_put (nat_eq s r) (words s) w (λ here. ap words (eqb-true s r here) ∙ none))
-
-unsent_by : (created : Bool) (exit sent : Option ℕ) (rest : Option Refused) → unless created refused.NoSuch (for_some exit refused.NotStopped (λ at. unless (is_none sent) refused.AlreadyThere rest)) ≡ None → sent ≡ None
-unsent_by true (Some at) None rest e = refl
-unsent_by true (Some at) (Some w) rest e = absurd (cc)
-unsent_by true None sent rest e = absurd (cc)
-unsent_by false exit sent rest e = absurd (cc)
-
-unsent_where : (p : Listing) (u : Active) (r : ℕ) → drain_refusal p u r ≡ None → u.sent r ≡ None
-unsent_where p u r none = unsent_by (creates p u.task r) (exit_of u.place) (u.sent r) _ none
-
-drained_by : (p : Listing) (s : State) (queue : List Active) (k r word : ℕ) (o : Option Active) → for_some o refused.NoSuch (λ u. drain_refusal p u r) ≡ None → ((u : Active) → o ≡ Some u → operand u r ≡ word) → ((u : Active) → o ≡ Some u → u.sent r ≡ None → queue ≡ slice_set s.queue k (record u { sent = put r word u.sent })) → with_queue s queue ≡ with_unit s o (λ u. with_queue s (slice_set s.queue k (after_drain u r (operand u r))))
-drained_by p s queue k r word None none is leaves = absurd (cc)
-drained_by p s queue k r word (Some u) none is leaves =
-    ap (λ (us : List Active). with_queue s us) (leaves u refl (unsent_where p u r none))
-    ∙ ap (λ (w : ℕ). with_queue s (slice_set s.queue k (after_drain u r w))) (sym (is u refl))
-
-pub drained : (p : Listing) (units : ℕ) (s : State) (queue : List Active) (k r word : ℕ) → refusal p units s (Drain k r) ≡ None → ((u : Active) → slice_get s.queue k ≡ Some u → operand u r ≡ word) → ((u : Active) → slice_get s.queue k ≡ Some u → u.sent r ≡ None → queue ≡ slice_set s.queue k (record u { sent = put r word u.sent })) → with_queue s queue ≡ after p s (Drain k r)
-drained p units s queue k r word none is leaves = drained_by p s queue k r word (slice_get s.queue k) none is leaves
 
 -- what refuses an Exec, put together
 pub exec_refused : (p : Listing) (u : Active) (n : Next) (lacking : Option ℕ) (h : Bool) (set : ℕ) → IsAt p u n → ((r : ℕ) → has set r ≡ waits n.marked.now.op r) → lacking ≡ least (has set) (λ r. is_none (value u r)) → for_none lacking refused.Waiting (unless (h || may_run_ahead n.marked.now.op n.a) refused.NotHead None) ≡ exec_refusal p h u

@@ -6,7 +6,7 @@ use Rattle.task_descriptor.specs.Listing.{Listing}
 use Rattle.machine_model.specs.Machine.{Active}
 use Rattle.machine_model.specs.Unit.{instruction_at, operand}
 use Rattle.machine_model.specs.declared.event.Spot.TheVariants.{Inside}
-use Rattle.open_machine.specs.declared.instruction.Next.{Next}
+use Rattle.unit_core.specs.declared.step.Next.{Next}
 
 pub record IsAt (p : Listing) (u : Active) (n : Next) : Type 0 where
   pub is_inside : u.place ≡ Inside n.index

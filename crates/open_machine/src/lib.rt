@@ -4,7 +4,6 @@
 
 mod allowed;
 mod changes;
-mod instruction;
 mod listing;
 pub mod machine;
 mod processor;

@@ -1,9 +1,8 @@
 -- Bytes of a line: those of a place, of a whole word, the first that no text has, and the first that form no token.
-use Rattle.std.specs.Prelude.{ℕ, ◌+◌, ◌-◌, ◌^◌, min, List, [], ◌∷◌, Bool, not, length, take, take_while, drop, slice_get, nat_lt, codes, Option, Some, None, unwrap_or, is_ok, if◌then◌else◌, ◌==◌, ◌||◌}
+use Rattle.std.specs.Prelude.{ℕ, ◌+◌, ◌-◌, ◌^◌, min, List, [], ◌∷◌, Bool, not, length, take, take_while, drop, slice_get, Option, Some, None, unwrap_or, is_ok, if◌then◌else◌, ◌==◌, ◌||◌}
 use Rattle.std.specs.List.{position}
 use Rattle.std.specs.Str.{byte}
 use Rattle.std.specs.Str.Lines.{strip_carriage_return}
-use Rattle.std.specs.Char.{is_ascii_digit, is_ascii_alphabetic}
 use Rattle.program_tokens.specs.Grammar.{is_text_byte, is_name_byte, line_tokens}
 use Rattle.program_tokens.specs.Spans.{line_spans}
 use Rattle.program_tokens.specs.declared.span.TokenSpan.{TokenSpan}
@@ -53,23 +52,3 @@ token_from line (at ∷ places) = if is_ok (line_tokens (bytes_at line at)) then
 -- the first bytes of a line that form no token
 unfoldable pub token_span : (line : List ℕ) → TokenSpan
 token_span line = token_from line (line_spans line)
-
--- what tokens that begin with this byte are
-abbrev pub token_help : (first : ℕ) → List ℕ
-token_help first =
-    if first == byte "$" then codes "a register is $0 to $31 or has a name, such as $sp or $t0"
-    else (if first == byte "@" then codes "a place is @ and decimal digits, such as @7"
-    else (if first == byte "-" || is_ascii_digit first then codes "a number is decimal digits, or 0x and hexadecimal digits, such as -4 or 0x1f; a name begins with a letter or _"
-    else (if first == byte "_" || is_ascii_alphabetic first then codes "a name has at most 32 letters, digits and _"
-    else (if first == byte "!" then codes "a mark is !f, !s, !st or !sn, in small letters"
-    else (if first == byte "." then codes "a label begins with a letter or _; a directive has small letters"
-    else codes "a line has names, registers, numbers, places, directives, marks and , : = ( ) -")))))
-
--- what to do about a byte that cannot stand where it does: 239 begins a byte order mark, 13 is CR, and 128 and more are of
--- other alphabets
-abbrev pub byte_help : (byte : ℕ) → List ℕ
-byte_help b =
-    if b == 239 then codes "save the file as plain ASCII, without a byte order mark"
-    else (if b == 13 then codes "a CR stands only directly before the end of a line"
-    else (if nat_lt b 128 then codes "a text has printable ASCII characters, spaces and tabs"
-    else codes "write an ASCII character in its place, such as - for a dash"))

@@ -3,12 +3,8 @@ pub mod ShapeTexts
 pub mod Examples
 pub mod Rows
 pub mod Bytes
-pub mod BinaryNumbers
 pub mod Shapes
-pub mod ForeignWords
 pub mod Forms
 pub mod Meant
+pub mod LineFaults
 pub mod LinePlaces
-pub mod Candidates
-pub mod Strings
-pub mod OwnWords

@@ -8,8 +8,8 @@ use Rattle.operand_forms.specs.declared.shape.OperandShape.TheVariants.{Nothing}
 use Rattle.operand_forms.specs.Shapes.{shape_of}
 use Rattle.operand_forms.specs.Bytes.{bytes_at, byte_at, byte_span, token_span, whole_word}
 use Rattle.operand_forms.specs.Meant.{span_at, operand_span, number_index, mark_index}
-use Rattle.syntax_tree.specs.declared.item.LineFaultKind.{LineFaultKind}
-use Rattle.syntax_tree.specs.declared.item.LineFaultKind.TheVariants as kind
+use Rattle.operand_forms.specs.declared.line_fault.LineFaultKind.{LineFaultKind}
+use Rattle.operand_forms.specs.declared.line_fault.LineFaultKind.TheVariants as kind
 use Rattle.operand_forms.specs.declared.rows.Reading.{Reading}
 
 -- a name and a colon

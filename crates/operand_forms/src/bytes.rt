@@ -4,7 +4,7 @@ ghost use Rattle.std.specs.Prelude.{◌≡◌, is_ok, length, take_while, IfOk};
 ghost use Rattle.std.specs.List.{position};
 ghost use Rattle.std.specs.Str.Lines.{strip_carriage_return};
 ghost use Rattle.program_tokens.specs.Grammar.{is_name_byte, line_tokens};
-ghost use Rattle.operand_forms.specs.Bytes.{is_bad_byte, bytes_at, byte_place, byte_span, byte_at, is_cut, whole_word, token_span, token_from, token_help, byte_help};
+ghost use Rattle.operand_forms.specs.Bytes.{is_bad_byte, bytes_at, byte_place, byte_span, byte_at, is_cut, whole_word, token_span, token_from};
 
 use crate::slices::{after, first};
 use program_tokens::line::read_tokens;
@@ -144,45 +144,4 @@ pub fn token_span(alloc: Global, line: &[u8]) -> Result<TokenSpan, AllocError>
     let mut spans = Vec::new(alloc);
     read_spans(&mut spans, line)?;
     token_from(alloc, line, &spans)
-}
-
-/// What tokens that begin with this byte are.
-pub fn token_help(first: u8) -> &'static str
-    ensures { result.now ≡ token_help first }
-{
-    if first == b'$' {
-        return "a register is $0 to $31 or has a name, such as $sp or $t0";
-    }
-    if first == b'@' {
-        return "a place is @ and decimal digits, such as @7";
-    }
-    if first == b'-' || first.is_ascii_digit() {
-        return "a number is decimal digits, or 0x and hexadecimal digits, such as -4 or 0x1f; a name begins with a letter or _";
-    }
-    if first == b'_' || first.is_ascii_alphabetic() {
-        return "a name has at most 32 letters, digits and _";
-    }
-    if first == b'!' {
-        return "a mark is !f, !s, !st or !sn, in small letters";
-    }
-    if first == b'.' {
-        return "a label begins with a letter or _; a directive has small letters";
-    }
-    "a line has names, registers, numbers, places, directives, marks and , : = ( ) -"
-}
-
-/// What to do about a byte that cannot stand where it does: 239 begins a byte order mark.
-pub fn byte_help(byte: u8) -> &'static str
-    ensures { result.now ≡ byte_help byte }
-{
-    if byte == 239 {
-        return "save the file as plain ASCII, without a byte order mark";
-    }
-    if byte == b'\r' {
-        return "a CR stands only directly before the end of a line";
-    }
-    if byte < 128 {
-        return "a text has printable ASCII characters, spaces and tabs";
-    }
-    "write an ASCII character in its place, such as - for a dash"
 }

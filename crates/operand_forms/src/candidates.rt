@@ -1,237 +1,136 @@
 //! Texts that may be meant in place of what is wrong in a line.
 
-ghost use Rattle.std.specs.Prelude.{◌≡◌, ◌++◌, ◌∷◌, [], map as each, filter, IfOk, OnOk};
-ghost use Rattle.program_tokens.specs.Numbers.{begins_with_digit};
-ghost use Rattle.mips_instructions.specs.InstructionTable.{word_of};
-ghost use Rattle.diagnostics.specs.Near.{is_near};
-ghost use Rattle.operand_forms.specs.Candidates.{is_known_word, near_statements, word_candidates, digits_of_register, register_candidates, operand_candidates, is_dollar_name, label_candidates, digit_candidates, number_candidates, token_candidates, mark_candidates, candidates};
-
-use crate::binary_numbers::binary_value;
 use crate::foreign_words::instead;
-use crate::shape::{DIRECTIVES, OperandShape, shape_of};
+use crate::line_fault::LineFaultKind;
+use crate::shape::{DIRECTIVES, shape_of};
 use crate::slices::after;
 use diagnostics::near::is_near;
 use diagnostics::words;
-use mips_instructions::instruction::{MNEMONICS, Mnemonic};
+use mips_instructions::instruction::MNEMONICS;
 use std::alloc::{AllocError, Global};
-use syntax_tree::item::LineFaultKind;
+
+/// Texts that may be meant.
+#[derive(Drop)]
+struct Texts {
+    alloc: Global,
+    list: Vec<Vec<u8>>,
+}
+
+impl Texts {
+    /// Adds a text made of two.
+    fn add(&mut self, first: &[u8], second: &[u8]) -> Result<(), AllocError> {
+        let mut text = first.to_vec(self.alloc)?;
+        text.extend_from_slice(second)?;
+        self.list.push(text)?;
+        Ok(())
+    }
+
+    /// Adds the statements that are near to a word of more than one letter.
+    fn add_near(&mut self, word: &[u8]) -> Result<(), AllocError> {
+        if word.len() < 2 {
+            return Ok(());
+        }
+        for mnemonic in &MNEMONICS {
+            if is_near(word, mnemonic.word().as_bytes()) {
+                self.add(mnemonic.word().as_bytes(), &[])?;
+            }
+        }
+        for (name, _) in &DIRECTIVES {
+            if is_near(word, name.as_bytes()) {
+                self.add(name.as_bytes(), &[])?;
+            }
+        }
+        Ok(())
+    }
+
+    /// Adds what may be meant by a word that begins no statement; nothing where it begins one in another section, or in other
+    /// assemblers.
+    fn add_words(&mut self, word: &[u8]) -> Result<(), AllocError> {
+        if shape_of(word).is_some() || instead(word).is_some() {
+            return Ok(());
+        }
+        let small = word.to_ascii_lowercase(self.alloc)?;
+        if shape_of(&small).is_some() {
+            return self.add(&small, &[]);
+        }
+        self.add_near(word)
+    }
+
+    /// Adds what may be meant by what is no operand; nothing where the operands end.
+    fn add_operands(&mut self, meant: &[u8]) -> Result<(), AllocError> {
+        match meant {
+            [] => Ok(()),
+            [b',', ..] => self.add(b" ", &[]),
+            _ => {
+                if !matches!(meant, [b'0'..=b'9', ..]) {
+                    self.add(b"$", digits_of_register(meant))?;
+                }
+                self.add(b",", meant)?;
+                self.add(b"!", meant)
+            }
+        }
+    }
+
+    /// Adds what may be meant by what is no token: it in small letters, a register, a label, or a number.
+    fn add_tokens(&mut self, meant: &[u8]) -> Result<(), AllocError> {
+        let small = meant.to_ascii_lowercase(self.alloc)?;
+        self.add(&small, &[])?;
+        let rest = after(meant, 1);
+        if meant != "+".as_bytes() {
+            self.add(b"$", digits_of_register(rest))?;
+        }
+        if matches!(meant, [b'$', b'_' | b'a'..=b'z' | b'A'..=b'Z', ..]) {
+            self.add(rest, &[])?;
+        }
+        if let Some(number) = binary_value(meant) {
+            let text = words!(in self.alloc; "{number}")?;
+            self.add(text.as_str().as_bytes(), &[])?;
+        }
+        Ok(())
+    }
+}
 
 /// The number of a register that is written as r8 or 08, or the bytes as they are.
-fn digits_of_register(bytes: &[u8]) -> &[u8]
-    ensures { result.now ≡ digits_of_register bytes.now }
-{
+fn digits_of_register(bytes: &[u8]) -> &[u8] {
     match bytes {
-        [b'r' | b'0', b'0'..=b'9', ..] => &bytes[1..],
+        [b'r' | b'0', b'0'..=b'9', ..] => after(bytes, 1),
         _ => bytes,
     }
 }
 
-/// Adds a text made of two.
-fn add(
-    alloc: Global,
-    list: &mut Vec<Vec<u8>>,
-    first: &[u8],
-    second: &[u8],
-) -> Result<(), AllocError>
-    ensures { OnOk result (each (λ text. text.items) list.new.items
-        ≡ each (λ text. text.items) list.old.items ++ (first.now ++ second.now) ∷ []) }
-{
-    let mut text = first.to_vec(alloc)?;
-    text.extend_from_slice(second)?;
-    list.push(text)?;
-    Ok(())
-}
-
-/// Adds those of some mnemonics that are near to a word.
-fn add_near(
-    alloc: Global,
-    list: &mut Vec<Vec<u8>>,
-    mnemonics: &[Mnemonic],
-    word: &[u8],
-) -> Result<(), AllocError>
-    ensures { OnOk result (each (λ text. text.items) list.new.items
-        ≡ each (λ text. text.items) list.old.items ++ filter (is_near word.now) (each word_of mnemonics.now)) }
-{
-    for mnemonic in mnemonics {
-        if is_near(word, mnemonic.word().as_bytes()) {
-            add(alloc, list, mnemonic.word().as_bytes(), &[])?;
-        }
+/// The number that 0b and binary digits spell, as other assemblers write it, if it has 32 bits at most.
+fn binary_value(bytes: &[u8]) -> Option<u32> {
+    let digits = match bytes {
+        [b'0', b'b' | b'B', digits @ ..] if !digits.is_empty() => digits,
+        _ => return None,
+    };
+    let mut value: u32 = 0;
+    for byte in digits {
+        let digit = char::from(*byte).to_digit(2)?;
+        value = value.checked_mul(2)?.checked_add(digit)?;
     }
-    Ok(())
-}
-
-/// Whether a word begins a statement, if only in another section, or in other assemblers.
-fn is_known_word(word: &[u8]) -> bool
-    ensures { result ≡ is_known_word word.now }
-{
-    shape_of(word).is_some() || instead(word).is_some()
-}
-
-/// Adds those of some directives that are near to a word.
-fn add_near_directives(
-    alloc: Global,
-    list: &mut Vec<Vec<u8>>,
-    rows: &[(&'static str, OperandShape)],
-    word: &[u8],
-) -> Result<(), AllocError>
-    ensures { OnOk result (each (λ text. text.items) list.new.items
-        ≡ each (λ text. text.items) list.old.items ++ filter (is_near word.now) (each (λ row. row.0.now) rows.now)) }
-{
-    for (name, _) in rows {
-        if is_near(word, name.as_bytes()) {
-            add(alloc, list, name.as_bytes(), &[])?;
-        }
-    }
-    Ok(())
-}
-
-/// The statements that are near to a word of more than one letter.
-fn near_statements(alloc: Global, word: &[u8]) -> Result<Vec<Vec<u8>>, AllocError>
-    ensures { IfOk result (λ list. each (λ text. text.items) list.items ≡ near_statements word.now) }
-{
-    let mut list = Vec::new(alloc);
-    if word.len() < 2 {
-        return Ok(list);
-    }
-    add_near(alloc, &mut list, &MNEMONICS, word)?;
-    add_near_directives(alloc, &mut list, &DIRECTIVES, word)?;
-    Ok(list)
-}
-
-/// The texts that may be meant by a word that begins no statement.
-#[tactic(auto, unfolding(crate::specs::Candidates::word_candidates))]
-fn word_candidates(alloc: Global, word: &[u8]) -> Result<Vec<Vec<u8>>, AllocError>
-    ensures { IfOk result (λ list. each (λ text. text.items) list.items ≡ word_candidates word.now) }
-{
-    if is_known_word(word) {
-        return Ok(Vec::new(alloc));
-    }
-    let small = word.to_ascii_lowercase(alloc)?;
-    if shape_of(&small).is_some() {
-        return only(alloc, small);
-    }
-    near_statements(alloc, word)
-}
-
-/// Whether some bytes begin with a digit.
-pub fn begins_with_digit(bytes: &[u8]) -> bool
-    ensures { result ≡ begins_with_digit bytes.now }
-{
-    matches!(bytes, [b'0'..=b'9', ..])
-}
-
-/// The register that may be meant by what is no operand: none by a number.
-fn register_candidates(alloc: Global, meant: &[u8]) -> Result<Vec<Vec<u8>>, AllocError>
-    ensures { IfOk result (λ list. each (λ text. text.items) list.items ≡ register_candidates meant.now) }
-{
-    let mut list = Vec::new(alloc);
-    if !begins_with_digit(meant) {
-        add(alloc, &mut list, b"$", digits_of_register(meant))?;
-    }
-    Ok(list)
-}
-
-/// The texts that may be meant by what is no operand; none where the operands end.
-fn operand_candidates(alloc: Global, meant: &[u8]) -> Result<Vec<Vec<u8>>, AllocError>
-    ensures { IfOk result (λ list. each (λ text. text.items) list.items ≡ operand_candidates meant.now) }
-{
-    match meant {
-        [] => Ok(Vec::new(alloc)),
-        [b',', ..] => only(alloc, b" ".to_vec(alloc)?),
-        _ => {
-            let mut list = register_candidates(alloc, meant)?;
-            add(alloc, &mut list, b",", meant)?;
-            add(alloc, &mut list, b"!", meant)?;
-            Ok(list)
-        }
-    }
-}
-
-/// Whether some bytes are a name after a `$`.
-fn is_dollar_name(bytes: &[u8]) -> bool
-    ensures { result ≡ is_dollar_name bytes.now }
-{
-    matches!(bytes, [b'$', b'_' | b'a'..=b'z' | b'A'..=b'Z', ..])
-}
-
-/// Adds the register that may be meant by what is no token: none by a sum.
-fn add_register(alloc: Global, list: &mut Vec<Vec<u8>>, meant: &[u8]) -> Result<(), AllocError>
-    ensures { OnOk result (each (λ text. text.items) list.new.items
-        ≡ each (λ text. text.items) list.old.items ++ digit_candidates meant.now) }
-{
-    if meant == "+".as_bytes() {
-        return Ok(());
-    }
-    add(alloc, list, b"$", digits_of_register(after(meant, 1)))
-}
-
-/// Adds the name of a label that may be meant by what is no token.
-fn add_label(alloc: Global, list: &mut Vec<Vec<u8>>, meant: &[u8]) -> Result<(), AllocError>
-    ensures { OnOk result (each (λ text. text.items) list.new.items
-        ≡ each (λ text. text.items) list.old.items ++ label_candidates meant.now) }
-{
-    if is_dollar_name(meant) {
-        return add(alloc, list, after(meant, 1), &[]);
-    }
-    Ok(())
-}
-
-/// Adds the decimal text of a number, if there is one.
-fn add_number(alloc: Global, list: &mut Vec<Vec<u8>>, number: Option<u32>) -> Result<(), AllocError>
-    ensures { OnOk result (each (λ text. text.items) list.new.items
-        ≡ each (λ text. text.items) list.old.items ++ number_candidates number) }
-{
-    if let Some(number) = number {
-        let text = words!(in alloc; "{number}")?;
-        return add(alloc, list, text.as_str().as_bytes(), &[]);
-    }
-    Ok(())
-}
-
-/// The texts that may be meant by what is no token.
-fn token_candidates(alloc: Global, meant: &[u8]) -> Result<Vec<Vec<u8>>, AllocError>
-    ensures { IfOk result (λ list. each (λ text. text.items) list.items ≡ token_candidates meant.now) }
-{
-    let mut list = only(alloc, meant.to_ascii_lowercase(alloc)?)?;
-    add_register(alloc, &mut list, meant)?;
-    add_label(alloc, &mut list, meant)?;
-    add_number(alloc, &mut list, binary_value(meant))?;
-    Ok(list)
-}
-
-/// The text in place of a second `!f`: nothing.
-fn mark_candidates(alloc: Global, meant: &[u8]) -> Result<Vec<Vec<u8>>, AllocError>
-    ensures { IfOk result (λ list. each (λ text. text.items) list.items ≡ mark_candidates meant.now) }
-{
-    if meant == "!f".as_bytes() {
-        return only(alloc, b" ".to_vec(alloc)?);
-    }
-    Ok(Vec::new(alloc))
-}
-
-/// The list of one text.
-fn only(alloc: Global, text: Vec<u8>) -> Result<Vec<Vec<u8>>, AllocError>
-    ensures { IfOk result (λ list. each (λ text. text.items) list.items ≡ text.items ∷ []) }
-{
-    let mut list = Vec::new(alloc);
-    list.push(text)?;
-    Ok(list)
+    Some(value)
 }
 
 /// The texts that may be meant in place of what is wrong in a line.
-#[tactic(auto, unfolding(crate::specs::Candidates::candidates))]
+///
+/// # Errors
+///
+/// `AllocError` where memory was refused.
 pub fn candidates(
     alloc: Global,
     kind: LineFaultKind,
     meant: &[u8],
-) -> Result<Vec<Vec<u8>>, AllocError>
-    ensures { IfOk result (λ list. each (λ text. text.items) list.items ≡ candidates kind meant.now) }
-{
+) -> Result<Vec<Vec<u8>>, AllocError> {
+    let list = Vec::new(alloc);
+    let mut texts = Texts { alloc, list };
     match kind {
-        LineFaultKind::Mnemonic => word_candidates(alloc, meant),
-        LineFaultKind::Token => token_candidates(alloc, meant),
-        LineFaultKind::Operand => operand_candidates(alloc, meant),
-        LineFaultKind::Mark => mark_candidates(alloc, meant),
-        LineFaultKind::NotAscii | LineFaultKind::Number => Ok(Vec::new(alloc)),
+        LineFaultKind::Mnemonic => texts.add_words(meant)?,
+        LineFaultKind::Token => texts.add_tokens(meant)?,
+        LineFaultKind::Operand => texts.add_operands(meant)?,
+        LineFaultKind::Mark if meant == "!f".as_bytes() => texts.add(b" ", &[])?,
+        LineFaultKind::NotAscii | LineFaultKind::Number | LineFaultKind::Mark => {}
     }
+    let Texts { list, .. } = texts;
+    Ok(list)
 }

@@ -1,9 +1,5 @@
 //! What is written here instead of words and operands of other assemblers.
 
-ghost use Rattle.std.specs.Prelude.{◌≡◌, map as each};
-ghost use Rattle.std.specs.Option.{option_map};
-ghost use Rattle.operand_forms.specs.ForeignWords.{row_of, word_instead, sign_instead, instead, class_of, is_of, is_meant, operand_row, operand_instead};
-
 /// Of a label where a word is wanted.
 pub(crate) const NOT_AN_ADDRESS: &str =
     "a word is a number, not the address of a label: load the address with la where it is used; for a jump table write a branch for each case, or compile with -fno-jump-tables";
@@ -425,9 +421,7 @@ const OPERANDS: [((&str, &str), &str); 52] = [
 ];
 
 /// What stands after this word in a table.
-fn row_of(rows: &[(&'static str, &'static str)], word: &[u8]) -> Option<&'static str>
-    ensures { option_map (λ text. text.now) result ≡ row_of word.now (each (λ row. (row.0.now, row.1.now)) rows.now) }
-{
+fn row_of(rows: &[(&'static str, &'static str)], word: &[u8]) -> Option<&'static str> {
     for (name, text) in rows {
         if name.as_bytes() == word {
             return Some(*text);
@@ -437,26 +431,17 @@ fn row_of(rows: &[(&'static str, &'static str)], word: &[u8]) -> Option<&'static
 }
 
 /// What is written instead of a word, if it is known.
-#[tactic(auto, unfolding(crate::specs::ForeignWords::word_instead))]
-fn word_instead(word: &[u8]) -> Option<&'static str>
-    ensures { option_map (λ text. text.now) result ≡ word_instead word.now }
-{
+fn word_instead(word: &[u8]) -> Option<&'static str> {
     row_of(&WORDS, word)
 }
 
 /// What is written instead of a directive, a mark or what is no token, if it is known.
-#[tactic(auto, unfolding(crate::specs::ForeignWords::sign_instead))]
-fn sign_instead(word: &[u8]) -> Option<&'static str>
-    ensures { option_map (λ text. text.now) result ≡ sign_instead word.now }
-{
+fn sign_instead(word: &[u8]) -> Option<&'static str> {
     row_of(&SIGNS, word)
 }
 
-/// What is written instead of a word, a mark or what is no token, if it is known.
-#[tactic(auto, unfolding(crate::specs::ForeignWords::instead))]
-pub fn instead(word: &[u8]) -> Option<&'static str>
-    ensures { option_map (λ text. text.now) result ≡ instead word.now }
-{
+/// What is written instead of a word, a directive, a mark or what is no token, if it is known.
+pub fn instead(word: &[u8]) -> Option<&'static str> {
     match word_instead(word) {
         Some(text) => Some(text),
         None => sign_instead(word),
@@ -464,9 +449,7 @@ pub fn instead(word: &[u8]) -> Option<&'static str>
 }
 
 /// The class of an operand: a number is one of 0, a name one of a, and any other of its first byte.
-fn class_of(meant: &[u8]) -> &[u8]
-    ensures { result.now ≡ class_of meant.now }
-{
+fn class_of(meant: &[u8]) -> &[u8] {
     match meant {
         [] => meant,
         [b'-', b'0'..=b'9', ..] | [b'0'..=b'9', ..] => b"0",
@@ -475,33 +458,18 @@ fn class_of(meant: &[u8]) -> &[u8]
     }
 }
 
-/// Whether a row is of this statement, of all with these operands, or of any.
-fn is_of(word: &[u8], form: &str, first: &str) -> bool
-    ensures { result ≡ is_of word.now form.now first.now }
-{
-    first.is_empty() || first.as_bytes() == word || first.as_bytes() == form.as_bytes()
-}
-
-/// Whether a row is of this operand or its class.
-fn is_meant(meant: &[u8], second: &str) -> bool
-    ensures { result ≡ is_meant meant.now second.now }
-{
-    second.as_bytes() == meant || second.as_bytes() == class_of(meant)
-}
-
-/// What stands after this operand in a table.
-#[tactic(auto, unfolding(crate::specs::ForeignWords::operand_row))]
+/// What stands in a table after this operand or its class: of this statement, of all with these operands, or of any.
 pub(crate) fn operand_row(
     rows: &[((&'static str, &'static str), &'static str)],
     word: &[u8],
     form: &str,
     meant: &[u8],
-) -> Option<&'static str>
-    ensures { option_map (λ text. text.now) result
-        ≡ operand_row word.now form.now meant.now (each (λ row. ((row.0.0.now, row.0.1.now), row.1.now)) rows.now) }
-{
+) -> Option<&'static str> {
+    let class = class_of(meant);
     for ((first, second), text) in rows {
-        if is_of(word, form, first) && is_meant(meant, second) {
+        let name = first.as_bytes();
+        let is_of = first.is_empty() || name == word || name == form.as_bytes();
+        if is_of && (second.as_bytes() == meant || second.as_bytes() == class) {
             return Some(*text);
         }
     }
@@ -509,9 +477,6 @@ pub(crate) fn operand_row(
 }
 
 /// What is written instead of an operand that does not fit, if it is known.
-#[tactic(auto, unfolding(crate::specs::ForeignWords::operand_instead))]
-pub fn operand_instead(word: &[u8], form: &str, meant: &[u8]) -> Option<&'static str>
-    ensures { option_map (λ text. text.now) result ≡ operand_instead word.now form.now meant.now }
-{
+pub fn operand_instead(word: &[u8], form: &str, meant: &[u8]) -> Option<&'static str> {
     operand_row(&OPERANDS, word, form, meant)
 }

@@ -2,16 +2,16 @@
 //! reads exactly these; the words of other assemblers, and the known words that are near an unknown one.
 #![tactic(auto)]
 
-mod binary_numbers;
 pub mod bytes;
 pub mod candidates;
 pub mod foreign_words;
 pub mod form;
 pub mod laws;
+pub mod line_fault;
 pub mod line_place;
 pub mod meant;
 pub mod own_words;
 pub mod rows;
 pub mod shape;
 pub mod slices;
-pub mod strings;
+mod strings;

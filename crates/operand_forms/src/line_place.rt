@@ -4,12 +4,12 @@ ghost use Rattle.std.specs.Prelude.{◌≡◌, IfOk};
 ghost use Rattle.operand_forms.specs.LinePlaces.{is_label, after_labels, word_place, word_in, shape_named, line_place};
 
 use crate::bytes::{byte_at, byte_span, bytes_at, token_span, whole_word};
+use crate::line_fault::LineFaultKind;
 use crate::meant::{mark_index, number_index, operand_span, span_at};
 use crate::rows::Reading;
 use crate::shape::{OperandShape, shape_of};
 use program_tokens::span::TokenSpan;
 use std::alloc::{AllocError, Global};
-use syntax_tree::item::LineFaultKind;
 use task_descriptor::name::begins_name;
 
 /// What stands after a label.

@@ -1,10 +1,5 @@
 //! What is written instead of a line, in its own words.
 
-ghost use Rattle.std.specs.Prelude.{◌≡◌, ◌++◌, IfOk, OnOk};
-ghost use Rattle.std.specs.List.{flat_map, list_any};
-ghost use Rattle.std.specs.Option.{option_map, option_or};
-ghost use Rattle.operand_forms.specs.OwnWords.{sign_of, signs, mark_text, marks_text, word_for, in_its_words, is_register_one, address_row, place_row, kind_row, foreign_row, begins_as_name, is_constant, constant_row, line_instead, line_words, own_words};
-
 use crate::bytes::{byte_at, bytes_at, whole_word};
 use crate::foreign_words::{NOT_AN_ADDRESS, operand_row};
 use crate::line_place::{after_labels, shape_named};
@@ -17,7 +12,6 @@ use diagnostics::quotation::as_shown;
 use diagnostics::words::Words;
 use program_tokens::span::TokenSpan;
 use std::alloc::{AllocError, Global};
-use task_descriptor::name::begins_name;
 
 // The tables: lines by the statement, or by all with these operands, or by any, and by the signs after the word: a number is
 // one of 0, a name one of a, and any other word one of its first byte. In a text A stands for the line's first word, B for
@@ -273,28 +267,18 @@ const OF_OTHERS: [((&str, &str), &str); 43] = [
     (("ble", "$,$,a"), "write slt $1,D,B and beq $1,$0,F!"),
 ];
 
-/// The sign of a word by its first byte.
-fn sign_of(first: u8) -> u8
-    ensures { result ≡ sign_of first }
-{
-    match first {
-        b'0'..=b'9' => b'0',
-        b'_' | b'a'..=b'z' | b'A'..=b'Z' => b'a',
-        _ => first,
-    }
-}
-
 /// The signs of some words of a line, up to a mark, or to the first colon.
-fn signs(alloc: Global, line: &[u8], places: &[TokenSpan]) -> Result<Vec<u8>, AllocError>
-    ensures { IfOk result (λ list. list.items ≡ signs line.now places.now) }
-{
+fn signs(alloc: Global, line: &[u8], places: &[TokenSpan]) -> Result<Vec<u8>, AllocError> {
     let mut list = Vec::new(alloc);
     for place in places {
         let first = byte_at(line, *place);
-        if first == b'!' {
-            return Ok(list);
-        }
-        list.push(sign_of(first))?;
+        let sign = match first {
+            b'!' => return Ok(list),
+            b'0'..=b'9' => b'0',
+            b'_' | b'a'..=b'z' | b'A'..=b'Z' => b'a',
+            _ => first,
+        };
+        list.push(sign)?;
         if first == b':' {
             return Ok(list);
         }
@@ -302,43 +286,13 @@ fn signs(alloc: Global, line: &[u8], places: &[TokenSpan]) -> Result<Vec<u8>, Al
     Ok(list)
 }
 
-/// Adds the mark of a place after a blank, if it is one.
-fn add_mark(bytes: &mut Vec<u8>, line: &[u8], place: TokenSpan) -> Result<(), AllocError>
-    ensures { OnOk result (bytes.new.items ≡ bytes.old.items ++ mark_text line.now place) }
-{
-    if byte_at(line, place) == b'!' {
-        bytes.push(b' ')?;
-        bytes.extend_from_slice(bytes_at(line, whole_word(line, place)))?;
-    }
-    Ok(())
-}
-
 /// Adds the marks of a line, each after a blank.
-fn add_marks(bytes: &mut Vec<u8>, line: &[u8], places: &[TokenSpan]) -> Result<(), AllocError>
-    ensures { OnOk result (bytes.new.items ≡ bytes.old.items ++ marks_text line.now places.now) }
-{
+fn add_marks(bytes: &mut Vec<u8>, line: &[u8], places: &[TokenSpan]) -> Result<(), AllocError> {
     for place in places {
-        add_mark(bytes, line, *place)?;
-    }
-    Ok(())
-}
-
-/// Adds what a letter of a text stands for.
-fn add_word_for(
-    bytes: &mut Vec<u8>,
-    line: &[u8],
-    places: &[TokenSpan],
-    letter: u8,
-) -> Result<(), AllocError>
-    ensures { OnOk result (bytes.new.items ≡ bytes.old.items ++ word_for line.now places.now letter) }
-{
-    match letter {
-        b'!' => add_marks(bytes, line, places)?,
-        b'A'..=b'Z' => {
-            let place = span_at(places, usize::from(letter - b'A'));
-            bytes.extend_from_slice(bytes_at(line, place))?;
+        if byte_at(line, *place) == b'!' {
+            bytes.push(b' ')?;
+            bytes.extend_from_slice(bytes_at(line, whole_word(line, *place)))?;
         }
-        _ => bytes.push(letter)?,
     }
     Ok(())
 }
@@ -349,123 +303,69 @@ fn in_its_words(
     line: &[u8],
     places: &[TokenSpan],
     text: &[u8],
-) -> Result<Words, AllocError>
-    ensures { IfOk result (λ words. words ≡ in_its_words line.now places.now text.now) }
-{
+) -> Result<Words, AllocError> {
     let mut bytes = Vec::new(alloc);
     for letter in text {
-        add_word_for(&mut bytes, line, places, *letter)?;
+        match *letter {
+            b'!' => add_marks(&mut bytes, line, places)?,
+            b'A'..=b'Z' => {
+                let place = span_at(places, usize::from(letter.saturating_sub(b'A')));
+                bytes.extend_from_slice(bytes_at(line, place))?;
+            }
+            other => bytes.push(other)?,
+        }
     }
     as_shown(alloc, &bytes)
 }
 
-/// Whether a word of a line is the register that texts write for one that is free.
-fn is_register_one(line: &[u8], place: TokenSpan) -> bool
-    ensures { result ≡ is_register_one line.now place }
-{
-    let word = bytes_at(line, place);
-    word == "$1".as_bytes() || word == "$at".as_bytes()
+/// Whether a line has the register that texts write for one that is free.
+fn has_register_one(line: &[u8], places: &[TokenSpan]) -> bool {
+    places.iter().any(|place| {
+        let word = bytes_at(line, *place);
+        word == "$1".as_bytes() || word == "$at".as_bytes()
+    })
 }
 
-/// Whether one of some words of a line is.
-fn has_register_one(line: &[u8], places: &[TokenSpan]) -> bool
-    ensures { result ≡ list_any (is_register_one line.now) places.now }
-{
-    places.iter().any(|place| is_register_one(line, *place))
+/// Whether a line with this word and these signs is a constant: a name, `=` and a number.
+fn is_constant(word: &[u8], signs: &[u8]) -> bool {
+    let is_name = matches!(word, [b'_' | b'a'..=b'z' | b'A'..=b'Z', ..]);
+    is_name && (signs == "=0".as_bytes() || signs == "=-".as_bytes())
 }
 
 /// What is written instead of a line by its address.
-#[tactic(auto, unfolding(crate::specs::OwnWords::address_row))]
-fn address_row(word: &[u8], form: &str, signs: &[u8]) -> Option<&'static str>
-    ensures { option_map (λ text. text.now) result ≡ address_row word.now form.now signs.now }
-{
+fn address_row(word: &[u8], form: &str, signs: &[u8]) -> Option<&'static str> {
     operand_row(&ADDRESSES, word, form, signs)
 }
 
 /// What is written instead of a line by its places and numbers.
-#[tactic(auto, unfolding(crate::specs::OwnWords::place_row))]
-fn place_row(word: &[u8], form: &str, signs: &[u8]) -> Option<&'static str>
-    ensures { option_map (λ text. text.now) result ≡ place_row word.now form.now signs.now }
-{
+fn number_row(word: &[u8], form: &str, signs: &[u8]) -> Option<&'static str> {
     operand_row(&PLACES_AND_NUMBERS, word, form, signs)
 }
 
 /// What is written instead of a line by operands of another kind.
-#[tactic(auto, unfolding(crate::specs::OwnWords::kind_row))]
-fn kind_row(word: &[u8], form: &str, signs: &[u8]) -> Option<&'static str>
-    ensures { option_map (λ text. text.now) result ≡ kind_row word.now form.now signs.now }
-{
+fn kind_row(word: &[u8], form: &str, signs: &[u8]) -> Option<&'static str> {
     operand_row(&KINDS, word, form, signs)
 }
 
 /// What is written instead of a line with a word of another assembler.
-#[tactic(auto, unfolding(crate::specs::OwnWords::foreign_row))]
-fn foreign_row(word: &[u8], form: &str, signs: &[u8]) -> Option<&'static str>
-    ensures { option_map (λ text. text.now) result ≡ foreign_row word.now form.now signs.now }
-{
+fn foreign_row(word: &[u8], form: &str, signs: &[u8]) -> Option<&'static str> {
     operand_row(&OF_OTHERS, word, form, signs)
 }
 
-/// The first of two texts that there is.
-fn first_of(first: Option<&'static str>, second: Option<&'static str>) -> Option<&'static str>
-    ensures { option_map (λ text. text.now) result
-        ≡ option_or (option_map (λ text. text.now) first.entry) (option_map (λ text. text.now) second.entry) }
-{
-    match first {
-        Some(text) => Some(text),
-        None => second,
-    }
-}
-
-/// Whether a word begins as a name does.
-fn begins_as_name(word: &[u8]) -> bool
-    ensures { result ≡ begins_as_name word.now }
-{
-    match word {
-        [first, ..] => begins_name(*first),
-        [] => false,
-    }
-}
-
-/// Whether a line with this word and these signs is a constant: a name, `=` and a number.
-fn is_constant(word: &[u8], signs: &[u8]) -> bool
-    ensures { result ≡ is_constant word.now signs.now }
-{
-    begins_as_name(word) && (signs == "=0".as_bytes() || signs == "=-".as_bytes())
-}
-
-/// What is written instead of a constant, if the line is one.
-fn constant_row(word: &[u8], signs: &[u8]) -> Option<&'static str>
-    ensures { option_map (λ text. text.now) result ≡ constant_row word.now signs.now }
-{
+/// What is written instead of a line with this word and these signs, if it is known.
+fn line_instead(word: &[u8], form: &str, signs: &[u8]) -> Option<&'static str> {
     if is_constant(word, signs) {
         return Some("there are no constants: write C where A is used");
     }
-    None
-}
-
-/// What is written instead of a line with this word and these signs, if it is known.
-fn line_instead(word: &[u8], form: &str, signs: &[u8]) -> Option<&'static str>
-    ensures { option_map (λ text. text.now) result ≡ line_instead word.now form.now signs.now }
-{
-    let of_lists = first_of(address_row(word, form, signs), place_row(word, form, signs));
-    let of_words = first_of(kind_row(word, form, signs), foreign_row(word, form, signs));
-    first_of(constant_row(word, signs), first_of(of_lists, of_words))
-}
-
-/// What is written instead of a line whose statement stands at these places, in its own words.
-#[tactic(auto, unfolding(crate::specs::OwnWords::line_words))]
-fn line_words(alloc: Global, line: &[u8], places: &[TokenSpan]) -> Result<Option<Words>, AllocError>
-    ensures { IfOk result (λ words. words ≡ line_words line.now places.now) }
-{
-    if has_register_one(line, places) {
-        return Ok(None);
+    if let Some(text) = address_row(word, form, signs) {
+        return Some(text);
     }
-    let word = bytes_at(line, span_at(places, 0));
-    let signs = signs(alloc, line, after(places, 1))?;
-    match line_instead(word, form_text(shape_named(word)), &signs) {
-        Some(text) => Ok(Some(in_its_words(alloc, line, places, text.as_bytes())?)),
-        None => Ok(None),
+    if let Some(text) = number_row(word, form, signs) {
+        return Some(text);
+    }
+    match kind_row(word, form, signs) {
+        Some(text) => Some(text),
+        None => foreign_row(word, form, signs),
     }
 }
 
@@ -474,14 +374,22 @@ fn line_words(alloc: Global, line: &[u8], places: &[TokenSpan]) -> Result<Option
 /// # Errors
 ///
 /// `AllocError` where memory was refused.
-#[tactic(auto, unfolding(crate::specs::OwnWords::own_words))]
-pub fn own_words(alloc: Global, line: &[u8], reading: &Reading) -> Result<Option<Words>, AllocError>
-    ensures { IfOk result (λ words. words ≡ own_words line.now reading.now) }
-{
+pub fn own_words(
+    alloc: Global,
+    line: &[u8],
+    reading: &Reading,
+) -> Result<Option<Words>, AllocError> {
     let places = after_labels(line, reading.places.as_slice());
     let word = bytes_at(line, span_at(places, 0));
-    match string_words(alloc, word, line)? {
-        Some(words) => Ok(Some(words)),
-        None => line_words(alloc, line, places),
+    if let Some(words) = string_words(alloc, word, line)? {
+        return Ok(Some(words));
+    }
+    if has_register_one(line, places) {
+        return Ok(None);
+    }
+    let signs = signs(alloc, line, after(places, 1))?;
+    match line_instead(word, form_text(shape_named(word)), &signs) {
+        Some(text) => Ok(Some(in_its_words(alloc, line, places, text.as_bytes())?)),
+        None => Ok(None),
     }
 }

@@ -4,8 +4,7 @@ ghost use Rattle.std.specs.Prelude.{◌≡◌, map as each, IfOk};
 ghost use Rattle.program_tokens.specs.Grammar.{line_tokens};
 ghost use Rattle.program_tokens.specs.Spans.{line_spans};
 ghost use Rattle.program_tokens.specs.Lines.{lines};
-ghost use Rattle.syntax_tree.specs.Details.{tokens_or_none};
-ghost use Rattle.operand_forms.specs.Rows.{line_at, reading_of};
+ghost use Rattle.operand_forms.specs.Rows.{line_at, reading_of, tokens_or_none};
 
 use diagnostics::listed::Listed;
 use program_tokens::line::{first_line, line_tokens};

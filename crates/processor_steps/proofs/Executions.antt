@@ -1,8 +1,7 @@
 -- One instruction of a unit in a queue is the Exec event of the machine step.
-use Rattle.std.proofs.Common.{◌≡◌, ℕ, zero, suc, ◌<◌, ◌≤◌, ◌⊎◌, inl, inr, Result, Ok, Err, lt-ltb, Bool, true, false, List, Option, Some, None, refl, sym, ap, ◌∙◌, subst, arith}
+use Rattle.std.proofs.Common.{◌≡◌, ℕ, zero, suc, ◌<◌, ◌⊎◌, inl, inr, Result, Ok, Err, lt-ltb, Bool, true, false, List, Option, Some, None, refl, sym, ap, ◌∙◌, subst, arith}
 use Rattle.std.specs.Prelude.{slice_get, slice_set, slice_index, nat_eq, nat_lt, OnOk, OnErr, IfErr}
 use Rattle.std.specs.Option.{option_or}
-use Rattle.std.proofs.lemmas.Bool.{le-ltb}
 use Rattle.std.proofs.Math.Dec.{eqb-suc-zero}
 use Rattle.mips_plain.specs.Effect.{outcome_after}
 use Rattle.mips_plain.specs.declared.outcome.Outcome.{Outcome}
@@ -159,15 +158,4 @@ ahead_tried law p old new n k (Err why) room behind runs rest world ok by err = 
   next = tt;
   kept = record { capacity = rest.capacity; fixed = ap (λ (w : WorldView). w.contents.fixed) world };
   err = err;
-}
-
--- a full history
-
-pub full_tried : (p : Listing) (v : ProcessorView) (n k : ℕ) (why : Refused) → most_events ≤ n → Some why ≡ option_or (refusal p v.queue.capacity (state_of v) (Exec k)) (Some refused.Full) → Steps p v n (Exec k) (Err why) v
-full_tried p v n k why full is = record {
-  allowed = tt;
-  refused = inl (ap (λ (b : Bool). option_or (refusal p v.queue.capacity (state_of v) (Exec k)) (unless b refused.Full None)) (le-ltb n most_events full) ∙ sym is);
-  next = tt;
-  kept = record { capacity = refl; fixed = refl };
-  err = refl;
 }

@@ -1,6 +1,6 @@
 -- What a call answered, taken apart where one answer is out of the question.
-use Rattle.std.proofs.Common.{◌≡◌, ℕ, ◌<◌, Bool, List, Option, Some, None, Result, Ok, Err, ◌⊎◌, inl, inr, sym, ap, ◌∙◌, subst}
-use Rattle.std.specs.Prelude.{MatchResult, IsSome, IsOk, IfOk, slice_get}
+use Rattle.std.proofs.Common.{◌≡◌, ℕ, Bool, List, Option, Some, None, Result, Ok, Err, ◌⊎◌, inl, inr, sym, ap, ◌∙◌}
+use Rattle.std.specs.Prelude.{MatchResult, IsSome, slice_get}
 use Rattle.machine_model.specs.Refusals.{for_some}
 use Rattle.machine_model.specs.declared.event.Refused.{Refused}
 use Rattle.machine_model.specs.declared.event.Refused.TheVariants as refused
@@ -33,8 +33,3 @@ pub refused_at : (p : Listing) (head : Bool) (us : List Active) (k : ℕ) (x : A
     → (exec_refusal p head x ≡ Some (refused_by why)) ⊎ ((why ≡ wait.OutOfMemory) × (exec_refusal p head x ≡ None)) → IsRefusedBy r (for_some (slice_get us k) refused.NoSuch (exec_refusal p head))
 refused_at p head us k x why r there is (inl waits) = inl (refusal_at p head us k x (Some (refused_by why)) there waits ∙ ap Some (sym is))
 refused_at p head us k x why r there is (inr memory) = inr (is ∙ ap refused_by memory.0, refusal_at p head us k x None there memory.1)
-
--- a call that answers all the steps, of which there are some, does what it does for some steps
-pub all_steps : {E : Type 0} (result : Result ℕ E) (n : ℕ) (A : ℕ → Type 0) (B C : Type 0) → IsOk result → IfOk result (λ steps. steps ≡ n) → IfOk result (λ steps. 0 < steps → A steps × B × C) → 0 < n → C
-all_steps (Ok steps) n A B C ok same h some = (h (subst (λ (k : ℕ). 0 < k) (sym same) some)).2
-all_steps (Err e) n A B C ok same h some = absurd (cc)

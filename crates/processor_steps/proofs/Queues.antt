@@ -6,7 +6,7 @@ use Rattle.std.proofs.lemmas.List.Folds.{list_any-append}
 use Rattle.task_descriptor.specs.Listing.{Listing}
 use Rattle.machine_model.specs.Machine.{creates}
 use Rattle.machine_model.specs.Step.{is_reserved}
-use Rattle.std.specs.List.{last_or, list_any}
+use Rattle.std.specs.List.{last_or}
 use Rattle.std.specs.Option.{option_map}
 use Rattle.machine_model.specs.Machine.{Active}
 use Rattle.unit_core.specs.Units.{UnitView, active_of}
@@ -33,11 +33,6 @@ pub at_map : {X Y : Type 0} (f : X → Y) (xs : List X) (k : ℕ) → option_map
 at_map f [] k = refl
 at_map f (x ∷ xs) zero = refl
 at_map f (x ∷ xs) (suc k) = at_map f xs k
-
--- a test of some unit of a list, seen as the model's
-pub any_map : {X Y : Type 0} (f : X → Y) (test : Y → Bool) (xs : List X) → list_any test (map f xs) ≡ list_any (λ x. test (f x)) xs
-any_map f test [] = refl
-any_map f test (x ∷ xs) = ap (λ (b : Bool). test (f x) || b) (any_map f test xs)
 
 -- the unit found at a position is the active task there
 pub unit_is : (us : List UnitView) (q : QueueView) (k : ℕ) (x : UnitView) (u : Active) → map active_of us ≡ actives q → Some x ≡ slice_get us k → slice_get (actives q) k ≡ Some u → active_of x ≡ u

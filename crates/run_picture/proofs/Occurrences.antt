@@ -10,12 +10,10 @@ use Rattle.std.proofs.lemmas.List.{get_or-set_same, get_or-set_other, length-tak
 use Rattle.std.proofs.lemmas.List.FromFn.{length-map-range_with_len, get_or-map-range_with_len}
 use Rattle.std.proofs.lemmas.List.Sums.{count_by-le-length, count_by_more_no, count_by_more_yes}
 use Rattle.task_lives.specs.declared.life.Life.{Life}
-use Rattle.run_picture.specs.declared.shape.Counted.{Counted}
-use Rattle.run_picture.specs.declared.shape.Hover.{Hover}
-use Rattle.run_picture.specs.declared.shape.Hover.TheVariants.{OfStretch}
-use Rattle.run_picture.specs.Stretches.{end_of, hover_of, length_of, stretch_at}
-use Rattle.run_picture.specs.StretchTallies.{end_part, occurrences, stretch_with}
-use Rattle.run_picture.specs.Adding.{HaveRoom, hover_by, with_one_more}
+use Rattle.machine_model.specs.declared.event.Event.{Event}
+use Rattle.run_picture.specs.declared.shape.StretchTally.{StretchTally}
+use Rattle.run_picture.specs.Stretches.{end_part, executed_from, occurrences, tally_in}
+use Rattle.run_picture.specs.Adding.{HaveRoom, tally_by, with_one_more}
 
 -- the counts of the numbers below a limit
 abbrev pub counts : (numbers : List ℕ) → (limit : ℕ) → List ℕ
@@ -94,21 +92,18 @@ room_for_one limit numbers i xs few is k within =
     let fewer = length-take i numbers in
     omega (arith, here, most, fewer, few)
 
--- what is said of the stretch of a part, by the counts
-pub hover_same : (counted : Counted) (events : ℕ) (places : List ℕ) (lives : List Life) (part : ℕ) (executed ended : List ℕ)
-    → executed ≡ counts (map (stretch_with (length_of events)) places) 290 → ended ≡ counts (map (end_part (length_of events)) lives) 1160
-    → hover_by counted events executed ended (stretch_at part) ≡ hover_of counted events places lives (stretch_at part)
-hover_same counted events places lives part executed ended is_executed is_ended =
-    let s = stretch_at part in
-    let low : stretch_at part < 290 = omega arith in
-    let stretches = map (stretch_with (length_of events)) places in
-    let parts = map (end_part (length_of events)) lives in
+-- what happens in a stretch, by the counts
+pub tally_same : (len : ℕ) (columns : List ℕ) (history : List Event) (lives : List Life) (s : ℕ) (executed ended : List ℕ) → s < 290
+    → executed ≡ counts (executed_from len columns 0 history) 290 → ended ≡ counts (map (end_part len) lives) 1160
+    → tally_by executed ended s ≡ tally_in len columns history lives s
+tally_same len columns history lives s executed ended low is_executed is_ended =
+    let stretches = executed_from len columns 0 history in
+    let parts = map (end_part len) lives in
     let here : (k : ℕ) → k < 1160 → get_or ended k 0 ≡ occurrences parts k =
     λ k within. ap (λ (xs : List ℕ). get_or xs k 0) is_ended ∙ count_at parts 1160 k within in
     let one : get_or executed s 0 ≡ occurrences stretches s = ap (λ (xs : List ℕ). get_or xs s 0) is_executed ∙ count_at stretches 290 s low in
     let two = here (s * 4) (omega (arith, low)) in
     let three = here (s * 4 + 1) (omega (arith, low)) in
     let four = here (s * 4 + 2) (omega (arith, low)) in
-    let said : ℕ → ℕ → ℕ → ℕ → Hover =
-    λ a b d e. OfStretch counted (s * length_of events + 1) (end_of events s) (record { executed = a; retired = b; squashed = d; dropped = e }) in
-    (λ i. said (one i) (two i) (three i) (four i))
+    let told : ℕ → ℕ → ℕ → ℕ → StretchTally = λ a b d e. record { executed = a; retired = b; squashed = d; dropped = e } in
+    (λ i. told (one i) (two i) (three i) (four i))

@@ -10,8 +10,7 @@ use Rattle.std.proofs.Math.ListN.{length-set}
 use Rattle.task_lives.specs.declared.life.Ending.{Ending}
 use Rattle.task_lives.specs.declared.life.Ending.TheVariants.{Retired, Squashed, Dropped, Unfinished}
 use Rattle.task_lives.specs.declared.life.Life.{Life}
-use Rattle.run_picture.specs.Stretches.{counted, overlap, stretch_at, unit_at}
-use Rattle.run_picture.specs.StretchTallies.{part_of}
+use Rattle.run_picture.specs.Stretches.{counted, overlap, part_of, stretch_at, unit_at}
 use Rattle.run_picture.specs.Adding.{AddsLife, HaveRoom, part_with, with_overlap}
 
 -- the sums in an overlap, over plain numbers

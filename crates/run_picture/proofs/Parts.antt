@@ -1,8 +1,11 @@
 -- One part of a list after another.
-use Rattle.std.proofs.Common.{◌≡◌, ℕ, zero, suc, ◌+◌, List, [], ◌∷◌, ◌++◌, ap, ◌∙◌, sym, append_assoc, append-nil, add-one, arith, replicate}
+use Rattle.std.proofs.Common.{◌≡◌, ℕ, zero, suc, ◌+◌, List, [], ◌∷◌, ◌++◌, ap, ◌∙◌, sym, append_assoc, append-nil, add-zero, add-one, arith, replicate}
 use Rattle.std.proofs.lemmas.List.{replicate-append-replicate}
 use Rattle.std.specs.List.{range_with_len}
 use Rattle.std.specs.Prelude.{flat_map}
+use Rattle.run_picture.specs.declared.chart.Chart.{Chart}
+use Rattle.run_picture.specs.declared.shape.Meaning.{Meaning}
+use Rattle.run_picture.specs.Stretches.{length_of, share_of, share_told, stretch_at, tally_in}
 
 range_one_more : {A : Type 0} (f : ℕ → List A) (from n last : ℕ) → last ≡ from + n → flat_map f (range_with_len from (suc n)) ≡ flat_map f (range_with_len from n) ++ f last
 range_one_more f from zero last is =
@@ -24,7 +27,20 @@ pub replicate_more : {A : Type 0} (before : List A) (n : ℕ) (x : A) → (befor
 replicate_more before n x =
     append_assoc before (replicate n x) (x ∷ []) ∙ ap (λ rest. before ++ rest) (replicate-append-replicate n 1 x)
 
--- three parts, written one after the other
-pub three_parts : {A : Type 0} (base first second p q r : List A) → first ≡ base ++ p → second ≡ first ++ q → second ++ r ≡ base ++ (p ++ (q ++ r))
-three_parts base first second p q r one two =
-    ap (λ front. front ++ r) (two ∙ ap (λ front. front ++ q) one) ∙ append_assoc (base ++ p) q r ∙ append_assoc base p (q ++ r)
+-- the numbers from 1, and one more
+range_end : (a n : ℕ) → range_with_len a n ++ (a + n) ∷ [] ≡ range_with_len a (suc n)
+range_end a zero = ap (λ (k : ℕ). k ∷ []) (add-zero a)
+range_end a (suc n) =
+    let same : a + suc n ≡ a + 1 + n = omega arith in
+    ap (λ (ks : List ℕ). a ∷ ks) (ap (λ (k : ℕ). range_with_len (a + 1) n ++ k ∷ []) same ∙ range_end (a + 1) n)
+
+pub numbers_more : (n : ℕ) → range_with_len 1 n ++ (n + 1) ∷ [] ≡ range_with_len 1 (n + 1)
+numbers_more n =
+    let same : n + 1 ≡ 1 + n = omega arith in
+    ap (λ (k : ℕ). range_with_len 1 n ++ k ∷ []) same ∙ range_end 1 n ∙ ap (λ (m : ℕ). range_with_len 1 m) (sym (add-one n))
+
+-- what stands for a part of a chart
+abbrev pub part_told : Chart → (part : ℕ) → List Meaning
+part_told c part =
+    let length = length_of c.axis.count in
+    share_told c.axis (share_of length c.lives.items part) part (tally_in length c.columns.items c.events.items c.lives.items (stretch_at part))

@@ -1,19 +1,18 @@
 -- Lives added to the shares of stretches one by one, and counts of what happens in stretches. For private functions.
 use Rattle.std.specs.List.{range_with_len}
 use Rattle.std.specs.Prelude.{◌≡◌, ℕ, ◌+◌, ◌*◌, ◌<◌, List, length, map, slice_index, slice_set, nat_lt, if◌then◌else◌, ◌^◌}
+use Rattle.machine_model.specs.declared.event.Event.{Event}
 use Rattle.task_lives.specs.declared.life.Life.{Life}
-use Rattle.run_picture.specs.declared.shape.Counted.{Counted}
-use Rattle.run_picture.specs.declared.shape.Hover.{Hover}
-use Rattle.run_picture.specs.declared.shape.Hover.TheVariants.{OfStretch}
+use Rattle.run_picture.specs.declared.shape.Axis.{Axis}
+use Rattle.run_picture.specs.declared.shape.Meaning.{Meaning}
+use Rattle.run_picture.specs.declared.shape.StretchTally.{StretchTally}
 use Rattle.run_picture.specs.declared.stretch_tallies.StretchSums.{StretchSums}
-use Rattle.run_picture.specs.Stretches.{counted, end_of, length_of, overlap}
-use Rattle.run_picture.specs.StretchTallies.{end_part, occurrences, part_of, stretch_with}
+use Rattle.run_picture.specs.Stretches.{counted, end_part, executed_from, occurrences, overlap, part_of, share_told, stretch_at}
 
--- the part for which a life counts in a stretch
+-- the shares with the columns of a life in a stretch, if there is such a stretch
 abbrev pub part_with : (stretch : ℕ) → Life → ℕ
 part_with stretch life = (life.unit * 290 + stretch) * 4 + part_of life.ending
 
--- the shares with the events of a life in a stretch, if there is such a stretch
 abbrev pub with_overlap : (len stretch : ℕ) → Life → List ℕ → List ℕ
 with_overlap len stretch life shares =
     if nat_lt stretch 290
@@ -37,16 +36,18 @@ with_one_more number counts =
     if nat_lt number (length counts) then slice_set counts number (slice_index counts number + 1) else counts
 
 -- the sums of stretches of this length
-pub record HasSums (len : ℕ) (places : List ℕ) (lives : List Life) (sums : StretchSums) : Type 0 where
-  pub executed : sums.executed.items ≡ map (occurrences (map (stretch_with len) places)) (range_with_len 0 290)
+pub record HasSums (len : ℕ) (columns : List ℕ) (history : List Event) (lives : List Life) (sums : StretchSums) : Type 0 where
+  pub executed : sums.executed.items ≡ map (occurrences (executed_from len columns 0 history)) (range_with_len 0 290)
   pub ended : sums.ended.items ≡ map (occurrences (map (end_part len) lives)) (range_with_len 0 1160)
 
--- the title of a stretch, from the sums
-abbrev pub hover_by : Counted → (events : ℕ) → (executed ended : List ℕ) → (stretch : ℕ) → Hover
-hover_by counts events executed ended stretch =
-    OfStretch counts (stretch * length_of events + 1) (end_of events stretch) (record {
-      executed = slice_index executed stretch;
-      retired = slice_index ended (stretch * 4);
-      squashed = slice_index ended (stretch * 4 + 1);
-      dropped = slice_index ended (stretch * 4 + 2);
-    })
+-- what happens in a stretch, by the sums
+abbrev pub tally_by : (executed ended : List ℕ) → (stretch : ℕ) → StretchTally
+tally_by executed ended s = record {
+  executed = slice_index executed s;
+  retired = slice_index ended (s * 4);
+  squashed = slice_index ended (s * 4 + 1);
+  dropped = slice_index ended (s * 4 + 2);
+}
+
+abbrev pub share_by : Axis → (count : ℕ) → (executed ended : List ℕ) → (part : ℕ) → List Meaning
+share_by axis count executed ended part = share_told axis count part (tally_by executed ended (stretch_at part))

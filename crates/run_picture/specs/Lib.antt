@@ -1,14 +1,6 @@
-pub mod Scales
-pub mod Shapes
-pub mod Frame
-pub mod Bars
-pub mod Marks
-pub mod StretchTallies
+pub mod Meanings
 pub mod Stretches
 pub mod Adding
+pub mod Charts
 pub mod WordsText
-pub mod ShapeText
-pub mod Titles
-pub mod FixedText
-pub mod Picture
 pub mod Examples

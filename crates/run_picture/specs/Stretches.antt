@@ -1,35 +1,40 @@
--- Long histories, summed by 290 stretches of equal length: how many events of a stretch each unit spent on
--- tasks that ended in each way.
-use Rattle.std.specs.Prelude.{ℕ, ◌+◌, ◌-◌, ◌*◌, ◌/◌, ◌%◌, List, [], ◌∷◌, flat_map, min, max, nat_eq, nat_lt, ◌&&◌, if◌then◌else◌}
-use Rattle.std.specs.List.{range_with_len, sum_by}
+-- Long histories, summed by 290 stretches of equal length: how many columns of a stretch each unit spent on tasks that ended
+-- in each way, and what happens in the stretch on all units. Columns are events or steps; in `Life`, they are numbered from 0.
+use Rattle.std.specs.Prelude.{ℕ, ◌+◌, ◌-◌, ◌*◌, ◌/◌, ◌%◌, List, [], ◌∷◌, ◌++◌, flat_map, map, min, max, nat_eq, nat_lt, ◌&&◌, if◌then◌else◌}
+use Rattle.std.specs.List.{range_with_len, sum_by, count_by}
+use Rattle.machine_model.specs.declared.event.Event.{Event}
 use Rattle.task_lives.specs.declared.life.Ending.{Ending}
 use Rattle.task_lives.specs.declared.life.Ending.TheVariants.{Retired, Squashed, Dropped, Unfinished}
 use Rattle.task_lives.specs.declared.life.Life.{Life}
-use Rattle.run_picture.specs.declared.shape.Shape.{Shape}
-use Rattle.run_picture.specs.declared.shape.Style.TheVariants.{Share}
-use Rattle.run_picture.specs.Scales.{left_edge_of, top_of}
-use Rattle.run_picture.specs.declared.shape.Geometry.TheVariants.{Rectangle}
-use Rattle.run_picture.specs.declared.shape.Counted.{Counted}
-use Rattle.run_picture.specs.declared.shape.Hover.{Hover}
-use Rattle.run_picture.specs.declared.shape.Hover.TheVariants.{OfStretch}
-use Rattle.run_picture.specs.StretchTallies.{part_of, tally_in}
+use Rattle.task_lives.specs.Sums.{is_exec}
+use Rattle.run_picture.specs.declared.shape.Axis.{Axis}
+use Rattle.run_picture.specs.declared.shape.Meaning.{Meaning}
+use Rattle.run_picture.specs.declared.shape.Meaning.TheVariants.{OfShare}
+use Rattle.run_picture.specs.declared.shape.StretchTally.{StretchTally}
+use Rattle.run_picture.specs.Meanings.{column_at}
 
--- how many events a stretch has; the last ones may be shorter, or empty
-abbrev pub length_of : (events : ℕ) → ℕ
-length_of events = events / 290 + 1
+-- how many columns a stretch has; the last ones may be shorter, or empty
+abbrev pub length_of : (count : ℕ) → ℕ
+length_of count = count / 290 + 1
 
--- a column has the parts of its stretch, from below
+-- a stretch has a part for each ending
+abbrev pub part_of : Ending → ℕ
+part_of Retired = 0
+part_of Squashed = 1
+part_of Dropped = 2
+part_of Unfinished = 3
+
 abbrev pub ending_of : (part : ℕ) → Ending
 ending_of part = if nat_eq part 0 then Retired else if nat_eq part 1 then Squashed else if nat_eq part 2 then Dropped else Unfinished
 
--- the parts are numbered: those of a column, those of the columns of a unit, those of the units
+-- the parts are numbered: those of a stretch, those of the stretches of a unit, those of the units
 abbrev pub unit_at : (part : ℕ) → ℕ
 unit_at part = part / 1160
 
 abbrev pub stretch_at : (part : ℕ) → ℕ
 stretch_at part = part / 4 % 290
 
--- how many events of a life are in a stretch
+-- how many columns of a life are in a stretch
 abbrev pub overlap : (length stretch : ℕ) → Life → ℕ
 overlap length stretch life = min (life.last + 1) (stretch * length + length) - max life.first (stretch * length)
 
@@ -41,42 +46,48 @@ counted length part life =
 abbrev pub share_of : (length : ℕ) → List Life → (part : ℕ) → ℕ
 share_of length lives part = sum_by (counted length part) lives
 
--- what lies below a part in its column
-abbrev pub below_of : (length : ℕ) → List Life → (part : ℕ) → ℕ
-below_of length lives part = sum_by (share_of length lives) (range_with_len (part - part % 4) (part % 4))
-
 -- where a stretch ends
-abbrev pub end_of : (events stretch : ℕ) → ℕ
-end_of events stretch = min (stretch * length_of events + length_of events) events
+abbrev pub end_of : (count stretch : ℕ) → ℕ
+end_of count stretch = min (stretch * length_of count + length_of count) count
 
--- a column is as high as a bar where its unit had tasks throughout
-abbrev pub height_of : (events stretch count : ℕ) → ℕ
-height_of events stretch count = count * 4000 / max (end_of events stretch - stretch * length_of events) 1
+-- the stretches in which instructions are executed, by events of which the first has this number
+abbrev pub executed_from : (length : ℕ) → (columns : List ℕ) → (number : ℕ) → List Event → List ℕ
+executed_from length columns number [] = []
+executed_from length columns number (e ∷ es) =
+    (if is_exec e then (column_at columns number - 1) / length ∷ [] else []) ++ executed_from length columns (number + 1) es
 
--- the title of a stretch of a run of the given number of events or steps, which are numbered from 1
-abbrev pub hover_of : Counted → (events : ℕ) → (places : List ℕ) → List Life → (stretch : ℕ) → Hover
-hover_of counts events places lives stretch =
-    OfStretch counts (stretch * length_of events + 1) (end_of events stretch) (tally_in (length_of events) places lives stretch)
+-- the part in which a life ends
+abbrev pub end_part : (length : ℕ) → Life → ℕ
+end_part length life = life.last / length * 4 + part_of life.ending
 
-abbrev pub rectangle_of : (events part below here : ℕ) → Hover → Shape
-rectangle_of events part below here hover =
-    let s = stretch_at part in
+-- how often a number occurs
+abbrev pub occurrences : (numbers : List ℕ) → (number : ℕ) → ℕ
+occurrences numbers number = count_by (λ n. nat_eq n number) numbers
+
+abbrev pub tally_in : (length : ℕ) → (columns : List ℕ) → List Event → List Life → (stretch : ℕ) → StretchTally
+tally_in length columns history lives stretch =
+    let ended = occurrences (map (end_part length) lives) in
     record {
-      style = Share (ending_of (part % 4));
-      form = Rectangle
-          (left_edge_of events (s * length_of events))
-          (top_of (unit_at part) + 4000 - height_of events s (below + here))
-          (left_edge_of events (end_of events s) - left_edge_of events (s * length_of events))
-          (height_of events s (below + here) - height_of events s below);
-      hover = hover;
+      executed = occurrences (executed_from length columns 0 history) stretch;
+      retired = ended (stretch * 4);
+      squashed = ended (stretch * 4 + 1);
+      dropped = ended (stretch * 4 + 2);
     }
 
--- the rectangle of a part, if there is something in it
-abbrev pub column_part : (events part below here : ℕ) → Hover → List Shape
-column_part events part below here hover = if nat_lt 0 here then rectangle_of events part below here hover ∷ [] else []
+-- what stands for a part, if it has a share
+abbrev pub share_told : Axis → (count part : ℕ) → StretchTally → List Meaning
+share_told axis count part tally =
+    if nat_eq count 0 then [] else OfShare axis.counted (record {
+      unit = unit_at part;
+      ending = ending_of (part % 4);
+      count = count;
+      first = stretch_at part * length_of axis.count + 1;
+      last = end_of axis.count (stretch_at part);
+      tally = tally;
+    }) ∷ []
 
--- for the given number of units, the places where instructions are executed, and the lives
-abbrev pub stretches_of : Counted → (units events : ℕ) → (places : List ℕ) → List Life → List Shape
-stretches_of counts units events places lives =
-    flat_map (λ part. column_part events part (below_of (length_of events) lives part) (share_of (length_of events) lives part) (hover_of counts events places lives (stretch_at part)))
-    (range_with_len 0 (units * 1160))
+abbrev pub shares_told : Axis → (columns : List ℕ) → List Event → List Life → List Meaning
+shares_told axis columns history lives =
+    let length = length_of axis.count in
+    flat_map (λ part. share_told axis (share_of length lives part) part (tally_in length columns history lives (stretch_at part)))
+    (range_with_len 0 (axis.units * 1160))

@@ -1,6 +1,7 @@
-//! The events of a history, one by one.
+//! The events of a history, one by one, and their numbers.
 
 ghost use Rattle.std.specs.Prelude.{◌≡◌, ◌++◌, IfOk, OnOk, replicate};
+ghost use Rattle.std.specs.List.{range_with_len};
 ghost use Rattle.machine_model.specs.Runs.{events_of};
 
 use machine_model::event::{Event, EventRun};
@@ -26,4 +27,15 @@ fn push_times(events: &mut Vec<Event>, event: &Event, count: u32) -> Result<(), 
         events.push(*event)?;
     }
     Ok(())
+}
+
+/// The numbers from 1 to the last one.
+pub(crate) fn numbers_to(alloc: Global, last: u32) -> Result<Vec<u32>, AllocError>
+    ensures { IfOk result (λ numbers. numbers.items ≡ range_with_len 1 last) }
+{
+    let mut numbers = Vec::new(alloc);
+    for number in 0..last {
+        numbers.push(number + 1)?;
+    }
+    Ok(numbers)
 }

@@ -3,10 +3,10 @@
 
 ghost use Rattle.std.specs.Prelude.{◌≡◌, ◌+◌, ◌++◌, ◌%◌, ◌<◌, ◌≤◌, ◌^◌, OnOk, length};
 ghost use Rattle.machine_model.specs.HeadEvent.{retired_after, unit_of};
-ghost use Rattle.run_picture.specs.Marks.{arrives_at as arrives_at_unit, arrow_of, arrows_of, by_room as style_by_room, drain_of, has_room as has_room_before, is_far as is_far_from, marks_at, marks_in, marks_of, next_arrival as next_arrival_of, register_of, room_beside, squash_of, tick_of, transfer_of, unit_before};
+ghost use Rattle.run_picture.specs.Meanings.{column_at, is_marked as is_marked_on, marks_of, meanings, stands_for};
 
 use crate::scale::{BAR_HEIGHT, middle, room, top};
-use crate::shape::{Counted, Geometry, Hover, LabelText, Shape, Style};
+use crate::shape::{Axis, Counted, Element, Geometry, LabelText, Meaning, Shape, Style};
 use machine_model::event::Event;
 use std::alloc::AllocError;
 
@@ -16,131 +16,53 @@ const SMALL_ROOM: u64 = 350;
 /// This much room after its arrow is enough for a register's number.
 const ROOM_OF_REGISTER: u64 = 2_600;
 
-/// Adds the marks of the events of a history of `units` units, at least one.
+/// Up to this many steps have room for all marks; more, for squashes alone.
+pub const MOST_MARKED: u32 = 300;
+
+/// Adds the marks of the events of a history, each in its column, numbered from 1.
 pub(crate) fn push_marks(
     shapes: &mut Vec<Shape>,
-    units: u32,
-    count: u32,
+    axis: Axis,
+    columns: &[u32],
     events: &[Event],
 ) -> Result<(), AllocError>
-    requires some { 0 < units }
+    requires some { 0 < axis.units }
     requires few { length events.now < 2 ^ 31 }
-    ensures { OnOk result (shapes.new.items ≡ shapes.old.items ++ marks_of units count events.now) }
+    ensures { OnOk result (meanings shapes.new.items ≡ meanings shapes.old.items ++ marks_of axis columns.now events.now) }
 {
     let mut retired: u32 = 0;
     for (index, event) in events.iter().enumerate() {
-        let number = index as u32 + 1;
-        let later = &events[index + 1..];
-        push_marks_in(shapes, units, count, retired, number, event, later)?;
+        if is_marked(axis, *event) {
+            push_mark(shapes, axis, column_of(columns, index), retired, *event)?;
+            push_register(shapes, axis, columns, events, index, retired)?;
+        }
         retired = retired_with(retired, *event);
     }
     Ok(())
 }
 
-/// Adds the marks of the event of this number, from 1, before which `retired` tasks have retired, and after which these
-/// events come.
-fn push_marks_in(
-    shapes: &mut Vec<Shape>,
-    units: u32,
-    count: u32,
-    retired: u32,
-    number: u32,
-    event: &Event,
-    later: &[Event],
-) -> Result<(), AllocError>
-    requires some { 0 < units }
-    requires few { retired + length later.now < 2 ^ 31 }
-    requires number { number < 2 ^ 31 }
-    ensures { OnOk result (shapes.new.items ≡ shapes.old.items ++ marks_in units count retired number event.now later.now) }
+/// Whether there is room for the marks of an event.
+fn is_marked(axis: Axis, event: Event) -> bool
+    ensures { result ≡ is_marked_on axis event }
 {
-    let is_room = is_room_beside(units, count, retired, number, *event, later);
-    push_mark(
-        shapes,
-        Counted::Events,
-        units,
-        count,
-        retired,
-        number,
-        is_room,
-        *event,
-    )
-}
-
-/// Whether there is room for a register beside the arrow of the event of this number, up to the next arrow at that unit.
-fn is_room_beside(
-    units: u32,
-    count: u32,
-    retired: u32,
-    number: u32,
-    event: Event,
-    later: &[Event],
-) -> bool
-    requires some { 0 < units }
-    requires few { retired + length later.now < 2 ^ 31 }
-    requires number { number < 2 ^ 31 }
-    ensures { result ≡ room_beside units count retired number event later.now }
-{
-    match event {
-        Event::Transfer(position, _) => {
-            let unit = unit_at(units, retired, position);
-            let next = next_arrival(units, unit, retired, number + 1, later);
-            has_room(count, number, next)
-        }
-        _ => false,
+    match axis.counted {
+        Counted::Events => true,
+        Counted::Steps => axis.count <= MOST_MARKED || matches!(event, Event::Squash(_)),
     }
 }
 
-/// Whether there is room for a register beside an arrow in a column, before the next one, if any comes.
-fn has_room(count: u32, column: u32, next: Option<u32>) -> bool
-    ensures { result ≡ has_room_before count column next }
+/// The column of the event of this number, from 0; 0 if it has none.
+pub(crate) fn column_of(columns: &[u32], event: usize) -> u32
+    ensures { result ≡ column_at columns.now event }
 {
-    match next {
-        Some(next) => is_far(count, column, next),
-        None => true,
-    }
-}
-
-/// Whether there is room for a register beside an arrow in one column, before an arrow in the next one.
-pub fn is_far(count: u32, column: u32, next: u32) -> bool
-    ensures { result ≡ is_far_from count column next }
-{
-    let from = middle(count, column.saturating_sub(1));
-    from + ROOM_OF_REGISTER <= middle(count, next.saturating_sub(1))
-}
-
-/// The number of the next event by which a register arrives at a unit. The first of these events has the number `first`,
-/// and `before` tasks have retired before it.
-pub fn next_arrival(units: u32, unit: u32, before: u32, first: u32, events: &[Event]) -> Option<u32>
-    requires some { 0 < units }
-    requires few { before + length events.now < 2 ^ 31 }
-    requires number { first ≤ 2 ^ 31 }
-    ensures { result ≡ next_arrival_of units unit before first events.now }
-{
-    let mut retired = before;
-    let mut number = first;
-    for event in events {
-        if arrives_at(units, unit, retired, *event) {
-            return Some(number);
-        }
-        retired = retired_with(retired, *event);
-        number += 1;
-    }
-    None
-}
-
-/// Whether a register arrives at a unit by an event before which `retired` tasks have retired.
-fn arrives_at(units: u32, unit: u32, retired: u32, event: Event) -> bool
-    requires { 0 < units }
-    ensures { result ≡ arrives_at_unit units unit retired event }
-{
-    match event {
-        Event::Transfer(position, _) => unit_at(units, retired, position) == unit,
-        _ => false,
+    match columns.get(event) {
+        Some(column) => *column,
+        None => 0,
     }
 }
 
 /// How many tasks have retired after an event.
-pub fn retired_with(retired: u32, event: Event) -> u32
+fn retired_with(retired: u32, event: Event) -> u32
     requires { retired < 2 ^ 31 }
     ensures value { result ≡ retired_after retired event }
     ensures bound { result ≤ retired + 1 }
@@ -151,51 +73,8 @@ pub fn retired_with(retired: u32, event: Event) -> u32
     }
 }
 
-/// Adds the marks of the event in column `number` (from 1) of `count`; `retired` tasks have retired before it. A
-/// column is an event or a step. `is_room` says whether there is room for a register beside its arrow. An error means
-/// that memory was refused.
-pub fn push_mark(
-    shapes: &mut Vec<Shape>,
-    counted: Counted,
-    units: u32,
-    count: u32,
-    retired: u32,
-    number: u32,
-    is_room: bool,
-    event: Event,
-) -> Result<(), AllocError>
-    requires some { 0 < units }
-    ensures { OnOk result (shapes.new.items ≡ shapes.old.items ++ marks_at counted units count number (unit_of units retired 0 event) is_room event) }
-{
-    match event {
-        Event::Exec(position) => {
-            let unit = unit_at(units, retired, position);
-            shapes.push(tick(count, number, unit))?;
-            Ok(())
-        }
-        Event::Transfer(position, register) => {
-            let unit = unit_at(units, retired, position);
-            let register = register.get();
-            push_transfer(
-                shapes, counted, units, count, number, unit, register, is_room,
-            )
-        }
-        Event::Drain(position, register) => {
-            let unit = unit_at(units, retired, position);
-            shapes.push(drain(counted, count, number, unit, register.get()))?;
-            Ok(())
-        }
-        Event::Squash(position) => {
-            let unit = unit_at(units, retired, position);
-            shapes.push(squash(counted, count, number, unit))?;
-            Ok(())
-        }
-        _ => Ok(()),
-    }
-}
-
 /// The number of the unit at a position, after `retired` tasks have retired.
-pub fn unit_at(units: u32, retired: u32, position: u32) -> u32
+fn unit_at(units: u32, retired: u32, position: u32) -> u32
     requires { 0 < units }
     ensures value { result ≡ (retired + position) % units }
     ensures bound { result < units }
@@ -204,122 +83,130 @@ pub fn unit_at(units: u32, retired: u32, position: u32) -> u32
     (place % u64::from(units)) as u32
 }
 
-/// One style where events have room, and a finer one where they have little.
-fn by_room(count: u32, fine: Style, full: Style) -> Style
-    ensures { result ≡ style_by_room count fine full }
-{
-    if room(count) < SMALL_ROOM { fine } else { full }
-}
-
-/// A tick in the lower part of the unit's bar.
-fn tick(count: u32, number: u32, unit: u32) -> Shape
-    ensures { result ≡ tick_of count number unit }
-{
-    let x = middle(count, number.saturating_sub(1));
-    let y = top(unit) + BAR_HEIGHT;
-    let style = by_room(count, Style::FineInstruction, Style::Instruction);
-    Shape::plain(style, Geometry::Line(x, y - 1_300, x, y - 400))
-}
-
-/// A short arrow down to the lower edge of the bar of the unit that sends a register.
-fn drain(counted: Counted, count: u32, number: u32, unit: u32, register: u8) -> Shape
-    ensures { result ≡ drain_of counted count number unit register }
-{
-    let hover = Hover::OfDrain(counted, number, register, unit);
-    let y = top(unit) + BAR_HEIGHT;
-    arrow(count, number, hover, y - 1_300, y)
-}
-
-/// A mark above the bar of the unit after which a squash begins.
-fn squash(counted: Counted, count: u32, number: u32, unit: u32) -> Shape
-    ensures { result ≡ squash_of counted count number unit }
-{
-    let x = middle(count, number.saturating_sub(1));
-    Shape {
-        style: Style::SquashMark,
-        form: Geometry::Wedge(x.saturating_sub(700), top(unit) - 900),
-        hover: Hover::OfSquash(counted, number, unit),
-    }
-}
-
-/// Adds the arrow of a register to the unit that takes it, and the register's number if there is room.
-fn push_transfer(
+/// Adds what stands for an event in a column; `retired` tasks have retired before it.
+fn push_mark(
     shapes: &mut Vec<Shape>,
-    counted: Counted,
-    units: u32,
-    count: u32,
-    number: u32,
-    unit: u32,
-    register: u8,
-    is_room: bool,
+    axis: Axis,
+    column: u32,
+    retired: u32,
+    event: Event,
 ) -> Result<(), AllocError>
-    requires some { 0 < units }
-    ensures { OnOk result (shapes.new.items ≡ shapes.old.items ++ transfer_of counted units count number unit register is_room) }
+    requires { 0 < axis.units }
+    ensures { OnOk result (meanings shapes.new.items
+        ≡ meanings shapes.old.items ++ stands_for axis column (unit_of axis.units retired 0 event) event) }
 {
-    let from = before(units, unit);
-    let hover = Hover::OfTransfer(counted, number, register, from, unit);
-    push_arrows(shapes, count, number, hover, from, unit)?;
-    push_register(shapes, count, number, unit, register, is_room)
-}
-
-/// The unit before a unit round the ring.
-fn before(units: u32, unit: u32) -> u32
-    requires { 0 < units }
-    ensures { result ≡ unit_before units unit }
-{
-    if unit == 0 { units - 1 } else { unit - 1 }
-}
-
-/// Adds an arrow from the bar above to the bar of a unit; to unit 0 it comes from the last unit, below.
-fn push_arrows(
-    shapes: &mut Vec<Shape>,
-    count: u32,
-    number: u32,
-    hover: Hover,
-    from: u32,
-    unit: u32,
-) -> Result<(), AllocError>
-    ensures { OnOk result (shapes.new.items ≡ shapes.old.items ++ arrows_of count number hover from unit) }
-{
-    let y = top(unit);
-    if unit == 0 {
-        let leaves = top(from) + BAR_HEIGHT;
-        shapes.push(arrow(count, number, hover, leaves, leaves + 1_400))?;
-        shapes.push(arrow(count, number, hover, y - 1_400, y))?;
+    let Axis {
+        counted,
+        units,
+        count,
+    } = axis;
+    let x = middle(count, column);
+    let (arrow, tick) = if room(count) < SMALL_ROOM {
+        (Style::FineArrow, Style::FineInstruction)
     } else {
-        shapes.push(arrow(count, number, hover, y - 2_800, y))?;
+        (Style::Arrow, Style::Instruction)
+    };
+    match event {
+        Event::Exec(position) => {
+            let unit = unit_at(units, retired, position);
+            let low = top(unit) + BAR_HEIGHT;
+            let meaning = Meaning::OfExec(counted, column, unit);
+            shapes.push(line(tick, x, low - 1_300, low - 400, meaning))?;
+        }
+        Event::Transfer(position, register) => {
+            let unit = unit_at(units, retired, position);
+            let from = if unit == 0 { units - 1 } else { unit - 1 };
+            let high = top(unit);
+            let meaning = Meaning::OfTransfer(counted, column, register.get(), from, unit);
+            if unit == 0 {
+                // It leaves the last unit below, and goes on at the first.
+                let low = top(from) + BAR_HEIGHT;
+                shapes.push(line(arrow, x, low, low + 1_400, meaning))?;
+                shapes.push(line(arrow, x, high - 1_400, high, meaning))?;
+            } else {
+                shapes.push(line(arrow, x, high - 2_800, high, meaning))?;
+            }
+        }
+        Event::Drain(position, register) => {
+            let unit = unit_at(units, retired, position);
+            let low = top(unit) + BAR_HEIGHT;
+            let meaning = Meaning::OfDrain(counted, column, register.get(), unit);
+            shapes.push(line(arrow, x, low - 1_300, low, meaning))?;
+        }
+        Event::Squash(position) => {
+            let unit = unit_at(units, retired, position);
+            let form = Geometry::Wedge(x - 700, top(unit) - 900);
+            let meaning = Meaning::OfSquash(counted, column, unit);
+            let element = Element {
+                style: Style::SquashMark,
+                form,
+            };
+            shapes.push(Shape { element, meaning })?;
+        }
+        _ => {}
     }
     Ok(())
 }
 
-/// An arrow down at the middle of an event's room.
-fn arrow(count: u32, number: u32, hover: Hover, top: u64, bottom: u64) -> Shape
-    ensures { result ≡ arrow_of count number hover top bottom }
+/// A line down that stands for something.
+fn line(style: Style, x: u64, top: u64, bottom: u64, meaning: Meaning) -> Shape
+    ensures { result.meaning ≡ meaning }
 {
-    let x = middle(count, number.saturating_sub(1));
+    let form = Geometry::Line(x, top, x, bottom);
     Shape {
-        style: by_room(count, Style::FineArrow, Style::Arrow),
-        form: Geometry::Line(x, top, x, bottom),
-        hover,
+        element: Element { style, form },
+        meaning,
     }
 }
 
-/// Adds a register's number beside its arrow, if there is room for it.
+/// Adds the number of the register that the event of this number transfers, if it does and there is room beside its arrow.
 fn push_register(
     shapes: &mut Vec<Shape>,
-    count: u32,
-    number: u32,
-    unit: u32,
-    register: u8,
-    is_room: bool,
+    axis: Axis,
+    columns: &[u32],
+    events: &[Event],
+    index: usize,
+    retired: u32,
 ) -> Result<(), AllocError>
-    ensures { OnOk result (shapes.new.items ≡ shapes.old.items ++ register_of count number unit register is_room) }
+    requires some { 0 < axis.units }
+    requires within { index < length events.now }
+    ensures { OnOk result (meanings shapes.new.items ≡ meanings shapes.old.items) }
 {
-    if !is_room {
+    let Event::Transfer(position, register) = events[index] else {
         return Ok(());
+    };
+    let unit = unit_at(axis.units, retired, position);
+    let x = middle(axis.count, column_of(columns, index));
+    if let Some(next) = next_arrival(axis.units, unit, retired, &events[index + 1..]) {
+        let next = column_of(columns, (index + 1).saturating_add(next));
+        if middle(axis.count, next) < x + ROOM_OF_REGISTER {
+            return Ok(());
+        }
     }
-    let x = middle(count, number.saturating_sub(1)) + 500;
-    let form = Geometry::Label(x, top(unit) - 900, LabelText::Register(register));
-    shapes.push(Shape::plain(Style::RegisterName, form))?;
+    let words = LabelText::Register(register.get());
+    let form = Geometry::Label(x + 500, top(unit) - 900, words);
+    let element = Element {
+        style: Style::RegisterName,
+        form,
+    };
+    let meaning = Meaning::Nothing;
+    shapes.push(Shape { element, meaning })?;
     Ok(())
+}
+
+/// The number, from 0, of the first event by which a register arrives at a unit; before them `retired` tasks retired.
+fn next_arrival(units: u32, unit: u32, retired: u32, events: &[Event]) -> Option<usize>
+    requires { 0 < units }
+{
+    let mut retired = retired;
+    for (index, event) in events.iter().enumerate() {
+        match *event {
+            Event::Transfer(position, _) if unit_at(units, retired, position) == unit => {
+                return Some(index);
+            }
+            Event::Retire => retired = retired.saturating_add(1),
+            _ => {}
+        }
+    }
+    None
 }

@@ -1,11 +1,12 @@
-//! The shapes of a picture. All lengths are in hundredths of a pixel, from the left and from above.
+//! The vocabulary of pictures. An element has a place, a class and, if it is a label, words; a shape also stands for
+//! something. All lengths are in hundredths of a pixel, from the left and from above.
 
 use machine_model::event::Standing;
 use task_lives::life::{Ending, Life};
 use task_lives::tally::Tally;
 
-/// How a shape looks: a class of the style sheet.
-#[derive(Clone, Copy, Debug, PartialEq, Eq)]
+/// How an element looks: a class of the style sheet.
+#[derive(Clone, Copy, Debug)]
 pub enum Style {
     /// Further text.
     Quiet,
@@ -15,7 +16,7 @@ pub enum Style {
     UnitName,
     /// A line up through the lanes at a number of the axis.
     Grid,
-    /// The axis of events.
+    /// The axis of events or steps.
     Axis,
     /// A number below the axis.
     AxisNumber,
@@ -50,7 +51,7 @@ pub enum Style {
 }
 
 /// What a label says.
-#[derive(Clone, Copy, Debug, PartialEq, Eq)]
+#[derive(Clone, Copy, Debug)]
 pub enum LabelText {
     /// The tally of the lives.
     Sums(Tally),
@@ -58,28 +59,22 @@ pub enum LabelText {
     HowItStands(Standing),
     /// The number of a unit.
     OfUnit(u32),
-    /// The number of an event, from 1.
-    EventNumber(u32),
+    /// The number of an event or a step, from 1.
+    ColumnNumber(u32),
     /// What the axis counts.
-    Events,
+    OfAxis(Counted),
     /// The name of the task with this number: all of it, or this many letters and three points.
     Task(u32, usize),
     /// A register's number.
     Register(u8),
-    /// That the units form a ring.
-    Ring,
-    /// How many events are summed.
-    Stretch(u32),
-    /// What the axis counts in steps.
-    Steps,
-    /// What a unit does in a step.
-    OneEvent,
-    /// How many steps are summed.
-    StretchOfSteps(u32),
+    /// What is to be known of a picture of single events or steps.
+    Single(Counted),
+    /// How many events or steps are summed in a column.
+    Summed(Counted, u32),
 }
 
 /// What a picture counts from left to right.
-#[derive(Clone, Copy, Debug, PartialEq, Eq)]
+#[derive(Clone, Copy, Debug)]
 pub enum Counted {
     /// Events.
     Events,
@@ -87,8 +82,19 @@ pub enum Counted {
     Steps,
 }
 
+/// How many columns a picture has from left to right, and of how many units it has lanes.
+#[derive(Clone, Copy, Debug)]
+pub struct Axis {
+    /// What the columns are.
+    pub counted: Counted,
+    /// How many units there are.
+    pub units: u32,
+    /// How many columns there are: events or steps.
+    pub count: u32,
+}
+
 /// What happens in a stretch of events or steps, on all units.
-#[derive(Clone, Copy, Debug, PartialEq, Eq)]
+#[derive(Clone, Copy, Debug)]
 pub struct StretchTally {
     /// How many instructions are executed.
     pub executed: u64,
@@ -100,27 +106,87 @@ pub struct StretchTally {
     pub dropped: u64,
 }
 
-/// The title of a shape, shown where a pointer rests on it.
-#[derive(Clone, Copy, Debug, PartialEq, Eq)]
-pub enum Hover {
-    /// Nothing.
-    Nothing,
-    /// A life.
-    OfLife(Life),
-    /// The life of the task that halted.
-    OfHalted(Life),
-    /// In this event or step, numbered from 1, a register goes from one unit to another.
-    OfTransfer(Counted, u32, u8, u32, u32),
-    /// In this event or step, numbered from 1, a register is sent by this unit, which has stopped.
-    OfDrain(Counted, u32, u8, u32),
-    /// In this event or step, numbered from 1, what follows a unit is squashed.
-    OfSquash(Counted, u32, u32),
-    /// From this event or step to that one, numbered from 1, this happens in the run.
-    OfStretch(Counted, u64, u64, StretchTally),
+/// How much of a stretch of events or steps a unit spent on tasks that ended in one way.
+#[derive(Clone, Copy, Debug)]
+pub struct StretchShare {
+    /// The number of the unit.
+    pub unit: u32,
+    /// The ending.
+    pub ending: Ending,
+    /// How many events or steps of the stretch it is.
+    pub count: u64,
+    /// The first event or step of the stretch, from 1.
+    pub first: u64,
+    /// The last event or step of the stretch.
+    pub last: u64,
+    /// What happens in the stretch on all units.
+    pub tally: StretchTally,
 }
 
-/// The form of a shape.
+/// Who owes a register.
 #[derive(Clone, Copy, Debug, PartialEq, Eq)]
+pub struct Debt {
+    /// The register's number.
+    pub register: u8,
+    /// The task that owes it.
+    pub task: u32,
+    /// The unit of that task.
+    pub unit: u32,
+    /// Whether the register is on its way.
+    pub is_sent: bool,
+}
+
+/// Why a unit waits.
+#[derive(Clone, Copy, Debug, PartialEq, Eq)]
+pub enum Why {
+    /// Its next instruction needs a register.
+    NeedsRegister(Debt),
+    /// Its next instruction is one that the head alone executes.
+    NeedsHead,
+    /// It has to pass on a register that has not arrived.
+    HasToPass(Debt),
+    /// It has finished, and is not the head.
+    HasFinished,
+}
+
+/// Steps, one after the other, in which a unit waits for one reason.
+#[derive(Clone, Copy, Debug, PartialEq, Eq)]
+pub struct Wait {
+    /// The number of the unit.
+    pub unit: u32,
+    /// The number of its task.
+    pub task: u32,
+    /// The first of the steps, from 1.
+    pub step: u32,
+    /// How many steps there are.
+    pub count: u32,
+    /// Why it waits.
+    pub why: Why,
+}
+
+/// What a shape stands for. Events and steps are numbered from 1; only those of a life, from 0.
+#[derive(Clone, Copy, Debug)]
+pub enum Meaning {
+    /// Nothing.
+    Nothing,
+    /// A life, and whether it is that of the task that halted.
+    OfLife(Counted, Life, bool),
+    /// In this event or step a unit executes an instruction.
+    OfExec(Counted, u32, u32),
+    /// In this event or step a register goes from one unit to another.
+    OfTransfer(Counted, u32, u8, u32, u32),
+    /// In this event or step a register is sent by this unit, which has stopped.
+    OfDrain(Counted, u32, u8, u32),
+    /// In this event or step what follows a unit is squashed.
+    OfSquash(Counted, u32, u32),
+    /// A unit waits.
+    OfWait(Wait),
+    /// What a unit did in a stretch.
+    OfShare(Counted, StretchShare),
+}
+
+/// The form of an element.
+#[derive(Clone, Copy, Debug)]
 pub enum Geometry {
     /// A rectangle: where its left upper corner is, and how wide and high it is.
     Rectangle(u64, u64, u64, u64),
@@ -132,29 +198,20 @@ pub enum Geometry {
     Label(u64, u64, LabelText),
 }
 
-/// A shape.
-#[derive(Clone, Copy, Debug, PartialEq, Eq)]
-pub struct Shape {
+/// An element, which by itself stands for nothing: a part of the frame, or a label.
+#[derive(Clone, Copy, Debug)]
+pub struct Element {
     /// How it looks.
     pub style: Style,
-    /// Where it is.
+    /// Where it is, and what it says.
     pub form: Geometry,
-    /// Its title, shown where a pointer rests on it.
-    pub hover: Hover,
 }
 
-impl Shape {
-    ghost use Rattle.std.specs.Prelude.{◌≡◌};
-    ghost use Rattle.run_picture.specs.Shapes.{plain as plain_of};
-
-    /// A shape without a title.
-    pub fn plain(style: Style, form: Geometry) -> Shape
-        ensures { result ≡ plain_of style form }
-    {
-        Shape {
-            style,
-            form,
-            hover: Hover::Nothing,
-        }
-    }
+/// An element and what it stands for.
+#[derive(Clone, Copy, Debug)]
+pub struct Shape {
+    /// Its look and its place.
+    pub element: Element,
+    /// What it stands for.
+    pub meaning: Meaning,
 }

@@ -1,10 +1,8 @@
-//! The parts of the file that every picture has.
+//! The parts of the file that every picture of events has.
 
-ghost use Rattle.std.specs.Prelude.{◌≡◌};
-ghost use Rattle.run_picture.specs.FixedText.{style_sheet, marks_legend, stretches_legend};
-
-/// The style of all shapes, light or dark. What a colour shows, a pattern or a dashed border shows too.
-const SHEET: &str = "<style>
+/// The style of all shapes, light or dark, patterns, the ground, and the legend of the bars of lives that ended. What a
+/// colour shows, a pattern or a dashed border shows too.
+pub(crate) const SHEET: &str = "<style>
 text{fill:#1f2933;font-size:14px;pointer-events:none}line{pointer-events:none}
 .title{font-size:24px;font-weight:600}.quiet,.caption{fill:#52606d}.unit{text-anchor:end}.caption,.number{text-anchor:middle}
 .number,.register{fill:#52606d;font-size:12px}.task{font-size:13px;font-weight:600;paint-order:stroke;stroke:#fff;stroke-width:3px;stroke-linejoin:round}
@@ -36,7 +34,7 @@ text{fill:#e4e9ee}.quiet,.caption,.number{fill:#9aa7b4}.task{stroke:#1c2229}.pap
 ";
 
 /// What the other bars and the marks of single events look like.
-const MARKS_LEGEND: &str =
+pub(crate) const MARKS_LEGEND: &str =
     "<rect class='unfinished' x='430' y='96' width='28' height='16'/><text x='466' y='109'>unfinished</text>
 <path class='instruction' d='M564 99v10M570 99v10M576 99v10'/><text x='586' y='109'>instruction</text>
 <path class='transfer' d='M694 94V113'/><text x='706' y='109'>register arrives</text>
@@ -47,33 +45,9 @@ const MARKS_LEGEND: &str =
 ";
 
 /// What else is in a picture of stretches, and what is not drawn.
-const STRETCHES_LEGEND: &str =
+pub(crate) const STRETCHES_LEGEND: &str =
     "<rect class='unfinished' x='430' y='96' width='28' height='16'/><text x='466' y='109'>unfinished, or halted</text>
 <rect class='idle' x='630' y='96' width='28' height='16'/><text x='666' y='109'>no task</text>
 <text class='quiet' x='756' y='109'>over 2,000 events, no instructions, registers or squashes are drawn</text>
 </g>
 ";
-
-/// The style sheet, the patterns, the ground, and the legend of the bars of lives that ended.
-#[tactic(auto, unfolding(crate::specs::FixedText::style_sheet))]
-pub(crate) fn style_sheet() -> &'static str
-    ensures { result.now ≡ style_sheet }
-{
-    SHEET
-}
-
-/// The legend of the other bars, and of the marks of single events.
-#[tactic(auto, unfolding(crate::specs::FixedText::marks_legend))]
-pub(crate) fn marks_legend() -> &'static str
-    ensures { result.now ≡ marks_legend }
-{
-    MARKS_LEGEND
-}
-
-/// The legend of what else is in a picture of stretches, and what is not drawn.
-#[tactic(auto, unfolding(crate::specs::FixedText::stretches_legend))]
-pub(crate) fn stretches_legend() -> &'static str
-    ensures { result.now ≡ stretches_legend }
-{
-    STRETCHES_LEGEND
-}

@@ -1,15 +1,17 @@
-//! Long histories, summed by stretches of equal length: how many events of a stretch each unit spent on tasks
+//! Long histories, summed by stretches of equal length: how many events or steps of a stretch each unit spent on tasks
 //! that ended in each way.
 
-ghost use Rattle.std.specs.Prelude.{◌≡◌, ℕ, ◌+◌, ◌*◌, ◌-◌, ◌%◌, ◌++◌, ◌<◌, ◌≤◌, ◌^◌, IfOk, OnOk, length, map, slice_index};
-ghost use Rattle.std.specs.List.{range_with_len, sum_by};
+ghost use Rattle.std.specs.Prelude.{◌≡◌, ◌+◌, ◌*◌, ◌++◌, ◌<◌, ◌≤◌, ◌^◌, IfOk, OnOk, length, map, slice_index};
+ghost use Rattle.std.specs.List.{range_with_len};
 ghost use Rattle.machine_model.specs.Answer.{most_events};
-ghost use Rattle.task_lives.specs.Sums.{AreFew};
-ghost use Rattle.run_picture.specs.Stretches.{column_part, ending_of as ending_of_part, end_of, height_of, length_of, overlap as overlap_of, rectangle_of, share_of, stretch_at, stretches_of};
-ghost use Rattle.run_picture.specs.Adding.{AddsLife, HaveRoom, hover_by, with_overlap};
+ghost use Rattle.run_picture.specs.Meanings.{meanings};
+ghost use Rattle.run_picture.specs.Stretches.{ending_of as ending_of_part, end_of, length_of, overlap as overlap_of, share_of, shares_told};
+ghost use Rattle.run_picture.specs.Adding.{AddsLife, HaveRoom, share_by, with_overlap};
+ghost use Rattle.run_picture.specs.Charts.{HasRoom};
 
+use crate::chart::Chart;
 use crate::scale::{BAR_HEIGHT, left_edge, top};
-use crate::shape::{Counted, Geometry, Hover, Shape, StretchTally, Style};
+use crate::shape::{Axis, Element, Geometry, Meaning, Shape, StretchShare, StretchTally, Style};
 use crate::stretch_tallies::{StretchSums, part_of, sums_of};
 use std::alloc::{AllocError, Global};
 use task_lives::life::{Ending, Life};
@@ -17,73 +19,47 @@ use task_lives::life::{Ending, Life};
 /// The most stretches of a picture: each has 4 pixels.
 const STRETCHES: u32 = 290;
 
-/// How many events a stretch has; the last ones may be shorter, or empty.
-pub fn stretch_length(events: u32) -> u32
-    ensures { result ≡ length_of events }
+/// How many columns a stretch has; the last ones may be shorter, or empty.
+pub fn stretch_length(count: u32) -> u32
+    ensures { result ≡ length_of count }
 {
-    events / STRETCHES + 1
+    count / STRETCHES + 1
 }
 
 /// The ending of a part.
 fn ending_of(part: usize) -> Ending
     ensures { result ≡ ending_of_part part }
 {
-    if part == 0 {
-        Ending::Retired
-    } else if part == 1 {
-        Ending::Squashed
-    } else if part == 2 {
-        Ending::Dropped
-    } else {
-        Ending::Unfinished
+    match part {
+        0 => Ending::Retired,
+        1 => Ending::Squashed,
+        2 => Ending::Dropped,
+        _ => Ending::Unfinished,
     }
 }
 
-/// Adds the columns of `units` units, in a history of `events` events or steps, numbered from 0, of which those at
-/// these places execute an instruction. An error means that memory was refused.
-pub fn push_stretches(
+/// Adds the parts of the stretches of a chart.
+pub(crate) fn push_shares(
     alloc: Global,
     shapes: &mut Vec<Shape>,
-    counted: Counted,
-    units: u32,
-    events: u32,
-    places: &[u32],
-    lives: &[Life],
+    chart: &Chart,
 ) -> Result<(), AllocError>
-    requires room { events ≤ most_events }
-    requires few { AreFew lives.now }
-    requires few_places { length places.now ≤ most_events }
-    ensures { OnOk result (shapes.new.items ≡ shapes.old.items ++ stretches_of counted units events places.now lives.now) }
+    requires { HasRoom chart.now }
+    ensures { OnOk result (meanings shapes.new.items ≡ meanings shapes.old.items
+        ++ shares_told chart.now.axis chart.now.columns.items chart.now.events.items chart.now.lives.items) }
 {
-    let parts = units as usize * 1_160;
-    let span = stretch_length(events);
-    let shares = shares_of(alloc, parts, span, lives)?;
-    let sums = sums_of(alloc, span, places, lives)?;
+    let axis = chart.axis;
+    let parts = axis.units as usize * 1_160;
+    let span = stretch_length(axis.count);
+    let shares = shares_of(alloc, parts, span, &chart.lives)?;
+    let sums = sums_of(alloc, span, &chart.columns, &chart.events, &chart.lives)?;
     for part in 0..parts {
-        let hover = hover_by_sums(counted, events, &sums, part);
-        push_part(shapes, events, &shares, part, hover)?;
+        push_share(shapes, axis, &shares, &sums, part)?;
     }
     Ok(())
 }
 
-/// The title of the stretch of a part, from the sums.
-fn hover_by_sums(counted: Counted, events: u32, sums: &StretchSums, part: usize) -> Hover
-    requires executed { length sums.now.executed.items ≡ 290 }
-    requires ended { length sums.now.ended.items ≡ 1160 }
-    ensures { result ≡ hover_by counted events sums.now.executed.items sums.now.ended.items (stretch_at part) }
-{
-    let stretch = part / 4 % 290;
-    let tally = StretchTally {
-        executed: sums.executed[stretch],
-        retired: sums.ended[stretch * 4],
-        squashed: sums.ended[stretch * 4 + 1],
-        dropped: sums.ended[stretch * 4 + 2],
-    };
-    let first = stretch as u64 * u64::from(stretch_length(events)) + 1;
-    Hover::OfStretch(counted, first, end(events, stretch as u64), tally)
-}
-
-/// The shares of `parts` parts: how many events of its stretch count for each.
+/// The shares of `parts` parts: how many columns of its stretch count for each.
 #[tactic(auto, using(crate::proofs::Shares::no_shares))]
 fn shares_of(alloc: Global, parts: usize, span: u32, lives: &[Life]) -> Result<Vec<u64>, AllocError>
     requires some { 0 < span }
@@ -110,7 +86,7 @@ fn add_life(shares: &mut Vec<u64>, span: u32, life: Life)
     }
 }
 
-/// Adds the events of a life that are in a stretch, if there is such a stretch.
+/// Adds the columns of a life that are in a stretch, if there is such a stretch.
 fn add_overlap(shares: &mut Vec<u64>, span: u32, stretch: u32, life: Life)
     requires { HaveRoom span shares.old.items }
     ensures { shares.new.items ≡ with_overlap span stretch life shares.old.items }
@@ -125,7 +101,7 @@ fn add_overlap(shares: &mut Vec<u64>, span: u32, stretch: u32, life: Life)
     }
 }
 
-/// How many events of a life are in a stretch.
+/// How many columns of a life are in a stretch.
 fn overlap(span: u32, stretch: u32, life: Life) -> u64
     ensures value { result ≡ overlap_of span stretch life }
     ensures bound { result ≤ span }
@@ -137,85 +113,88 @@ fn overlap(span: u32, stretch: u32, life: Life) -> u64
     behind.saturating_sub(first)
 }
 
-/// Adds the rectangle of a part of a column, if there is something in it.
-fn push_part(
+/// Adds the rectangle of a part of a stretch, if there is something in it.
+fn push_share(
     shapes: &mut Vec<Shape>,
-    events: u32,
+    axis: Axis,
     shares: &[u64],
+    sums: &StretchSums,
     part: usize,
-    hover: Hover,
 ) -> Result<(), AllocError>
     requires within { part < length shares.now }
     requires units { part < 1160 * 2 ^ 32 }
-    requires small { (k : ℕ) → k < length shares.now → slice_index shares.now k < 2 ^ 40 }
-    requires room { events ≤ most_events }
-    ensures { OnOk result (shapes.new.items ≡ shapes.old.items
-        ++ column_part events part (sum_by (slice_index shares.now) (range_with_len (part - part % 4) (part % 4))) (slice_index shares.now part) hover) }
+    requires executed { length sums.now.executed.items ≡ 290 }
+    requires ended { length sums.now.ended.items ≡ 1160 }
+    ensures { OnOk result (meanings shapes.new.items
+        ≡ meanings shapes.old.items ++ share_by axis (slice_index shares.now part) sums.now.executed.items sums.now.ended.items part) }
 {
-    let here = shares[part];
-    if here > 0 {
-        let below = below(shares, part);
-        shapes.push(rectangle(events, part, below, here, hover))?;
+    let count = shares[part];
+    if count == 0 {
+        return Ok(());
     }
+    let stretch = part / 4 % 290;
+    let first = stretch as u64 * u64::from(stretch_length(axis.count)) + 1;
+    let share = StretchShare {
+        unit: (part / 1_160) as u32,
+        ending: ending_of(part % 4),
+        count,
+        first,
+        last: end(axis.count, stretch as u64),
+        tally: StretchTally {
+            executed: sums.executed[stretch],
+            retired: sums.ended[stretch * 4],
+            squashed: sums.ended[stretch * 4 + 1],
+            dropped: sums.ended[stretch * 4 + 2],
+        },
+    };
+    let below = below(&shares[part - part % 4..part]);
+    shapes.push(Shape {
+        element: rectangle(axis, share, below),
+        meaning: Meaning::OfShare(axis.counted, share),
+    })?;
     Ok(())
 }
 
-/// The sum of the shares below a part in its column.
-fn below(shares: &[u64], part: usize) -> u64
-    requires within { part < length shares.now }
-    requires small { (k : ℕ) → k < length shares.now → slice_index shares.now k < 2 ^ 40 }
-    ensures value { result ≡ sum_by (slice_index shares.now) (range_with_len (part - part % 4) (part % 4)) }
-    ensures bound { result < 2 ^ 42 }
-{
-    let mut below = 0;
-    for ahead in 0..part % 4 {
-        below += shares[part - part % 4 + ahead];
+/// The sum of the shares below a part of a stretch.
+fn below(shares: &[u64]) -> u64 {
+    let mut sum: u64 = 0;
+    for share in shares {
+        sum = sum.saturating_add(*share);
     }
-    below
+    sum
 }
 
-/// The rectangle of a part, above what lies below it.
-fn rectangle(events: u32, part: usize, below: u64, here: u64, hover: Hover) -> Shape
-    requires room { events ≤ most_events }
-    requires units { part < 1160 * 2 ^ 32 }
-    requires below_small { below < 2 ^ 42 }
-    requires here_small { here < 2 ^ 40 }
-    ensures { result ≡ rectangle_of events part below here hover }
-{
-    let stretch = (part / 4 % 290) as u64;
-    let begin = stretch * u64::from(stretch_length(events));
-    let left = left_edge(events, begin);
-    let right = left_edge(events, end(events, stretch));
-    let low = height(events, stretch, below);
-    let high = height(events, stretch, below + here);
-    let bottom = top((part / 1_160) as u32) + BAR_HEIGHT;
+/// The rectangle of a part, above what lies below it. A column is as high as a bar where its unit had tasks throughout.
+fn rectangle(axis: Axis, share: StretchShare, below: u64) -> Element {
+    let begin = share.first.saturating_sub(1);
+    let size = share.last.saturating_sub(begin).max(1);
+    let low = below.saturating_mul(BAR_HEIGHT) / size;
+    let high = below.saturating_add(share.count).saturating_mul(BAR_HEIGHT) / size;
+    let left = left_edge(axis.count, column_at(begin));
+    let right = left_edge(axis.count, column_at(share.last));
     let form = Geometry::Rectangle(
         left,
-        bottom.saturating_sub(high),
+        (top(share.unit) + BAR_HEIGHT).saturating_sub(high),
         right.saturating_sub(left),
         high.saturating_sub(low),
     );
-    let style = Style::Share(ending_of(part % 4));
-    Shape { style, form, hover }
+    Element {
+        style: Style::Share(share.ending),
+        form,
+    }
+}
+
+/// The number of a column.
+fn column_at(number: u64) -> u32 {
+    number.min(u64::from(u32::MAX)) as u32
 }
 
 /// Where a stretch ends.
-fn end(events: u32, stretch: u64) -> u64
+fn end(count: u32, stretch: u64) -> u64
     requires few { stretch < 290 }
-    ensures value { result ≡ end_of events stretch }
-    ensures bound { result ≤ events }
+    ensures value { result ≡ end_of count stretch }
+    ensures bound { result ≤ count }
 {
-    let span = u64::from(stretch_length(events));
-    (stretch * span + span).min(u64::from(events))
-}
-
-/// How high `count` events of a stretch are.
-fn height(events: u32, stretch: u64, count: u64) -> u64
-    requires few { stretch < 290 }
-    requires small { count < 2 ^ 43 }
-    ensures { result ≡ height_of events stretch count }
-{
-    let begin = stretch * u64::from(stretch_length(events));
-    let size = end(events, stretch).saturating_sub(begin).max(1);
-    count * BAR_HEIGHT / size
+    let span = u64::from(stretch_length(count));
+    (stretch * span + span).min(u64::from(count))
 }

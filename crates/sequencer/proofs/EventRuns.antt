@@ -1,15 +1,12 @@
 -- The events of runs, with one run more, or with a longer last one; and events compared.
-use Rattle.std.proofs.Common.{◌≡◌, ℕ, zero, suc, ◌+◌, ◌<◌, ◌≤◌, List, [], ◌∷◌, ◌++◌, length, replicate, take, set, get_or, refl, sym, ap, ◌∙◌, true, arith, append_assoc, length-append, true≢false, eqb-true}
+use Rattle.std.proofs.Common.{◌≡◌, ℕ, zero, suc, ◌+◌, ◌<◌, ◌≤◌, List, [], ◌∷◌, ◌++◌, length, replicate, take, set, get_or, sym, ap, ◌∙◌, arith, append_assoc, length-append}
 use Rattle.std.proofs.lemmas.Grind.{flat_map-append}
 use Rattle.std.proofs.lemmas.List.{length-replicate, append-nil, set_split, set-get_or, drop_all}
 use Rattle.std.proofs.lemmas.List.Concat.{flat_map-cons}
-use Rattle.std.proofs.lemmas.Bool.{and_parts}
-use Rattle.std.specs.Prelude.{nat_eq}
 use Rattle.std.proofs.lemmas.List.Elements.{All-head, All-tail}
 use Rattle.machine_model.specs.Runs.{events_of}
 use Rattle.machine_model.specs.declared.event.Event.{Event}
 use Rattle.machine_model.specs.declared.event.Event.TheVariants as event
-use Rattle.machine_model.specs.contracts.event.EventPartialEq.TheImpl as compared
 use Rattle.machine_model.specs.declared.event.EventRun.{EventRun}
 use Rattle.sequencer.specs.Histories.{AreCounted}
 
@@ -60,23 +57,3 @@ few_runs (run ∷ runs) all =
     let long : length (events_of (run ∷ runs)) ≡ length (replicate run.count run.event) + length (events_of runs) =
     ap (λ (es : List Event). length es) (flat_map-cons events run runs) ∙ length-append (replicate run.count run.event) (events_of runs) in
     omega (arith, length-replicate run.count run.event)
-
-pub last_within : (runs : List EventRun) (run : EventRun) → run.count ≤ length (events_of (runs ++ run ∷ []))
-last_within runs run =
-    let long : length (events_of (runs ++ run ∷ [])) ≡ length (events_of runs) + length (replicate run.count run.event) =
-    ap (λ (es : List Event). length es) (joined runs run) ∙ length-append (events_of runs) (replicate run.count run.event) in
-    omega (arith, length-replicate run.count run.event)
-
--- what the derived comparison of events finds the same is the same
-pub same_event : (e f : Event) → compared.eq-value.it e f ≡ true → e ≡ f
-same_event (event.Assign t) (event.Assign u) is = ap event.Assign (eqb-true t u is)
-same_event (event.Exec j) (event.Exec k) is = ap event.Exec (eqb-true j k is)
-same_event (event.Transfer j q) (event.Transfer k r) is =
-    let both = and_parts (nat_eq j k) (nat_eq q r) is in λ i. event.Transfer (eqb-true j k both.0 i) (eqb-true q r both.1 i)
-same_event (event.Drain j q) (event.Drain k r) is =
-    let both = and_parts (nat_eq j k) (nat_eq q r) is in λ i. event.Drain (eqb-true j k both.0 i) (eqb-true q r both.1 i)
-same_event (event.Squash j) (event.Squash k) is = ap event.Squash (eqb-true j k is)
-same_event event.Retire event.Retire is = refl
-same_event event.Fault event.Fault is = refl
-same_event (event.Drop j) (event.Drop k) is = ap event.Drop (eqb-true j k is)
-same_event _ _ is = absurd (true≢false (sym is))

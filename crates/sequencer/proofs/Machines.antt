@@ -1,20 +1,17 @@
 -- A machine stays the replay of its history: at its start, and after one more event.
-use Rattle.std.proofs.Common.{◌≡◌, ℕ, ◌+◌, ◌<◌, ◌≤◌, inl, inr, Bool, true, false, List, [], ◌∷◌, ◌++◌, length, Option, Some, None, Result, Ok, Err, refl, sym, ap, ◌∙◌, subst, arith, length-append, ltb-true}
+use Rattle.std.proofs.Common.{◌≡◌, ℕ, ◌+◌, ◌<◌, ◌≤◌, Bool, true, false, List, [], ◌∷◌, ◌++◌, length, Option, Some, None, Ok, refl, sym, ap, ◌∙◌, subst, arith, length-append, ltb-true}
 use Rattle.std.specs.Prelude.{nat_lt}
 use Rattle.std.specs.Option.{option_or}
 use Rattle.mips_plain.specs.MemoryMap.{byte_of}
 use Rattle.machine_model.specs.Machine.{State}
 use Rattle.machine_model.specs.Replay.{ReplaysFrom, Replays}
 use Rattle.machine_model.specs.Refusals.{unless}
-use Rattle.machine_model.specs.Answer.{is_running, ok_unless, most_events}
+use Rattle.machine_model.specs.Answer.{most_events}
 use Rattle.machine_model.specs.declared.event.Event.{Event}
 use Rattle.machine_model.specs.declared.event.Refused.{Refused}
 use Rattle.machine_model.specs.declared.event.Refused.TheVariants as refused
-use Rattle.machine_model.specs.declared.event.Standing.{Standing}
-use Rattle.machine_model.specs.declared.event.Standing.TheVariants.{Running, Halted, Trapped, Unlisted}
 use Rattle.processor_steps.specs.Processors.{ProcessorView, Keeps, Steps, state_of}
-use Rattle.sequencer.specs.Machines.{MachineView, IsMachine, state, units_of, IsAnswered}
-use Rattle.sequencer.proofs.Verdicts.{refused_where_running}
+use Rattle.sequencer.specs.Machines.{MachineView, IsMachine, state, units_of}
 
 -- room that the test found
 
@@ -56,27 +53,3 @@ pushed v m count e p' history is law counted steps more =
     let steps' : Steps m.accepted.program m.processor (length m.history) e (Ok tt) p' =
     subst (λ (n : ℕ). Steps m.accepted.program m.processor n e (Ok tt) p') (counted ∙ ap (λ (x : MachineView). length x.history) (sym is)) steps in
     subst (λ (h : List Event). IsMachine (record m { processor = p'; history = h })) (sym more) (law' e tt p' steps')
-
--- the answers
-
-pub answered_ok : (m : MachineView) (e : Event) (p' : ProcessorView) (done : Unit {0}) → (state m).outcome ≡ Running → Steps m.accepted.program m.processor (length m.history) e (Ok done) p' → IsAnswered m e (Ok done)
-answered_ok m e p' done runs steps = inl (sym (ap ok_unless (refused_where_running (state m).outcome _ runs ∙ steps.allowed)))
-
-pub answered_err : (m : MachineView) (e : Event) (p' : ProcessorView) (why : Refused) → (state m).outcome ≡ Running → Steps m.accepted.program m.processor (length m.history) e (Err why) p' → IsAnswered m e (Err why)
-answered_err m e p' why runs steps = elim steps.refused [
-  | inl refuses ↦ inl (sym (ap ok_unless (refused_where_running (state m).outcome _ runs ∙ refuses)))
-  | inr memory ↦ inr (
-    memory.0,
-    ap (λ (w : Refused). let e : Result (Unit {0}) Refused = Err w in e) memory.1,
-    ap ok_unless (refused_where_running (state m).outcome _ runs ∙ memory.2),
-  )
-]
-
-pub ended_refused : (o : Standing) (later : Option Refused) → (o ≡ Running → ⊥) → unless (is_running o) refused.Ended later ≡ Some refused.Ended
-ended_refused Running later never = absurd (never refl)
-ended_refused Halted later never = refl
-ended_refused (Trapped trap) later never = refl
-ended_refused (Unlisted at) later never = refl
-
-pub answered_ended : (m : MachineView) (e : Event) → ((state m).outcome ≡ Running → ⊥) → IsAnswered m e (Err refused.Ended)
-answered_ended m e never = inl (sym (ap ok_unless (ended_refused (state m).outcome _ never)))

@@ -24,9 +24,6 @@ use Rattle.sequencer.specs.Rings.{EventFits}
 pub replays_more : ReplayCut → (p : Listing) (units : ℕ) (first second : List Event) (s s' : State) → Replays p units first s → ReplaysFrom p units s second s' → Replays p units (first ++ second) s'
 replays_more cut p units first second s s' before more = (cut p units (opening p) s' first second).1 (s, before, more)
 
-pub replays_on : ReplayCut → (p : Listing) (units : ℕ) (events : List Event) (s s' : State) (e : Event) → Replays p units events s → Next p units s e s' → Replays p units (events ++ e ∷ []) s'
-replays_on cut p units events s s' e before next = replays_more cut p units events (e ∷ []) s s' before (s', next, refl)
-
 -- A number that grows by at most one with each event is at most the number of events
 
 module _ (p : Listing) (units : ℕ) (size : State → ℕ) (grows : (s s' : State) (e : Event) → Next p units s e s' → size s' ≤ suc (size s)) where

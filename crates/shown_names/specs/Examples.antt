@@ -38,3 +38,9 @@ with_blank = refl
 pub with_line_end : shell_word (codes "a\\" ++ 10 ∷ codes "b") ≡ codes "$'a\\\\\\x0ab'"
 unfolding is_readable is_utf8 chars encode
 with_line_end = refl
+
+pub like_an_option : shell_word (codes "-w.s") ≡ codes "./-w.s"
+like_an_option = refl
+
+pub standard_input : shell_word (codes "-") ≡ codes "-"
+standard_input = refl

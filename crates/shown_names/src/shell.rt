@@ -2,20 +2,39 @@
 ghost use Rattle.std.specs.Prelude.{◌≡◌, ◌++◌, ◌∷◌, [], IfOk, OnOk, flat_map};
 ghost use Rattle.std.specs.List.{list_all};
 ghost use Rattle.std.specs.String.{string_bytes};
-ghost use Rattle.shown_names.specs.Shell.{coded, coded_byte, is_bare, quoted, quoted_byte, shell_word};
+ghost use Rattle.shown_names.specs.Shell.{as_word, coded, coded_byte, is_bare, is_like_option, quoted, quoted_byte, shell_word};
 
 use crate::letters::{is_printable, is_readable};
 use crate::name::push_shown;
 use std::alloc::{AllocError, Global};
 
-/// A name as a word of a shell's command line, so that the command can be copied from what is shown: as it is where
-/// no byte of it means something to a shell, else between quotes.
+/// A file's name as a word of a shell's command line, so that the command can be copied from what is shown: as it is where
+/// no byte of it means something to a shell, else between quotes; and with `./` before it where a command would take it
+/// for an option.
 ///
 /// # Errors
 ///
 /// Memory was refused.
 pub fn shell_word(alloc: Global, name: &str) -> Result<String, AllocError>
     ensures { IfOk result (λ word. string_bytes word ≡ shell_word name.now) }
+{
+    if is_like_option(name.as_bytes()) {
+        let path = format!(in alloc; "./{name}")?;
+        return as_word(alloc, path.as_str());
+    }
+    as_word(alloc, name)
+}
+
+// Whether a command would take a name for an option; `-` alone is standard input.
+fn is_like_option(name: &[u8]) -> bool
+    ensures { result ≡ is_like_option name.now }
+{
+    name.len() > 1 && name[0] == b'-'
+}
+
+// A text as a word, quoted where it has to be.
+fn as_word(alloc: Global, name: &str) -> Result<String, AllocError>
+    ensures { IfOk result (λ word. string_bytes word ≡ as_word name.now) }
 {
     if is_bare_word(name.as_bytes()) {
         return String::from_str(alloc, name);

@@ -1,4 +1,2 @@
-mod Parts
 mod Determined
 pub mod Growing
-mod CurvePictureParts

@@ -1,14 +1,10 @@
 //! The curve as one SVG file.
 
-ghost use Rattle.std.specs.Prelude.{◌≡◌, ◌<◌, ◌≤◌, ◌^◌, ◌++◌, IfOk, OnOk, flat_map, length};
-ghost use Rattle.std.specs.String.{string_bytes};
-ghost use Rattle.speed_curve.specs.CurvePicture.{beside_text, caption_line, columns_text, curve_text, first_or as first_or_of, rate_line, rate_point, runs_text, level_text, scale_label, scale_line, scale_lines, scale_text, speed_line, speed_point};
-
-use crate::columns::{write_column, write_rate_point, write_speed_point};
-use crate::hundredths::Hundredths;
+use crate::numbers::{Hundredths, end_of, rate, share, speed_up};
 use crate::row::Row;
-use crate::scale::{gap, step, top};
-use crate::sheet::fixed_text;
+use crate::scale::{Scale, bar};
+use crate::sheet::SHEET;
+use machine_model::event::Standing;
 use std::alloc::{AllocError, Global};
 
 /// Draws the results of runs of a program in steps, a column for each row: one SVG file, with no script and no font
@@ -17,190 +13,135 @@ use std::alloc::{AllocError, Global};
 /// rounded as in the table (`crate::table`), and a run has a speed-up where it has one there. The row of n units
 /// stands in column n, and there are as many columns as rows. `caption`, which is text of SVG, stands above the title.
 /// The error says that memory was refused.
-pub fn draw(alloc: Global, caption: &str, rows: &[Row]) -> Result<String, AllocError>
-    ensures { IfOk result (λ text. string_bytes text ≡ curve_text caption.now rows.now) }
-{
-    let mut text = String::from_str(alloc, fixed_text())?;
-    write_caption(&mut text, caption)?;
-    write_runs(&mut text, rows)?;
+pub fn draw(alloc: Global, caption: &str, rows: &[Row]) -> Result<String, AllocError> {
+    let mut text = String::from_str(alloc, SHEET)?;
+    writeln!(text, "<text class='quiet' x='88' y='18'>{caption}</text>")?;
+    if let Some(one) = rows.first() {
+        let scale = Scale::of(one, rows);
+        write_scale(&mut text, scale)?;
+        write_lines(&mut text, scale, one, rows)?;
+        for (index, row) in rows.iter().enumerate() {
+            let before = rows.get(index.saturating_sub(1)).unwrap_or(row);
+            let after = rows.get(index.saturating_add(1)).unwrap_or(row);
+            write_column(&mut text, scale, one, [before, row, after])?;
+        }
+    }
     text.push_str("</svg>\n")?;
     Ok(text)
 }
 
-/// Writes the line above the title.
-fn write_caption(text: &mut String, caption: &str) -> Result<(), AllocError>
-    ensures { OnOk result (string_bytes text.new ≡ string_bytes text.old ++ caption_line caption.now) }
-{
-    writeln!(text, "<text class='quiet' x='88' y='18'>{caption}</text>")
-}
-
-/// Writes the runs, of which the first is the one on one unit.
-fn write_runs(text: &mut String, rows: &[Row]) -> Result<(), AllocError>
-    ensures { OnOk result (string_bytes text.new ≡ string_bytes text.old ++ runs_text rows.now) }
-{
-    match rows.first() {
-        Some(one) => write_beside(text, one, rows),
-        None => Ok(()),
-    }
-}
-
-/// Writes runs, each beside the one on one unit.
-fn write_beside(text: &mut String, one: &Row, rows: &[Row]) -> Result<(), AllocError>
-    requires { 0 < length rows.now }
-    ensures { OnOk result (string_bytes text.new ≡ string_bytes text.old ++ beside_text one.now rows.now) }
-{
-    let columns = rows.len() as u64;
-    let top = top(one, rows);
-    write_scale(text, top)?;
-    write_rate_line(text, columns, top, rows)?;
-    write_speed_line(text, columns, top, one, rows)?;
-    write_columns(text, columns, top, one, rows)
-}
-
 /// Writes the lines of the upper scale and their numbers.
-fn write_scale(text: &mut String, top: u64) -> Result<(), AllocError>
-    requires { (0 < top) × (top < 2 ^ 50) }
-    ensures { OnOk result (string_bytes text.new ≡ string_bytes text.old ++ scale_text top) }
-{
-    write_label(text, 500, 0)?;
-    write_lines(text, gap(top), step(top))
-}
-
-/// Writes the lines of the upper scale above 0, each with its number; they are so far apart in pixels and in hundredths.
-fn write_lines(text: &mut String, gap: u64, step: u64) -> Result<(), AllocError>
-    requires gap { gap < 2 ^ 60 }
-    requires step { step < 2 ^ 60 }
-    ensures { OnOk result (string_bytes text.new ≡ string_bytes text.old ++ scale_lines gap step) }
-{
-    write_line(text, gap, step)?;
-    write_line(text, 2 * gap, 2 * step)?;
-    write_line(text, 3 * gap, 3 * step)?;
-    write_line(text, 4 * gap, 4 * step)?;
-    write_line(text, 5 * gap, 5 * step)
-}
-
-/// Writes a line of the upper scale, so far above the lowest one, and its number, if it is on the scale.
-fn write_line(text: &mut String, up: u64, hundredths: u64) -> Result<(), AllocError>
-    ensures { OnOk result (string_bytes text.new ≡ string_bytes text.old ++ scale_line up hundredths) }
-{
-    if up > 360 {
-        return Ok(());
+fn write_scale(text: &mut String, scale: Scale) -> Result<(), AllocError> {
+    writeln!(text, "<text class='scale' x='78' y='500'>0.00</text>")?;
+    for line in 1_u64..6 {
+        let up = scale.gap().saturating_mul(line);
+        if up <= 360 {
+            let (y, base) = (496 - up, 500 - up);
+            let number = Hundredths(scale.step.saturating_mul(line));
+            writeln!(text, "<path class='grid' d='M88 {y}H1248'/>")?;
+            writeln!(
+                text,
+                "<text class='scale' x='78' y='{base}'>{number}</text>"
+            )?;
+        }
     }
-    write_level(text, 496 - up)?;
-    write_label(text, 500 - up, hundredths)
+    Ok(())
 }
 
-/// Writes a line across the picture.
-fn write_level(text: &mut String, y: u64) -> Result<(), AllocError>
-    ensures { OnOk result (string_bytes text.new ≡ string_bytes text.old ++ level_text y) }
-{
-    writeln!(text, "<path class='grid' d='M88 {y}H1248'/>")
-}
-
-/// Writes a number of the upper scale.
-fn write_label(text: &mut String, y: u64, hundredths: u64) -> Result<(), AllocError>
-    ensures { OnOk result (string_bytes text.new ≡ string_bytes text.old ++ scale_label y hundredths) }
-{
-    let number = Hundredths(hundredths);
-    writeln!(text, "<text class='scale' x='78' y='{y}'>{number}</text>")
-}
-
-/// Writes the line through the rates.
-fn write_rate_line(
-    text: &mut String,
-    columns: u64,
-    top: u64,
-    rows: &[Row],
-) -> Result<(), AllocError>
-    requires columns { 0 < columns }
-    requires top { 0 < top }
-    ensures { OnOk result (string_bytes text.new ≡ string_bytes text.old ++ rate_line columns top rows.now) }
-{
+/// Writes the line through the rates, and the one through the speed-ups.
+fn write_lines(text: &mut String, scale: Scale, one: &Row, rows: &[Row]) -> Result<(), AllocError> {
     text.push_str("<polyline class='curve' points='")?;
-    write_rate_points(text, columns, top, rows)?;
-    writeln!(text, "'/>")
-}
-
-/// Writes where the rates are.
-fn write_rate_points(
-    text: &mut String,
-    columns: u64,
-    top: u64,
-    rows: &[Row],
-) -> Result<(), AllocError>
-    requires columns { 0 < columns }
-    requires top { 0 < top }
-    ensures { OnOk result (string_bytes text.new ≡ string_bytes text.old ++ flat_map (rate_point columns top) rows.now) }
-{
     for row in rows {
-        write_rate_point(text, columns, top, row)?;
+        let (x, y) = (scale.column(row.units), scale.height(rate(row)));
+        write!(text, "{x},{y} ")?;
     }
-    Ok(())
-}
-
-/// Writes the line through the speed-ups.
-fn write_speed_line(
-    text: &mut String,
-    columns: u64,
-    top: u64,
-    one: &Row,
-    rows: &[Row],
-) -> Result<(), AllocError>
-    requires columns { 0 < columns }
-    requires top { 0 < top }
-    ensures { OnOk result (string_bytes text.new ≡ string_bytes text.old ++ speed_line columns top one.now rows.now) }
-{
-    text.push_str("<polyline class='speed' points='")?;
-    write_speed_points(text, columns, top, one, rows)?;
-    writeln!(text, "'/>")
-}
-
-/// Writes where the speed-ups are.
-fn write_speed_points(
-    text: &mut String,
-    columns: u64,
-    top: u64,
-    one: &Row,
-    rows: &[Row],
-) -> Result<(), AllocError>
-    requires columns { 0 < columns }
-    requires top { 0 < top }
-    ensures { OnOk result (string_bytes text.new ≡ string_bytes text.old ++ flat_map (speed_point columns top one.now) rows.now) }
-{
+    text.push_str("'/>\n<polyline class='speed' points='")?;
     for row in rows {
-        write_speed_point(text, columns, top, one, row)?;
+        if let Some(speed) = speed_up(one, row) {
+            let (x, y) = (scale.column(row.units), scale.height(speed));
+            write!(text, "{x},{y} ")?;
+        }
     }
-    Ok(())
+    text.push_str("'/>\n")
 }
 
-/// Writes the columns.
-fn write_columns(
+/// Writes the column of the middle one of three runs: its title, its bar, its points, and their numbers.
+fn write_column(
     text: &mut String,
-    columns: u64,
-    top: u64,
+    scale: Scale,
     one: &Row,
-    rows: &[Row],
-) -> Result<(), AllocError>
-    requires columns { 0 < columns }
-    requires top { (0 < top) × (top < 2 ^ 50) }
-    ensures { OnOk result (string_bytes text.new ≡ string_bytes text.old ++ columns_text columns top one.now rows.now) }
-{
-    let mut before = *one;
-    for (index, row) in rows.iter().enumerate() {
-        let previous = &before;
-        let after = first_or(&rows[index + 1..], row);
-        write_column(text, columns, top, one, previous, row, &after)?;
-        before = *row;
+    [before, row, after]: [&Row; 3],
+) -> Result<(), AllocError> {
+    write_title(text, scale, one, row)?;
+    let point = scale.height(rate(row));
+    let under = scale.foot_under(point);
+    let (from, high) = (under + 6, bar(row));
+    let top = 630_u64.saturating_sub(high);
+    writeln!(
+        text,
+        "<path class='grid' d='M0 {from}V630'/><rect class='wasted' x='-12' y='{top}' width='24' height='{high}'/>"
+    )?;
+    match row.standing {
+        Standing::Halted => writeln!(text, "<circle class='halted' cx='0' cy='{point}' r='7'/>")?,
+        _ => writeln!(text, "<path class='other' d='M-9 {point}l9-9 9 9-9 9z'/>")?,
     }
-    Ok(())
+    write_speed(text, scale, one, [before, row, after])?;
+    let points = [scale.height(rate(before)), point, scale.height(rate(after))];
+    let side = scale.beside_under(points);
+    write_number(text, side, under, rate(row))?;
+    let share = Hundredths(share(row));
+    writeln!(text, "<text class='value' x='0' y='648'>{share}%</text>")?;
+    let units = row.units;
+    writeln!(
+        text,
+        "<text class='number' x='0' y='672'>{units}</text></g>"
+    )
 }
 
-/// The first of some rows, or another one if there is none.
-fn first_or(rows: &[Row], other: &Row) -> Row
-    ensures { result ≡ first_or_of rows.now other.now }
-{
-    match rows.first() {
-        Some(row) => *row,
-        None => *other,
+/// Writes the beginning of a column, and its title, which shows where a pointer rests on it.
+fn write_title(text: &mut String, scale: Scale, one: &Row, row: &Row) -> Result<(), AllocError> {
+    let (left, units, steps) = (scale.column(row.units), row.units, row.steps);
+    write!(
+        text,
+        "<g transform='translate({left} 0)'><title>units: {units}, steps: {steps}, speed-up: "
+    )?;
+    match speed_up(one, row) {
+        Some(speed) => {
+            let speed = Hundredths(speed);
+            write!(text, "{speed}")?;
+        }
+        None => text.push_str("-")?,
     }
+    let (retired, wasted, end) = (row.retired, row.wasted, end_of(row.standing));
+    writeln!(
+        text,
+        ", instructions retired: {retired}, thrown away: {wasted}, {end}</title>"
+    )
+}
+
+/// Writes the point of the speed-up of the middle one of three runs, if it has one, and the number over it.
+fn write_speed(
+    text: &mut String,
+    scale: Scale,
+    one: &Row,
+    [before, row, after]: [&Row; 3],
+) -> Result<(), AllocError> {
+    let Some(speed) = speed_up(one, row) else {
+        return Ok(());
+    };
+    let from = speed_up(one, before).unwrap_or(speed);
+    let to = speed_up(one, after).unwrap_or(speed);
+    let point = scale.height(speed);
+    writeln!(text, "<path class='faster' d='M-4 {point}v-4h8v8h-8z'/>")?;
+    let side = scale.beside_over([scale.height(from), point, scale.height(to)]);
+    write_number(text, side, scale.foot_over(point), speed)
+}
+
+/// Writes a number on this side of its point, at this foot.
+fn write_number(text: &mut String, side: &str, y: u64, hundredths: u64) -> Result<(), AllocError> {
+    let number = Hundredths(hundredths);
+    writeln!(
+        text,
+        "<text class='value' x='{side}' y='{y}'>{number}</text>"
+    )
 }

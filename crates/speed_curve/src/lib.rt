@@ -1,11 +1,10 @@
 //! How far the marks of a program let its tasks overlap: the results of its runs in steps on 1, 2, 3 units and more,
-//! as a table and as a picture.
+//! as a table and as a picture. The results and their numbers are proved; how they are written is not.
 #![tactic(auto)]
 
-mod columns;
 pub mod drawing;
-mod hundredths;
 pub mod laws;
+pub mod numbers;
 pub mod row;
 mod scale;
 mod sheet;

@@ -1,11 +1,9 @@
 //! The part of the file that every picture has.
 
-ghost use Rattle.std.specs.Prelude.{◌≡◌};
-ghost use Rattle.speed_curve.specs.FixedText.{fixed_text};
-
-/// The root element, its title, the style of all elements, the legend, and the lines of the lower scale. What a
+/// The root element, its title, the style of all elements, the legend, and the lines of the lower scale: all that comes
+/// before the upper scale. What a
 /// colour says, a form or a pattern says too.
-const SHEET: &str =
+pub(crate) const SHEET: &str =
     "<svg xmlns='http://www.w3.org/2000/svg' viewBox='0 0 1280 720' width='1280' height='720' role='img' font-family='system-ui,Segoe UI,Liberation Sans,Arial,sans-serif'>
 <title>Instructions retired in a step, and speed-up, by units</title>
 <style>
@@ -36,11 +34,3 @@ text{fill:#e4e9ee}.quiet,.caption,.scale{fill:#9aa7b4}.ground,.other,.faster{fil
 <text class='caption' transform='rotate(-90)' x='-590' y='26'>thrown away</text>
 <text class='caption' x='668' y='704'>units</text>
 ";
-
-/// All that comes before the upper scale.
-#[tactic(auto, unfolding(crate::specs::FixedText::fixed_text))]
-pub(crate) fn fixed_text() -> &'static str
-    ensures { result.now ≡ fixed_text }
-{
-    SHEET
-}

@@ -3,7 +3,8 @@ use Rattle.std.proofs.Common.{ℕ, zero, suc, ◌+◌, ◌-◌, ◌<◌, ◌≤�
 use Rattle.machine_model.specs.declared.event.Event.{Event}
 use Rattle.machine_model.specs.HeadEvent.{active_after}
 use Rattle.unit_waits.specs.Waits.{ends_step}
-use Rattle.step_picture.specs.Numbers.{count_of, step_at, steps_from, steps_of}
+use Rattle.step_picture.specs.Steps.{count_of, steps_from, steps_of}
+use Rattle.run_picture.specs.Meanings.{column_at}
 
 -- the next step, by whether the event ends this one
 next_by : (b : Bool) (step : ℕ) → cond b (step + 1) step ≤ step + 1
@@ -14,7 +15,7 @@ some_by : (b : Bool) (step : ℕ) → 0 < step → 0 < cond b (step + 1) step
 some_by true step some = omega arith
 some_by false step some = some
 
-in_range : (es : List Event) (active step k : ℕ) → 0 < step → step_at (steps_from active step es) k < step + length es
+in_range : (es : List Event) (active step k : ℕ) → 0 < step → column_at (steps_from active step es) k < step + length es
 in_range [] active step k some = omega (arith, some)
 in_range (e ∷ es) active step zero some = omega arith
 in_range (e ∷ es) active step (suc k) some =

@@ -1,1 +1,2 @@
 pub mod InSteps
+pub mod Joining

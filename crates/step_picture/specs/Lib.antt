@@ -1,9 +1,3 @@
-pub mod Numbers
-pub mod Bars
+pub mod Steps
 pub mod Strips
-pub mod Marks
-pub mod SaidText
-pub mod FixedText
-pub mod PredictorText
-pub mod StepPicture
-pub mod Examples
+pub mod StepCharts

@@ -1,15 +1,11 @@
 //! A run in steps drawn as one SVG file: a lane for each unit, the steps from left to right, a bar for the life of each
-//! task, and strips that show why a unit waits. Long runs are summed by stretches of equal length.
+//! task, and strips that show why a unit waits. Long runs are summed by stretches of equal length. What the shapes stand for
+//! is proved; how they are written is not.
 #![tactic(auto)]
 
-mod bars;
+pub mod chart;
 pub mod drawing;
-mod frame;
-mod heading;
-mod marks;
-mod numbers;
 pub mod predictor_text;
-mod said;
 mod sheet;
-mod strip;
-mod strips;
+pub mod steps;
+pub mod strips;

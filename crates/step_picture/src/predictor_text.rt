@@ -1,56 +1,25 @@
 //! What the picture calls a predictor.
 
-ghost use Rattle.std.specs.Prelude.{◌≡◌, ◌++◌, OnOk};
-ghost use Rattle.std.specs.String.{string_bytes};
-ghost use Rattle.step_picture.specs.PredictorText.{list_text, numbers_text, others_text, predictor_text};
-
 use jobs::job::Prediction;
 use std::alloc::AllocError;
 
 /// How many numbers of a list are named.
 const MOST_NAMED: usize = 24;
 
-/// Writes what a predictor is called. An error means that memory was refused.
-pub fn write_predictor(text: &mut String, predict: &Prediction) -> Result<(), AllocError>
-    ensures { OnOk result (string_bytes text.new ≡ string_bytes text.old ++ predictor_text predict.now) }
-{
-    match predict {
-        Prediction::First => text.push_str("first"),
-        Prediction::Last => text.push_str("last"),
-        Prediction::List(list) => write_list(text, list.as_slice()),
+/// Writes what a predictor is called; of a long list, the first numbers. An error means that memory was refused.
+pub fn write_predictor(text: &mut String, predict: &Prediction) -> Result<(), AllocError> {
+    let numbers = match predict {
+        Prediction::First => return text.push_str("first"),
+        Prediction::Last => return text.push_str("last"),
+        Prediction::List(list) => list.as_slice(),
+    };
+    let shown = &numbers[..numbers.len().min(MOST_NAMED)];
+    for (index, number) in shown.iter().enumerate() {
+        let comma = if index == 0 { "" } else { "," };
+        write!(text, "{comma}{number}")?;
     }
-}
-
-/// Writes a list of numbers; of a long one, the first numbers.
-fn write_list(text: &mut String, numbers: &[u32]) -> Result<(), AllocError>
-    ensures { OnOk result (string_bytes text.new ≡ string_bytes text.old ++ list_text numbers.now) }
-{
-    if numbers.len() <= MOST_NAMED {
-        return write_numbers(text, numbers);
-    }
-    write_numbers(text, &numbers[..MOST_NAMED])?;
-    text.push_str(",&#8230;")
-}
-
-/// Writes numbers, with commas between them.
-fn write_numbers(text: &mut String, numbers: &[u32]) -> Result<(), AllocError>
-    ensures { OnOk result (string_bytes text.new ≡ string_bytes text.old ++ numbers_text numbers.now) }
-{
-    match numbers {
-        [] => Ok(()),
-        [first, rest @ ..] => {
-            write!(text, "{first}")?;
-            write_others(text, rest)
-        }
-    }
-}
-
-/// Writes numbers, with a comma before each.
-fn write_others(text: &mut String, numbers: &[u32]) -> Result<(), AllocError>
-    ensures { OnOk result (string_bytes text.new ≡ string_bytes text.old ++ others_text numbers.now) }
-{
-    for number in numbers {
-        write!(text, ",{number}")?;
+    if numbers.len() > MOST_NAMED {
+        text.push_str(",&#8230;")?;
     }
     Ok(())
 }

@@ -1,10 +1,7 @@
-//! The parts of the file that every picture has.
+//! The parts of the file that every picture of steps has.
 
-ghost use Rattle.std.specs.Prelude.{◌≡◌};
-ghost use Rattle.step_picture.specs.FixedText.{marks_legend, no_marks_legend, single_legend, style_sheet, summed_legend};
-
-/// The style of all shapes, light or dark. What a colour shows, a pattern or a border shows too.
-const SHEET: &str = "<style>
+/// The style of all shapes, light or dark, patterns, the ground, and the legend of the bars of lives that ended. What a colour shows, a pattern or a border shows too.
+pub(crate) const SHEET: &str = "<style>
 text{fill:#1f2933;font-size:14px;pointer-events:none}line{pointer-events:none}
 .title{font-size:24px;font-weight:600}.quiet,.caption,.number{fill:#52606d}.number{font-size:12px}.unit{text-anchor:end}.caption,.number{text-anchor:middle}
 .task{font-size:13px;font-weight:600;paint-order:stroke;stroke:#fff;stroke-width:3px;stroke-linejoin:round}
@@ -36,7 +33,7 @@ text{fill:#e4e9ee}.quiet,.caption,.number{fill:#9aa7b4}.task{stroke:#1c2229}.pap
 ";
 
 /// What single steps look like.
-const SINGLE_LEGEND: &str =
+pub(crate) const SINGLE_LEGEND: &str =
     "<rect class='unfinished' x='430' y='94' width='28' height='16'/><text x='466' y='107'>unfinished</text>
 <rect class='halted' x='564' y='94' width='28' height='16'/><text x='600' y='107'>halted</text>
 <path class='squash' d='M670 96h14l-7 11z'/><text x='692' y='107'>squash begins</text>
@@ -46,60 +43,20 @@ const SINGLE_LEGEND: &str =
 ";
 
 /// What the marks of the events look like.
-const MARKS_LEGEND: &str =
+pub(crate) const MARKS_LEGEND: &str =
     "<path class='instruction' d='M810 97v10M816 97v10M822 97v10'/><text x='832' y='107'>instruction</text>
 <rect class='retired' x='936' y='94' width='16' height='16'/><path class='transfer' d='M944 97V110'/><text x='960' y='107'>register sent at the exit</text>
 <path class='transfer' d='M802 120V137'/><text x='814' y='133'>register arrives; at unit 0, from the last unit</text>
 ";
 
 /// That more steps than have room for marks have none.
-const NO_MARKS_LEGEND: &str =
+pub(crate) const NO_MARKS_LEGEND: &str =
     "<text class='quiet' x='802' y='133'>over 300 steps, no instructions or registers are drawn</text>
 ";
 
 /// What else is in a picture of stretches.
-const SUMMED_LEGEND: &str =
+pub(crate) const SUMMED_LEGEND: &str =
     "<rect class='unfinished' x='430' y='94' width='28' height='16'/><text x='466' y='107'>unfinished, or halted</text>
 <rect class='idle' x='630' y='94' width='28' height='16'/><text x='666' y='107'>no task</text>
 <text class='quiet' x='88' y='133'>over 2,000 steps, no waits, instructions, registers or squashes are drawn</text>
 ";
-
-/// The style sheet, the patterns, the ground, and the legend of the bars of lives that ended.
-#[tactic(auto, unfolding(crate::specs::FixedText::style_sheet))]
-pub(crate) fn style_sheet() -> &'static str
-    ensures { result.now ≡ style_sheet }
-{
-    SHEET
-}
-
-/// The legend of the other bars, of the mark of a squash, and of the strips.
-#[tactic(auto, unfolding(crate::specs::FixedText::single_legend))]
-pub(crate) fn single_legend() -> &'static str
-    ensures { result.now ≡ single_legend }
-{
-    SINGLE_LEGEND
-}
-
-/// The legend of the marks of the events.
-#[tactic(auto, unfolding(crate::specs::FixedText::marks_legend))]
-pub(crate) fn marks_legend() -> &'static str
-    ensures { result.now ≡ marks_legend }
-{
-    MARKS_LEGEND
-}
-
-/// What the legend says of marks that are not drawn.
-#[tactic(auto, unfolding(crate::specs::FixedText::no_marks_legend))]
-pub(crate) fn no_marks_legend() -> &'static str
-    ensures { result.now ≡ no_marks_legend }
-{
-    NO_MARKS_LEGEND
-}
-
-/// The legend of what else is in a picture of stretches.
-#[tactic(auto, unfolding(crate::specs::FixedText::summed_legend))]
-pub(crate) fn summed_legend() -> &'static str
-    ensures { result.now ≡ summed_legend }
-{
-    SUMMED_LEGEND
-}

@@ -1,216 +1,187 @@
-//! Why units wait, as strips in the lower part of their bars.
+//! Why units wait: the waits of a run, unit by unit, those in steps one after the other together.
 
-ghost use Rattle.std.specs.Prelude.{◌≡◌, ◌++◌, IfOk, OnOk, Some, flat_map};
-ghost use Rattle.std.specs.String.{string_bytes};
-ghost use Rattle.step_picture.specs.Strips.{begun as begun_by, lane_text, lengthens as is_lengthened, next_strip as next_strip_by, owing_unit as owing_unit_of, shade_of as shade_of_reason, shaded_text, shape_of as shape_of_strip, strip_text, strips_from as strips_from_strip, strips_of as strips_of_waits, strips_text, waits_on as waits_on_unit};
+ghost use Rattle.std.specs.Prelude.{◌≡◌, ◌++◌, true, IfOk, IfSome, OnOk, flat_map};
+ghost use Rattle.std.specs.List.{range_with_len};
+ghost use Rattle.step_picture.specs.Strips.{each_step, option_list, wait_on as wait_on_unit, waits_on, why_of as why_of_reason};
 
-use crate::said::write_waited;
-use crate::strip::Strip;
-use run_picture::scale::{left_edge, top};
-use run_picture::shape::{Geometry, Shape, Style};
-use run_picture::shape_text::{write_beginning, write_end};
+use mips_instructions::number::Reg;
+use run_picture::shape::{Debt, Wait, Why};
 use std::alloc::{AllocError, Global};
-use task_descriptor::descriptor::Descriptor;
-use unit_waits::alike::is_same_reason;
-use unit_waits::waiting::{Reason, Waiting};
+use unit_waits::waiting::{Owed, Reason, Waiting};
 
-/// The strip that a wait begins.
-fn begun(waiting: &Waiting) -> Strip
-    ensures { result ≡ begun_by waiting.now }
-{
-    Strip {
-        first: *waiting,
-        last: waiting.step,
-    }
-}
-
-/// The unit that owes the register of a reason; 0 where there is no such register.
-fn owing_unit(reason: &Reason) -> u32
-    ensures { result ≡ owing_unit_of reason.now }
-{
-    match *reason {
-        Reason::NeedsRegister(_, owed) => owed.unit,
-        Reason::NeedsHead => 0,
-        Reason::HasToPass(_, owed) => owed.unit,
-        Reason::HasFinished => 0,
-        Reason::CouldGoOn => 0,
-    }
-}
-
-/// Whether a wait lengthens a strip: whether it is that of the next step, of the same task and for the same reason, and a
-/// register is owed by the same unit.
-fn lengthens(strip: &Strip, waiting: &Waiting) -> bool
-    ensures { result ≡ is_lengthened strip.now waiting.now }
-{
-    if u64::from(waiting.step) != u64::from(strip.last) + 1 {
-        return false;
-    }
-    if strip.first.task != waiting.task {
-        return false;
-    }
-    if owing_unit(&strip.first.reason) != owing_unit(&waiting.reason) {
-        return false;
-    }
-    is_same_reason(&strip.first.reason, &waiting.reason)
-}
-
-/// The strip up to a wait.
-fn next_strip(strip: &Strip, waiting: &Waiting) -> Strip
-    ensures { result ≡ next_strip_by strip.now waiting.now }
-{
-    if lengthens(strip, waiting) {
-        Strip {
-            first: strip.first,
-            last: waiting.step,
-        }
-    } else {
-        begun(waiting)
-    }
-}
-
-/// The strips of the waits of one unit, some of which have already made a strip.
-fn strips_from(alloc: Global, strip: &Strip, waits: &[Waiting]) -> Result<Vec<Strip>, AllocError>
-    ensures { IfOk result (λ strips. strips.items ≡ strips_from_strip strip.now waits.now) }
+/// The waits of `units` units, of each in the order of its steps. An error means that memory was refused.
+pub fn strips(alloc: Global, units: u32, waits: &[Waiting]) -> Result<Vec<Wait>, AllocError>
+    ensures { IfOk result (λ strips. flat_map each_step strips.items ≡ flat_map (waits_on waits.now) (range_with_len 0 units)) }
 {
     let mut strips = Vec::new(alloc);
-    let mut current = *strip;
-    for waiting in waits {
-        let before = &current;
-        if !lengthens(before, waiting) {
-            strips.push(*before)?;
-        }
-        let next = next_strip(&current, waiting);
-        current = next;
+    for unit in 0..units {
+        push_strips(&mut strips, unit, waits)?;
     }
-    strips.push(current)?;
     Ok(strips)
 }
 
-/// The strips of the waits of one unit.
-fn strips_of(alloc: Global, waits: &[Waiting]) -> Result<Vec<Strip>, AllocError>
-    ensures { IfOk result (λ strips. strips.items ≡ strips_of_waits waits.now) }
+/// Adds the waits of a unit.
+fn push_strips(strips: &mut Vec<Wait>, unit: u32, waits: &[Waiting]) -> Result<(), AllocError>
+    ensures { OnOk result (flat_map each_step strips.new.items ≡ flat_map each_step strips.old.items ++ waits_on waits.now unit) }
 {
-    match waits {
-        [] => Ok(Vec::new(alloc)),
-        [first, rest @ ..] => {
-            let strip = begun(first);
-            strips_from(alloc, &strip, rest)
-        }
-    }
-}
-
-/// The waits of a unit.
-fn waits_on(alloc: Global, unit: u32, waits: &[Waiting]) -> Result<Vec<Waiting>, AllocError>
-    ensures { IfOk result (λ found. found.items ≡ waits_on_unit unit waits.now) }
-{
-    let mut found = Vec::new(alloc);
+    let mut current: Option<Wait> = None;
     for waiting in waits {
-        if waiting.unit == unit {
-            found.push(*waiting)?;
+        let before = current;
+        current = with_next(strips, before, wait_on(unit, waiting))?;
+    }
+    match current {
+        None => Ok(()),
+        Some(last) => {
+            strips.push(last)?;
+            Ok(())
         }
     }
-    Ok(found)
 }
 
-/// How a reason is shaded, if it keeps a unit waiting.
-fn shade_of(reason: &Reason) -> Option<Style>
-    ensures { result ≡ shade_of_reason reason.now }
+/// The wait that goes on: the next one, if there is any, together with the one before it, if they go together. Else the one
+/// before it is added.
+fn with_next(
+    strips: &mut Vec<Wait>,
+    before: Option<Wait>,
+    next: Option<Wait>,
+) -> Result<Option<Wait>, AllocError>
+    ensures { IfOk result (λ current. flat_map each_step strips.new.items ++ flat_map each_step (option_list current)
+        ≡ flat_map each_step strips.old.items ++ (flat_map each_step (option_list before) ++ flat_map each_step (option_list next))) }
 {
-    match *reason {
-        Reason::NeedsRegister(_, _) => Some(Style::WaitForRegister),
-        Reason::NeedsHead => Some(Style::WaitForTurn),
-        Reason::HasToPass(_, _) => Some(Style::WaitToPass),
-        Reason::HasFinished => Some(Style::WaitForTurn),
+    let Some(next) = next else {
+        return Ok(before);
+    };
+    let Some(before) = before else {
+        return Ok(Some(next));
+    };
+    match joined(before, next) {
+        Some(both) => Ok(Some(both)),
+        None => {
+            strips.push(before)?;
+            Ok(Some(next))
+        }
+    }
+}
+
+/// Two waits as one, if the second is of the next step, of the same task of the same unit, and for the same reason.
+fn joined(before: Wait, next: Wait) -> Option<Wait>
+    ensures { IfSome result (λ both. each_step both ≡ each_step before ++ each_step next) }
+{
+    let step = u64::from(before.step) + u64::from(before.count);
+    if u64::from(next.step) != step {
+        return None;
+    }
+    if before.count == u32::MAX {
+        return None;
+    }
+    if is_alike(before, next) {
+        Some(Wait {
+            count: before.count + 1,
+            ..before
+        })
+    } else {
+        None
+    }
+}
+
+/// Whether a wait is of one step, of the same task of the same unit as another one, and for the same reason.
+#[tactic(auto, using(crate::proofs::Joining::same_wait))]
+fn is_alike(before: Wait, next: Wait) -> bool
+    ensures { result ≡ true → record before { step = next.step; count = 1 } ≡ next }
+{
+    if next.count != 1 {
+        return false;
+    }
+    if before.unit != next.unit {
+        return false;
+    }
+    if before.task != next.task {
+        return false;
+    }
+    is_same_why(before.why, next.why)
+}
+
+/// Whether two reasons are the same.
+#[tactic(auto, using(crate::proofs::Joining::same_need, crate::proofs::Joining::same_duty))]
+fn is_same_why(one: Why, other: Why) -> bool
+    ensures { result ≡ true → one ≡ other }
+{
+    match one {
+        Why::NeedsRegister(debt) => match other {
+            Why::NeedsRegister(another) => is_same_debt(debt, another),
+            _ => false,
+        },
+        Why::NeedsHead => matches!(other, Why::NeedsHead),
+        Why::HasToPass(debt) => match other {
+            Why::HasToPass(another) => is_same_debt(debt, another),
+            _ => false,
+        },
+        Why::HasFinished => matches!(other, Why::HasFinished),
+    }
+}
+
+/// Whether two registers are the same one, and owed alike.
+#[tactic(auto, using(crate::proofs::Joining::same_debt))]
+fn is_same_debt(one: Debt, other: Debt) -> bool
+    ensures { result ≡ true → one ≡ other }
+{
+    if one.register != other.register {
+        return false;
+    }
+    if one.task != other.task {
+        return false;
+    }
+    if one.unit != other.unit {
+        return false;
+    }
+    if one.is_sent {
+        return other.is_sent;
+    }
+    if other.is_sent {
+        return false;
+    }
+    true
+}
+
+/// What keeps a unit waiting in a step, if this wait is its own and anything does.
+fn wait_on(unit: u32, waiting: &Waiting) -> Option<Wait>
+    ensures value { result ≡ wait_on_unit unit waiting.now }
+    ensures step { flat_map each_step (option_list result) ≡ option_list result }
+{
+    if waiting.unit != unit {
+        return None;
+    }
+    let why = why_of(waiting.reason)?;
+    Some(Wait {
+        unit,
+        task: waiting.task,
+        step: waiting.step,
+        count: 1,
+        why,
+    })
+}
+
+/// Why a unit waits, if a reason keeps it waiting.
+fn why_of(reason: Reason) -> Option<Why>
+    ensures { result ≡ why_of_reason reason }
+{
+    match reason {
+        Reason::NeedsRegister(register, owed) => Some(Why::NeedsRegister(debt(register, owed))),
+        Reason::NeedsHead => Some(Why::NeedsHead),
+        Reason::HasToPass(register, owed) => Some(Why::HasToPass(debt(register, owed))),
+        Reason::HasFinished => Some(Why::HasFinished),
         Reason::CouldGoOn => None,
     }
 }
 
-/// The rectangle of a strip, as wide as its steps.
-fn shape_of(count: u32, strip: &Strip, style: Style) -> Shape
-    ensures { result ≡ shape_of_strip count strip.now style }
+/// Who owes a register.
+fn debt(register: Reg, owed: Owed) -> Debt
+    ensures { result ≡ record { register = register; task = owed.task; unit = owed.unit; is_sent = owed.is_sent } }
 {
-    let left = left_edge(count, u64::from(strip.first.step.saturating_sub(1)));
-    let right = left_edge(count, u64::from(strip.last));
-    let wide = right.saturating_sub(left);
-    let form = Geometry::Rectangle(left, top(strip.first.unit) + 2_400, wide, 1_300);
-    Shape::plain(style, form)
-}
-
-/// Writes a strip, if its reason keeps the unit waiting.
-fn write_strip(
-    text: &mut String,
-    tasks: &[Descriptor],
-    count: u32,
-    strip: &Strip,
-) -> Result<(), AllocError>
-    ensures { OnOk result (string_bytes text.new ≡ string_bytes text.old ++ strip_text tasks.now count strip.now) }
-{
-    match shade_of(&strip.first.reason) {
-        None => Ok(()),
-        Some(style) => write_shaded(text, tasks, count, strip, style),
+    Debt {
+        register: register.get(),
+        task: owed.task,
+        unit: owed.unit,
+        is_sent: owed.is_sent,
     }
-}
-
-/// Writes a strip in this style.
-fn write_shaded(
-    text: &mut String,
-    tasks: &[Descriptor],
-    count: u32,
-    strip: &Strip,
-    style: Style,
-) -> Result<(), AllocError>
-    ensures { OnOk result (string_bytes text.new ≡ string_bytes text.old ++ shaded_text tasks.now count strip.now (Some style)) }
-{
-    let shape = shape_of(count, strip, style);
-    write_beginning(text, shape.style, shape.form)?;
-    write_waited(text, tasks, strip)?;
-    write_end(text, tasks, shape.form)
-}
-
-/// Writes some strips.
-fn write_all(
-    text: &mut String,
-    tasks: &[Descriptor],
-    count: u32,
-    strips: &[Strip],
-) -> Result<(), AllocError>
-    ensures { OnOk result (string_bytes text.new ≡ string_bytes text.old ++ flat_map (strip_text tasks.now count) strips.now) }
-{
-    for strip in strips {
-        write_strip(text, tasks, count, strip)?;
-    }
-    Ok(())
-}
-
-/// Writes the strips of a unit.
-fn write_lane(
-    alloc: Global,
-    text: &mut String,
-    tasks: &[Descriptor],
-    count: u32,
-    waits: &[Waiting],
-    unit: u32,
-) -> Result<(), AllocError>
-    ensures { OnOk result (string_bytes text.new ≡ string_bytes text.old ++ lane_text tasks.now count waits.now unit) }
-{
-    let waits = waits_on(alloc, unit, waits)?;
-    let strips = strips_of(alloc, &waits)?;
-    write_all(text, tasks, count, &strips)
-}
-
-/// Writes the strips of `units` units in a run of `count` steps, lane by lane.
-pub(crate) fn write_strips(
-    alloc: Global,
-    text: &mut String,
-    tasks: &[Descriptor],
-    units: u32,
-    count: u32,
-    waits: &[Waiting],
-) -> Result<(), AllocError>
-    ensures { OnOk result (string_bytes text.new ≡ string_bytes text.old ++ strips_text tasks.now units count waits.now) }
-{
-    for unit in 0..units {
-        write_lane(alloc, text, tasks, count, waits, unit)?;
-    }
-    Ok(())
 }

@@ -1,4 +1,2 @@
-mod ToldFaults
 pub mod Refused
-pub mod NoDot
-pub mod NoEntries
+pub mod Told

@@ -1,13 +1,2 @@
-pub mod Knowledge
-pub mod Mistakes
-pub mod Sections
 pub mod Mending
-pub mod Comments
-pub mod Commas
-pub mod Braces
-pub mod Starts
-pub mod Messages
-pub mod Places
-pub mod Helps
 pub mod Refusals
-pub mod Examples

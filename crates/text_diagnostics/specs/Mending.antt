@@ -1,25 +1,49 @@
--- Which texts mend a line, in place of what is wrong in it.
-use Rattle.std.specs.Prelude.{ℕ, ◌+◌, ◌-◌, ◌^◌, min, Bool, false, not, ◌&&◌, ◌||◌, List, ◌++◌, length, take, drop, filter, map, codes, nat_le, is_none}
+-- What is said of a line that cannot be read: at the token that is to blame, with a text in its place only where that
+-- mends the line.
+use Rattle.std.specs.Prelude.{◌≡◌, ℕ, ◌+◌, ◌-◌, ◌^◌, min, Bool, true, false, not, ◌&&◌, ◌||◌, List, ◌++◌, length, take, drop, codes, nat_le, is_none, Option, Some, None, Result, Ok, Err, IfSome}
+use Rattle.std.specs.List.{All}
 use Rattle.std.specs.Str.{bytes_eq}
+use Rattle.program_tokens.specs.Grammar.{line_tokens}
 use Rattle.program_tokens.specs.declared.span.TokenSpan.{TokenSpan}
+use Rattle.program_tokens.specs.declared.token.Token.{Token}
+use Rattle.program_tokens.specs.declared.token.LineFault.{LineFault as TokenFault}
+use Rattle.program_statements.specs.Statements.{statement_of}
+use Rattle.program_statements.specs.declared.fault.StatementFault.{StatementFault}
 use Rattle.program_statements.specs.declared.statement.Section.{Section}
-use Rattle.operand_forms.specs.Bytes.{bytes_at, span}
-use Rattle.operand_forms.specs.Meant.{operand_span}
-use Rattle.syntax_tree.specs.declared.item.LineFaultKind.{LineFaultKind}
-use Rattle.syntax_tree.specs.declared.item.LineFaultKind.TheVariants as kind
-use Rattle.diagnostics.specs.Quotations.{as_shown}
+use Rattle.program_statements.specs.declared.statement.Statement.{Statement}
+use Rattle.operand_forms.specs.LineFaults.{kind_of_fault, kind_of_tokens, fault_at}
+use Rattle.operand_forms.specs.declared.line_fault.LineFaultKind.{LineFaultKind}
+use Rattle.operand_forms.specs.declared.line_fault.LineFaultKind.TheVariants as kind
+use Rattle.operand_forms.specs.Bytes.{span}
+use Rattle.operand_forms.specs.Meant.{label_tokens, operand_span}
 use Rattle.operand_forms.specs.Rows.{reading_of}
-use Rattle.operand_forms.specs.LinePlaces.{word_in, shape_named}
-use Rattle.operand_forms.specs.Candidates.{candidates}
-use Rattle.text_diagnostics.specs.Sections.{fault_in}
+use Rattle.operand_forms.specs.LinePlaces.{word_in, shape_named, line_place}
+use Rattle.diagnostics.specs.declared.diagnostic.Diagnostic.{Diagnostic}
+use Rattle.diagnostics.specs.declared.diagnostic.Replacement.{Replacement}
+use Rattle.diagnostics.specs.declared.diagnostic.Severity.TheVariants.{Error}
+use Rattle.diagnostics.specs.declared.diagnostic.Source.TheVariants.{Program}
+use Rattle.text_diagnostics.specs.Refusals.{told_as, span_in}
 
--- a line with a text in place of a part
-abbrev pub replaced : (line : List ℕ) → TokenSpan → (text : List ℕ) → List ℕ
-replaced line at text = take (at.column - 1) line ++ (text ++ drop at.len (drop (at.column - 1) line))
+-- What makes a line unreadable in a section, if something does.
+
+abbrev pub fault_of_statement : Result Statement StatementFault → Option LineFaultKind
+fault_of_statement (Ok s) = None
+fault_of_statement (Err f) = Some (kind_of_fault f)
+
+abbrev pub fault_of_tokens : Section → Result (List Token) TokenFault → Option LineFaultKind
+fault_of_tokens here (Ok tokens) = fault_of_statement (statement_of here (drop (label_tokens tokens) tokens))
+fault_of_tokens here (Err f) = Some (kind_of_tokens f)
+
+unfoldable pub fault_in : Section → (line : List ℕ) → Option LineFaultKind
+fault_in here line = fault_of_tokens here (line_tokens line)
 
 -- a line can be read in a section
 abbrev pub reads : Section → (line : List ℕ) → Bool
 reads here line = is_none (fault_in here line)
+
+-- a line with a text in place of a part
+abbrev pub replaced : (line : List ℕ) → TokenSpan → (text : List ℕ) → List ℕ
+replaced line at text = take (at.column - 1) line ++ (text ++ drop at.len (drop (at.column - 1) line))
 
 -- the first token of a line that is no operand stands after a part of it
 unfoldable pub goes_further : TokenSpan → (line : List ℕ) → Bool
@@ -40,14 +64,14 @@ is_righted _ at text line = false
 abbrev pub mends : LineFaultKind → Section → (line : List ℕ) → TokenSpan → (text : List ℕ) → Bool
 mends k here line at text = reads here (replaced line at text) || is_righted k (taken_by at text) text (replaced line at text)
 
--- the texts that do, in place of what is wrong, as they are shown
-unfoldable pub mended : LineFaultKind → Section → (line : List ℕ) → TokenSpan → List (List ℕ)
-mended k here line at = map as_shown (filter (mends k here line at) (candidates k (bytes_at line at)))
+-- a replacement does
+abbrev pub Mends : LineFaultKind → Section → (line : List ℕ) → Replacement → Type 0
+Mends k here line r = mends k here line (span r.span.column r.span.width) r.text ≡ true
 
--- a word may be a label that lacks its colon
-unfoldable pub may_be_label : Section → (line : List ℕ) → TokenSpan → Bool
-may_be_label here line at = reads here (replaced line at (bytes_at line at ++ codes ":"))
-
--- a line lacks a ) alone
-unfoldable pub is_unclosed : Section → (line : List ℕ) → TokenSpan → Bool
-is_unclosed here line at = reads here (replaced line at (codes ")"))
+-- the error of line n, which cannot be read in this section: at the token that is to blame
+pub record IsLineError (k : LineFaultKind) (n : ℕ) (here : Section) (line : List ℕ) (d : Diagnostic) : Type 0 where
+  pub severity : d.severity ≡ Error
+  pub source : d.source ≡ Program
+  pub code : d.code ≡ (told_as (fault_at n k)).0
+  pub place : d.span ≡ Some (span_in n (line_place k line (reading_of line)))
+  pub mended : IfSome d.help (λ help. All (Mends k here line) help.replacements)

@@ -2,18 +2,21 @@
 //! and what to do.
 #![tactic(auto)]
 
-mod braces;
-mod commas;
+mod advice;
 mod comment;
+mod detail;
 mod faulty_line;
-mod help;
-mod known;
-pub mod laws;
+mod firsts;
+mod given;
+mod item;
+mod item_said;
+mod line_fix;
+mod line_said;
 mod mending;
-mod message;
 mod mistake;
 mod mistakes;
+mod names;
 mod place;
 pub mod refusal;
 mod section;
-mod start;
+mod tree;

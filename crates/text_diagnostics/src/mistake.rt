@@ -1,9 +1,35 @@
 //! What is wrong with an item of a text.
 
+use operand_forms::line_fault::LineFaultKind;
 use program_statements::statement::Section;
-use syntax_tree::item::LineFaultKind;
-use syntax_tree::unknown_names::UsedAs;
-use syntax_tree::whole_faults::Limit;
+
+/// How a name is used.
+#[derive(Clone, Copy, Debug, PartialEq, Eq)]
+pub(crate) enum UsedAs {
+    /// After `.start`: a label of code.
+    Start,
+    /// As the name of a `.task`: a label of code.
+    Task,
+    /// As the target of this number, from 0 on, of a `.task`: a label of code.
+    Target(usize),
+    /// As the last operand of an instruction: a label of code, after `la` any label.
+    Operand,
+}
+
+/// A limit of a program.
+#[derive(Clone, Copy, Debug, PartialEq, Eq)]
+pub(crate) enum Limit {
+    /// 4,096 instructions.
+    Code,
+    /// 65,536 bytes of data.
+    Bytes,
+    /// 65,536 bytes of read-only data.
+    Fixed,
+    /// 1,024 tasks.
+    Tasks,
+    /// 16 targets of a task.
+    Targets,
+}
 
 /// What is wrong with an item of a text.
 #[derive(Clone, Copy, Debug, PartialEq, Eq)]

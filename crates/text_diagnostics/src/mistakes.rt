@@ -1,113 +1,68 @@
 //! What is wrong with each item of a text.
 
-ghost use Rattle.std.specs.Prelude.{◌≡◌, ◌++◌, map as each, find, slice_get, OnOk, IfOk};
-ghost use Rattle.std.specs.Option.{option_copied};
-ghost use Rattle.text_diagnostics.specs.Mistakes.{twice_kind, twice, limit_kind, unknown_kind, unknown_mistake, unknown_mistakes, zero_kind, writes, is_branch, is_halt, releases_zero, is_stop, is_one_sided, unfit, unfit_kind, entry_of, first_at, beside, entry_by, bad_entry, code_before, label_index, is_first, start_index, start_by, start_kind, alone, with_other, name_mistakes, fit_mistakes, item_mistakes, mistakes};
-
-use crate::known::Known;
-use crate::mistake::{Kind, Mistake};
+use crate::advice::Made;
+use crate::given::{Amounts, Given, MOST_TASKS, TaskEntry};
+use crate::item::{Item, Said};
+use crate::mistake::{Kind, Limit, Mistake, UsedAs};
 use crate::section::{line_kind, meant_after};
 use mips_instructions::instruction::Op;
 use operand_forms::rows::line_at;
-use program_statements::statement::{Instruction, Marks, Statement};
-use std::alloc::{AllocError, Global};
-use syntax_tree::item::{Item, Said};
-use syntax_tree::repeats::repeated;
-use syntax_tree::unknown_names::{UnknownName, UsedAs, is_code_label, unknown_names};
-use syntax_tree::whole_faults::{TaskEntry, creates_zero, limit_passed};
+use program_statements::statement::{Instruction, Marks, Section, Statement, Target, Task};
 use task_descriptor::descriptor::Stop;
 use task_descriptor::marks::has_member;
+use task_descriptor::name::Name;
 
-/// What stands a second time.
-fn twice_kind(said: &Said) -> Kind
-    ensures { result ≡ twice_kind said.now }
-{
-    match said {
-        Said::Label(_) => Kind::LabelTwice,
-        Said::Statement(Statement::Task(_)) => Kind::TaskTwice,
-        _ => Kind::StartTwice,
+/// The most instructions of a program.
+const MOST_CODE: u64 = 4_096;
+
+/// The most bytes of `.data`, and of `.rodata`.
+const MOST_BYTES: u64 = 65_536;
+
+/// The most targets of a task.
+const MOST_TARGETS: usize = 16;
+
+/// What stands a second time, and the first item that defines it.
+fn twice(given: &Given<'_>, number: usize, said: &Said) -> Option<(Kind, usize)> {
+    let known = given.known;
+    let (kind, first) = match said {
+        Said::Label(name) => (Kind::LabelTwice, known.labels.get(name)),
+        Said::Statement(Statement::Task(task)) => (Kind::TaskTwice, known.tasks.get(&task.name)),
+        Said::Statement(Statement::Start(_)) => (Kind::StartTwice, known.start),
+        _ => return None,
+    };
+    match first {
+        Some(first) if first != number => Some((kind, first)),
+        _ => None,
     }
 }
 
-/// What stands a second time, with the first item that defines it.
-fn twice(known: &Known, number: usize, said: &Said) -> Option<(Kind, usize)>
-    ensures { result ≡ twice known.now number said.now }
-{
-    let first = repeated(&known.defined, number, said)?;
-    Some((twice_kind(said), first))
-}
-
-/// Which limit it passes.
-fn limit_kind(known: &Known, number: usize, item: &Item) -> Option<Kind>
-    ensures { result ≡ limit_kind known.now number item.now }
-{
-    let before = known.amounts.as_slice().get(number)?;
-    let limit = limit_passed(*before, item.section, &item.said)?;
-    Some(Kind::Passes(limit))
-}
-
-/// How a name is wrong that is not known, by its label of data, if it is one.
-fn unknown_kind(used_as: UsedAs, label: Option<usize>) -> Kind
-    ensures { result ≡ unknown_kind used_as label }
-{
-    match label {
-        Some(_) => Kind::DataLabel(used_as),
-        None => Kind::NoLabel(used_as),
+/// The limit that an item passes, given the amount before it, if it passes one: each limit is passed once, by the first
+/// item beyond it, but each task with too many targets passes theirs.
+fn limit_passed(before: Amounts, item: &Item) -> Option<Limit> {
+    let after = before.with(item);
+    let passes = |most: u64, before: u64, after: u64| before <= most && most < after;
+    if let Said::Statement(Statement::Task(task)) = &item.said {
+        if task.targets.as_slice().len() > MOST_TARGETS {
+            return Some(Limit::Targets);
+        }
     }
-}
-
-/// Adds names that are not known.
-fn add_names(
-    found: &mut Vec<Mistake>,
-    known: &Known,
-    names: &[UnknownName],
-) -> Result<(), AllocError>
-    ensures { OnOk result (found.new.items ≡ found.old.items ++ each (unknown_mistake known.now) names.now) }
-{
-    for name in names {
-        let label = known.defined.labels.get(&name.name);
-        found.push(Mistake {
-            item: name.item,
-            kind: unknown_kind(name.used_as, label),
-            other: label,
-        })?;
+    if passes(MOST_CODE, before.code, after.code) {
+        return Some(Limit::Code);
     }
-    Ok(())
-}
-
-/// Adds the names of an item that are not known.
-fn add_unknown(
-    alloc: Global,
-    found: &mut Vec<Mistake>,
-    items: &[Item],
-    known: &Known,
-    number: usize,
-    said: &Said,
-) -> Result<(), AllocError>
-    ensures { OnOk result (found.new.items ≡ found.old.items ++ unknown_mistakes items.now known.now number said.now) }
-{
-    if known.is_read {
-        let names = unknown_names(alloc, items, &known.defined.labels, number, said)?;
-        add_names(found, known, &names)?;
+    if passes(MOST_BYTES, before.bytes, after.bytes) {
+        return Some(Limit::Bytes);
     }
-    Ok(())
-}
-
-/// Whether its create mask has `$0`.
-fn zero_kind(said: &Said) -> Option<Kind>
-    ensures { result ≡ zero_kind said.now }
-{
-    if creates_zero(said) {
-        Some(Kind::CreatesZero)
-    } else {
-        None
+    if passes(MOST_BYTES, before.fixed, after.fixed) {
+        return Some(Limit::Fixed);
     }
+    if passes(MOST_TASKS as u64, before.tasks, after.tasks) {
+        return Some(Limit::Tasks);
+    }
+    None
 }
 
 /// Whether an instruction of a text writes a register.
-fn writes(instruction: &Instruction) -> bool
-    ensures { result ≡ writes instruction.now }
-{
+fn writes(instruction: &Instruction) -> bool {
     match instruction {
         Instruction::One(op) | Instruction::Two(_, op) => has_member(op.dests()),
         Instruction::JumpLink(_) => true,
@@ -116,165 +71,70 @@ fn writes(instruction: &Instruction) -> bool
     }
 }
 
-/// Whether it is a conditional branch.
-fn is_branch(instruction: &Instruction) -> bool
-    ensures { result ≡ is_branch instruction.now }
-{
-    matches!(
+/// Why marks do not fit an instruction, if they do not.
+fn unfit(instruction: &Instruction, marks: Marks) -> Option<Kind> {
+    let is_branch = matches!(
         instruction,
         Instruction::BranchTwo(..) | Instruction::BranchOne(..)
-    )
-}
-
-/// Whether it ends the program.
-fn is_halt(instruction: &Instruction) -> bool
-    ensures { result ≡ is_halt instruction.now }
-{
-    matches!(instruction, Instruction::One(Op::Halt))
-}
-
-/// Whether it releases `$0`.
-fn releases_zero(instruction: &Instruction) -> bool
-    ensures { result ≡ releases_zero instruction.now }
-{
-    match instruction {
-        Instruction::One(Op::Release(set)) => set.bits() % 2 == 1,
-        _ => false,
-    }
-}
-
-/// Whether it is a stop.
-fn is_stop(stop: Stop) -> bool
-    ensures { result ≡ is_stop stop }
-{
-    !matches!(stop, Stop::None)
-}
-
-/// Whether it is a stop on one side of a branch.
-fn is_one_sided(stop: Stop) -> bool
-    ensures { result ≡ is_one_sided stop }
-{
-    matches!(stop, Stop::Taken | Stop::NotTaken)
-}
-
-/// Why marks do not fit an instruction, if they do not.
-fn unfit(instruction: &Instruction, marks: Marks) -> Option<Kind>
-    ensures { result ≡ unfit instruction.now marks }
-{
+    );
+    let is_halt = matches!(instruction, Instruction::One(Op::Halt));
     if marks.forward && !writes(instruction) {
         return Some(Kind::UnfitForward);
     }
-    if is_stop(marks.stop) && is_halt(instruction) {
+    if is_halt && !matches!(marks.stop, Stop::None) {
         return Some(Kind::StopOnHalt);
     }
-    if is_one_sided(marks.stop) && !is_branch(instruction) {
+    if !is_branch && matches!(marks.stop, Stop::Taken | Stop::NotTaken) {
         return Some(Kind::OneSidedStop);
     }
-    if releases_zero(instruction) {
-        return Some(Kind::ReleasesZero);
-    }
-    None
-}
-
-/// Why its marks do not fit.
-fn unfit_kind(said: &Said) -> Option<Kind>
-    ensures { result ≡ unfit_kind said.now }
-{
-    match said {
-        Said::Statement(Statement::Code(instruction, marks)) => unfit(instruction, *marks),
+    match instruction {
+        Instruction::One(Op::Release(set)) if set.bits() % 2 == 1 => Some(Kind::ReleasesZero),
         _ => None,
     }
 }
 
-/// Where the task of an item begins.
-fn entry_of(entries: &[TaskEntry], number: usize) -> Option<&TaskEntry>
-    ensures { option_copied result ≡ entry_of entries.now number }
-{
-    entries.iter().find(|entry| entry.task == number)
-}
-
 /// The first task that begins at an instruction.
-fn first_at(entries: &[TaskEntry], index: u64) -> Option<&TaskEntry>
-    ensures { option_copied result ≡ first_at entries.now index }
-{
+fn first_at<'a>(given: &Given<'a>, index: u64) -> Option<&'a TaskEntry> {
+    let entries = given.known.entries.as_slice();
     entries.iter().find(|entry| entry.entry == index)
 }
 
-/// Whether another task begins there.
-fn beside(number: usize, first: Option<&TaskEntry>) -> Option<(Kind, usize)>
-    ensures { result ≡ beside number (option_copied first.entry) }
-{
-    match first {
+/// How the task of an item begins where it should not, and the item that shows it.
+fn bad_entry(given: &Given<'_>, number: usize, said: &Said) -> Option<(Kind, usize)> {
+    let is_task = matches!(said, Said::Statement(Statement::Task(_)));
+    if !is_task || !given.known.is_read {
+        return None;
+    }
+    if twice(given, number, said).is_some() {
+        return None;
+    }
+    let entries = given.known.entries.as_slice();
+    let own = entries.iter().find(|entry| entry.task == number)?;
+    if own.entry >= given.known.all.code {
+        return Some((Kind::NoInstruction, own.label));
+    }
+    match first_at(given, own.entry) {
         Some(first) if first.task != number => Some((Kind::SameEntry, first.task)),
         _ => None,
     }
 }
 
-/// How a task begins where it should not.
-fn entry_by(known: &Known, number: usize, own: Option<&TaskEntry>) -> Option<(Kind, usize)>
-    ensures { result ≡ entry_by known.now number (option_copied own.entry) }
-{
-    let own = own?;
-    if own.entry >= known.code as u64 {
-        return Some((Kind::NoInstruction, own.label));
-    }
-    beside(number, first_at(known.entries.as_slice(), own.entry))
-}
-
-/// How the task of an item begins where it should not. In a text without tasks no name is looked up.
-#[tactic(auto, using(crate::proofs::NoEntries::no_entries))]
-fn bad_entry(known: &Known, number: usize, said: &Said) -> Option<(Kind, usize)>
-    ensures { result ≡ bad_entry known.now number said.now }
-{
-    if known.entries.as_slice().is_empty() {
-        return None;
-    }
-    if !known.is_read || repeated(&known.defined, number, said).is_some() {
-        return None;
-    }
-    entry_by(known, number, entry_of(known.entries.as_slice(), number))
-}
-
 /// How many instructions stand before an item.
-fn code_before(known: &Known, number: usize) -> Option<u64>
-    ensures { result ≡ code_before known.now number }
-{
-    let before = known.amounts.as_slice().get(number)?;
+fn code_before(given: &Given<'_>, number: usize) -> Option<u64> {
+    let before = given.known.amounts.get(number)?;
     Some(before.code)
 }
 
-/// The index of the instruction after a label.
-fn label_index(known: &Known, label: Option<usize>) -> Option<u64>
-    ensures { result ≡ label_index known.now label }
-{
-    code_before(known, label?)
-}
-
-/// Whether a program without a `.start` starts with what stands here.
-fn is_first(known: &Known, before: Option<u64>) -> bool
-    ensures { result ≡ is_first known.now before }
-{
-    match before {
-        Some(before) => before == 0 && known.defined.start.is_none(),
-        None => false,
-    }
-}
-
-/// The index of the instruction where the program starts, if an item says it.
-fn start_index(items: &[Item], known: &Known, number: usize, said: &Said) -> Option<u64>
-    ensures { result ≡ start_index items.now known.now number said.now }
-{
-    let labels = &known.defined.labels;
+/// The index of the instruction where the program starts, if an item says it: a `.start`, or without one the first
+/// instruction.
+fn start_index(given: &Given<'_>, number: usize, said: &Said) -> Option<u64> {
     match said {
         Said::Statement(Statement::Start(name)) => {
-            if is_code_label(items, labels, name) {
-                label_index(known, labels.get(name))
-            } else {
-                None
-            }
+            code_before(given, given.known.code_label(given.items, name)?)
         }
         Said::Statement(Statement::Code(_, _)) => {
-            if is_first(known, code_before(known, number)) {
+            let before = code_before(given, number)?;
+            if before == 0 && given.known.start.is_none() {
                 Some(0)
             } else {
                 None
@@ -284,127 +144,138 @@ fn start_index(items: &[Item], known: &Known, number: usize, said: &Said) -> Opt
     }
 }
 
-/// Whether no task begins at the instruction where the program starts.
-fn start_by(known: &Known, index: Option<u64>) -> Option<Kind>
-    ensures { result ≡ start_by known.now index }
-{
-    match first_at(known.entries.as_slice(), index?) {
-        Some(_) => None,
-        None => Some(Kind::NoTaskThere),
+/// Whether an item says that the program starts where no task begins.
+fn is_bad_start(given: &Given<'_>, number: usize, said: &Said) -> bool {
+    let known = given.known;
+    if !known.is_read || !known.has_task || !known.is_placed {
+        return false;
+    }
+    match start_index(given, number, said) {
+        Some(index) => first_at(given, index).is_none(),
+        None => false,
     }
 }
 
-/// Whether no task begins where an item says that the program starts.
-fn start_kind(items: &[Item], known: &Known, number: usize, said: &Said) -> Option<Kind>
-    ensures { result ≡ start_kind items.now known.now number said.now }
-{
-    if known.is_read && known.has_task && known.is_placed {
-        start_by(known, start_index(items, known, number, said))
-    } else {
-        None
+/// What was found so far.
+#[derive(Drop)]
+struct Found {
+    list: Vec<Mistake>,
+}
+
+impl Found {
+    /// Adds what is wrong with an item, and another item that shows it.
+    fn add(&mut self, item: usize, kind: Kind, other: Option<usize>) -> Made<()> {
+        self.list.push(Mistake { item, kind, other })?;
+        Ok(())
+    }
+
+    /// Adds a name, unless it is a label of code, or any label where each will do.
+    fn add_unless(
+        &mut self,
+        given: &Given<'_>,
+        number: usize,
+        name: &Name,
+        used_as: UsedAs,
+        is_any: bool,
+    ) -> Made<()> {
+        let label = given.known.labels.get(name);
+        let is_code = given.known.code_label(given.items, name).is_some();
+        match label {
+            Some(_) if is_any || is_code => Ok(()),
+            Some(_) => self.add(number, Kind::DataLabel(used_as), label),
+            None => self.add(number, Kind::NoLabel(used_as), None),
+        }
+    }
+
+    /// Adds the names of a task that are no labels of code: its own, and those of its targets.
+    fn add_task(&mut self, given: &Given<'_>, number: usize, task: &Task) -> Made<()> {
+        self.add_unless(given, number, &task.name, UsedAs::Task, false)?;
+        for (index, target) in task.targets.as_slice().iter().enumerate() {
+            if let Target::Label(name) = target {
+                self.add_unless(given, number, name, UsedAs::Target(index), false)?;
+            }
+        }
+        Ok(())
+    }
+
+    /// Adds the names that an item uses and that are no labels of the wanted kind.
+    fn add_unknown(&mut self, given: &Given<'_>, number: usize, said: &Said) -> Made<()> {
+        let Said::Statement(statement) = said else {
+            return Ok(());
+        };
+        match statement {
+            Statement::Start(name) => self.add_unless(given, number, name, UsedAs::Start, false),
+            Statement::Task(task) => self.add_task(given, number, task),
+            Statement::Code(instruction, _) => match instruction {
+                Instruction::BranchTwo(_, _, _, Target::Label(name))
+                | Instruction::BranchOne(_, _, Target::Label(name))
+                | Instruction::Jump(Target::Label(name))
+                | Instruction::JumpLink(Target::Label(name)) => {
+                    self.add_unless(given, number, name, UsedAs::Operand, false)
+                }
+                Instruction::LoadAddress(_, name) => {
+                    self.add_unless(given, number, name, UsedAs::Operand, true)
+                }
+                _ => Ok(()),
+            },
+            _ => Ok(()),
+        }
+    }
+
+    /// Adds what is wrong with the names of an item, or with its size.
+    fn add_names(&mut self, given: &Given<'_>, number: usize, item: &Item) -> Made<()> {
+        let known = given.known;
+        if let Some((kind, first)) = twice(given, number, &item.said) {
+            self.add(number, kind, Some(first))?;
+        }
+        if let Some(before) = known.amounts.get(number) {
+            if let Some(limit) = limit_passed(*before, item) {
+                self.add(number, Kind::Passes(limit), None)?;
+            }
+        }
+        if known.is_read {
+            self.add_unknown(given, number, &item.said)?;
+        }
+        Ok(())
+    }
+
+    /// Adds what does not fit in an item, or where it begins.
+    fn add_unfit(&mut self, given: &Given<'_>, number: usize, said: &Said) -> Made<()> {
+        let kind = match said {
+            Said::Statement(Statement::Task(task)) if task.create.bits() % 2 == 1 => {
+                Some(Kind::CreatesZero)
+            }
+            Said::Statement(Statement::Code(instruction, marks)) => unfit(instruction, *marks),
+            _ => None,
+        };
+        if let Some(kind) = kind {
+            self.add(number, kind, None)?;
+        }
+        if let Some((kind, other)) = bad_entry(given, number, said) {
+            self.add(number, kind, Some(other))?;
+        }
+        if is_bad_start(given, number, said) {
+            self.add(number, Kind::NoTaskThere, None)?;
+        }
+        Ok(())
     }
 }
 
-/// Adds what is wrong with an item by itself, if something is.
-fn add_alone(found: &mut Vec<Mistake>, item: usize, kind: Option<Kind>) -> Result<(), AllocError>
-    ensures { OnOk result (found.new.items ≡ found.old.items ++ alone item kind) }
-{
-    if let Some(kind) = kind {
-        found.push(Mistake {
-            item,
-            kind,
-            other: None,
-        })?;
-    }
-    Ok(())
-}
-
-/// Adds what is wrong with an item beside another, if something is.
-fn add_with_other(
-    found: &mut Vec<Mistake>,
-    item: usize,
-    beside: Option<(Kind, usize)>,
-) -> Result<(), AllocError>
-    ensures { OnOk result (found.new.items ≡ found.old.items ++ with_other item beside) }
-{
-    if let Some((kind, other)) = beside {
-        found.push(Mistake {
-            item,
-            kind,
-            other: Some(other),
-        })?;
-    }
-    Ok(())
-}
-
-/// Adds what is wrong with the names of an item, or with its size.
-fn add_name_mistakes(
-    alloc: Global,
-    found: &mut Vec<Mistake>,
-    items: &[Item],
-    known: &Known,
-    number: usize,
-    item: &Item,
-    line: Option<Kind>,
-) -> Result<(), AllocError>
-    ensures { OnOk result (found.new.items ≡ found.old.items ++ name_mistakes items.now known.now number item.now line) }
-{
-    add_alone(found, number, line)?;
-    add_with_other(found, number, twice(known, number, &item.said))?;
-    add_alone(found, number, limit_kind(known, number, item))?;
-    add_unknown(alloc, found, items, known, number, &item.said)
-}
-
-/// Adds what does not fit in an item, or where it begins.
-fn add_fit_mistakes(
-    found: &mut Vec<Mistake>,
-    items: &[Item],
-    known: &Known,
-    number: usize,
-    said: &Said,
-) -> Result<(), AllocError>
-    ensures { OnOk result (found.new.items ≡ found.old.items ++ fit_mistakes items.now known.now number said.now) }
-{
-    add_alone(found, number, zero_kind(said))?;
-    add_alone(found, number, unfit_kind(said))?;
-    add_with_other(found, number, bad_entry(known, number, said))?;
-    add_alone(found, number, start_kind(items, known, number, said))
-}
-
-/// Adds what is wrong with an item.
-#[tactic(auto, unfolding(crate::specs::Mistakes::item_mistakes))]
-fn add_item_mistakes(
-    alloc: Global,
-    found: &mut Vec<Mistake>,
-    items: &[Item],
-    known: &Known,
-    number: usize,
-    item: &Item,
-    line: Option<Kind>,
-) -> Result<(), AllocError>
-    ensures { OnOk result (found.new.items ≡ found.old.items ++ item_mistakes items.now known.now number item.now line) }
-{
-    add_name_mistakes(alloc, found, items, known, number, item, line)?;
-    add_fit_mistakes(found, items, known, number, &item.said)
-}
-
-/// What is wrong with each item of a text of these lines, in the order of the items.
-#[tactic(auto, unfolding(crate::specs::Mistakes::mistakes))]
-pub(crate) fn mistakes(
-    alloc: Global,
-    rows: &[&[u8]],
-    items: &[Item],
-    known: &Known,
-) -> Result<Vec<Mistake>, AllocError>
-    ensures { IfOk result (λ found. found.items ≡ mistakes (each (λ row. row.now) rows.now) items.now known.now) }
-{
-    let mut found = Vec::new(alloc);
+/// What is wrong with each item of a text, in the order of the items.
+pub(crate) fn mistakes(given: &Given<'_>) -> Made<Vec<Mistake>> {
+    let list = Vec::new(given.alloc);
+    let mut found = Found { list };
     let mut meant = None;
-    for (number, item) in items.iter().enumerate() {
-        let line = line_at(rows, item.line);
-        let wrong = line_kind(alloc, meant, line, item)?;
-        meant = meant_after(alloc, meant, line, wrong, item)?;
-        add_item_mistakes(alloc, &mut found, items, known, number, item, wrong)?;
+    for (number, item) in given.items.iter().enumerate() {
+        let line = line_at(given.rows, item.line);
+        let wrong = line_kind(given.alloc, meant, line, item)?;
+        meant = meant_after(given.alloc, meant, line, wrong, item)?;
+        if let Some(kind) = wrong {
+            found.add(number, kind, None)?;
+        }
+        found.add_names(given, number, item)?;
+        found.add_unfit(given, number, &item.said)?;
     }
-    Ok(found)
+    let Found { list } = found;
+    Ok(list)
 }

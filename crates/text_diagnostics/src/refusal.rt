@@ -1,107 +1,54 @@
 //! Diagnostics for a text that spells no program.
 
-ghost use Rattle.std.specs.Prelude.{◌≡◌, ◌++◌, ◌∷◌, [], take, map as each, IfOk, IfSome, OnOk};
-ghost use Rattle.std.specs.List.{flat_map, list_any};
-ghost use Rattle.std.specs.Option.{option_copied};
+ghost use Rattle.std.specs.Prelude.{◌≡◌, map as each, true, IfOk, IfSome};
+ghost use Rattle.std.specs.List.{list_any};
 ghost use Rattle.program_tokens.specs.Lines.{lines};
-ghost use Rattle.operand_forms.specs.Rows.{line_at};
-ghost use Rattle.syntax_tree.specs.Details.{detail_of, target_spans};
-ghost use Rattle.syntax_tree.specs.Trees.{tree_of};
-ghost use Rattle.text_diagnostics.specs.Places.{AreSeen};
-ghost use Rattle.text_diagnostics.specs.Refusals.{kind_code, note_text, note_at, item_at, error_of, line_diagnostic, item_diagnostic, diagnostic_by, said_at, said_of, no_task_error, no_task, told_of, told, build_code, told_as, is_on, tells, line_start, plain, with_first, refusal, text_diagnostics};
+ghost use Rattle.text_diagnostics.specs.Mending.{IsLineError};
+ghost use Rattle.text_diagnostics.specs.Refusals.{build_code, told_as, token_in, token_of, is_on, is_at, is_error, is_of_program, tells, IsTold, AreTextErrors};
 
+use crate::advice::{Made, filled};
 use crate::faulty_line::FaultyLine;
-use crate::help::{item_help, line_help};
-use crate::known::{Known, known_in};
-use crate::message::{item_message, line_message};
+use crate::given::{Given, known_in};
+use crate::item::{Item, Said};
+use crate::item_said::item_error;
+use crate::line_said::{line_help, line_message};
 use crate::mistake::{Kind, Mistake};
 use crate::mistakes::mistakes;
-use crate::place::{
-    SeenTargets, Targets, item_span, place_in, see_targets, seen_at, shown_span, span_in,
-};
-use crate::start::{first_start, start_name, task_words};
-use annotated_asm::assembler::assemble;
+use crate::names::start_name;
+use crate::place::{Seen, span_in};
+use crate::tree::items_of;
+use annotated_asm::assembler::{MOST_TEXT, assemble};
 use annotated_asm::fault::AsmFault;
 use diagnostics::code::Code;
-use diagnostics::diagnostic::{Diagnostic, Help, Note, Severity, Source, Span};
+use diagnostics::diagnostic::{Diagnostic, Help, Severity, Source, Span};
 use diagnostics::helps::in_words;
 use diagnostics::listed::Listed;
 use diagnostics::more::add_more;
-use diagnostics::quotation::quoted;
 use diagnostics::words::Words;
-use operand_forms::bytes::bytes_at;
+use operand_forms::line_fault::LineFaultKind;
 use operand_forms::line_place::line_place;
 use operand_forms::rows::{line_at, lines_of, read};
 use operand_forms::slices::first;
-use program_statements::statement::Section;
+use program_statements::statement::{Section, Statement};
 use std::alloc::{AllocError, Global};
-use syntax_tree::item::{Item, LineFaultKind};
-use syntax_tree::reading::syntax_tree;
-use syntax_tree::tree::TreeFault;
 use task_descriptor::program::BuildFault;
 
 /// The most errors that are shown of a text; of the rest only the number is shown.
 pub const MOST_SHOWN: usize = 1_000;
 
-/// The code of what is wrong with an item that can be read.
-fn kind_code(kind: Kind) -> Code
-    ensures { result ≡ kind_code kind }
-{
-    match kind {
-        Kind::LabelTwice | Kind::TaskTwice | Kind::StartTwice => Code::Duplicate,
-        Kind::NoLabel(_) | Kind::DataLabel(_) => Code::Unknown,
-        Kind::Passes(_) => Code::TooMany,
-        Kind::CreatesZero => Code::BadMask,
-        Kind::NoInstruction => Code::BadEntry,
-        Kind::SameEntry => Code::DuplicateEntry,
-        Kind::NoTaskThere => Code::BadStart,
-        _ => Code::BadMark,
-    }
-}
-
-/// The message of the note on another item that shows it.
-fn note_text(kind: Kind) -> &'static str
-    ensures { result.now ≡ note_text kind }
-{
-    match kind {
-        Kind::DataLabel(_) => "the label is here",
-        Kind::NoInstruction => "its label is here, with no instruction after it",
-        Kind::SameEntry => "this task begins there, too",
-        _ => "it is first defined here",
-    }
-}
-
-/// The note on another item that shows it, if there is one.
-fn note_at(alloc: Global, kind: Kind, item: Option<&Item>) -> Result<Listed<Note>, AllocError>
-    ensures { IfOk result (λ notes. notes ≡ note_at kind (option_copied item.entry)) }
-{
-    let mut notes = Vec::new(alloc);
-    if let Some(item) = item {
-        notes.push(Note {
-            span: Some(shown_span(item.span())),
-            message: Words::of(alloc, note_text(kind))?,
-            path: Listed::new(Vec::new(alloc)),
-        })?;
-    }
-    Ok(Listed::new(notes))
-}
-
-/// The item of a number, if there is one.
-fn item_at(items: &[Item], number: Option<usize>) -> Option<&Item>
-    ensures { option_copied result ≡ item_at items.now number }
-{
-    items.get(number?)
-}
-
-/// An error of a program text.
+/// An error of a program text, without notes.
 fn error_of(
+    alloc: Global,
     code: Code,
     span: Option<Span>,
     message: Words,
-    notes: Listed<Note>,
     help: Option<Help>,
 ) -> Diagnostic
-    ensures { result ≡ error_of code span message notes help }
+    ensures severity { result.severity ≡ Severity.Error }
+    ensures source { result.source ≡ Source.Program }
+    ensures code { result.code ≡ code }
+    ensures span { result.span ≡ span }
+    ensures help { result.help ≡ help }
 {
     Diagnostic {
         severity: Severity::Error,
@@ -109,179 +56,98 @@ fn error_of(
         source: Source::Program,
         span,
         message,
-        notes,
+        notes: Listed::new(Vec::new(alloc)),
         help,
     }
 }
 
-/// The diagnostic for a line that cannot be read.
-#[tactic(auto, unfolding(crate::specs::Refusals::line_diagnostic))]
-fn line_diagnostic(
+/// The error of a line that cannot be read in a section.
+fn line_error(
     alloc: Global,
     kind: LineFaultKind,
     number: u32,
     section: Section,
     line: &[u8],
-) -> Result<Diagnostic, AllocError>
-    ensures { IfOk result (λ said. said ≡ line_diagnostic kind number section line.now) }
+) -> Made<Diagnostic>
+    ensures { IfOk result (IsLineError kind number section line.now) }
 {
     let reading = read(alloc, line)?;
     let place = line_place(alloc, kind, line, &reading)?;
     let wrong = FaultyLine {
+        alloc,
         kind,
         section,
         line,
         reading: &reading,
         place,
     };
-    let message = line_message(alloc, &wrong)?;
-    let help = line_help(alloc, number, &wrong)?;
-    let span = span_in(number, place);
-    let notes = Listed::new(Vec::new(alloc));
+    let message = line_message(&wrong)?;
+    let help = line_help(number, &wrong)?;
     let (code, _) = told_as(kind.on_line(number));
-    Ok(error_of(code, Some(span), message, notes, Some(help)))
+    let span = Some(span_in(number, place));
+    Ok(error_of(alloc, code, span, message, Some(help)))
 }
 
-/// The diagnostic for an item of a line.
-#[tactic(auto, unfolding(crate::specs::Refusals::item_diagnostic))]
-fn item_diagnostic(
-    alloc: Global,
-    items: &[Item],
+/// The error of a mistake of an item.
+fn error_in(
+    given: &Given<'_>,
+    seen: &mut Seen,
     mistake: &Mistake,
     item: &Item,
-    line: &[u8],
-    targets: &Targets,
-) -> Result<Diagnostic, AllocError>
-    requires { IfSome targets.now (λ spans. spans ≡ target_spans (detail_of line.now item.now)) }
-    ensures { IfOk result (λ said. said ≡ item_diagnostic items.now mistake.now item.now line.now) }
-{
-    let kind = mistake.kind;
-    let span = shown_span(item_span(alloc, kind, item, line, targets)?);
-    let name = bytes_at(line, place_in(span));
-    let quotation = quoted(alloc, name)?;
-    let message = item_message(alloc, kind, &quotation)?;
-    let notes = note_at(alloc, kind, item_at(items, mistake.other))?;
-    let help = item_help(alloc, items, item, line, kind, name, span)?;
-    Ok(error_of(kind_code(kind), Some(span), message, notes, Some(help)))
-}
-
-/// The diagnostic for a mistake.
-fn diagnostic_by(
-    alloc: Global,
-    items: &[Item],
-    mistake: &Mistake,
-    item: &Item,
-    line: &[u8],
-    targets: &Targets,
-) -> Result<Diagnostic, AllocError>
-    requires { IfSome targets.now (λ spans. spans ≡ target_spans (detail_of line.now item.now)) }
-    ensures { IfOk result (λ said. said ≡ diagnostic_by mistake.now.kind items.now mistake.now item.now line.now) }
-{
+) -> Made<Diagnostic> {
     match mistake.kind {
-        Kind::Line(kind, section) => line_diagnostic(alloc, kind, item.line, section, line),
-        _ => item_diagnostic(alloc, items, mistake, item, line, targets),
+        Kind::Line(kind, section) => {
+            let line = line_at(given.rows, item.line);
+            line_error(given.alloc, kind, item.line, section, line)
+        }
+        _ => item_error(given, seen, mistake, item),
     }
-}
-
-/// Adds the diagnostic for a mistake of an item, if there is one.
-fn add_said_at(
-    alloc: Global,
-    list: &mut Vec<Diagnostic>,
-    rows: &[&[u8]],
-    items: &[Item],
-    mistake: &Mistake,
-    item: Option<&Item>,
-    targets: &Targets,
-) -> Result<(), AllocError>
-    requires { IfSome targets.now (λ spans. IfSome (option_copied item) (λ there. spans
-        ≡ target_spans (detail_of (line_at (each (λ row. row.now) rows.now) there.line) there))) }
-    ensures { OnOk result (list.new.items
-        ≡ list.old.items ++ said_at (each (λ row. row.now) rows.now) items.now mistake.now (option_copied item.entry)) }
-{
-    if let Some(item) = item {
-        let line = line_at(rows, item.line);
-        list.push(diagnostic_by(alloc, items, mistake, item, line, targets)?)?;
-    }
-    Ok(())
-}
-
-/// Adds the diagnostic for a mistake.
-fn add_said(
-    alloc: Global,
-    list: &mut Vec<Diagnostic>,
-    rows: &[&[u8]],
-    items: &[Item],
-    mistake: &Mistake,
-    seen: &SeenTargets,
-) -> Result<(), AllocError>
-    requires number { seen.now.item ≡ mistake.now.item }
-    requires seen { AreSeen (each (λ row. row.now) rows.now) items.now seen.now }
-    ensures { OnOk result (list.new.items
-        ≡ list.old.items ++ said_of (each (λ row. row.now) rows.now) items.now mistake.now) }
-{
-    let item = items.get(mistake.item);
-    add_said_at(alloc, list, rows, items, mistake, item, &seen.targets)
-}
-
-/// The diagnostics for mistakes.
-fn all_said(
-    alloc: Global,
-    rows: &[&[u8]],
-    items: &[Item],
-    found: &[Mistake],
-) -> Result<Vec<Diagnostic>, AllocError>
-    ensures { IfOk result (λ list. list.items
-        ≡ flat_map (said_of (each (λ row. row.now) rows.now) items.now) found.now) }
-{
-    let mut list = Vec::new(alloc);
-    let mut seen = see_targets(alloc, rows, items, 0)?;
-    for mistake in found {
-        seen = seen_at(alloc, rows, items, seen, mistake.item)?;
-        add_said(alloc, &mut list, rows, items, mistake, &seen)?;
-    }
-    Ok(list)
 }
 
 /// That there is no task.
-fn no_task_error(alloc: Global, items: &[Item]) -> Result<Diagnostic, AllocError>
-    ensures { IfOk result (λ said. said ≡ no_task_error items.now) }
-{
+fn no_task(given: &Given<'_>) -> Made<Diagnostic> {
+    let alloc = given.alloc;
+    let start = given.items.iter().find(|item| matches!(
+        &item.said,
+        Said::Statement(Statement::Start(_))
+    ));
+    let help = match start_name(given, start)? {
+        Some(name) => filled(
+            alloc,
+            "add a line for each task, or for one task .task {name} create=- targets=-; annotate --emit marks then writes its registers",
+            &[("name", name)],
+        )?,
+        None => Words::of(
+            alloc,
+            "add a line for each task, such as .task A create=$8 targets=A,B",
+        )?,
+    };
     let message = Words::of(alloc, "the program has no task")?;
-    let name = start_name(alloc, items, first_start(items))?;
-    let help = task_words(alloc, name)?;
-    let notes = Listed::new(Vec::new(alloc));
     let help = Some(in_words(alloc, help));
-    Ok(error_of(Code::NoTask, None, message, notes, help))
+    Ok(error_of(alloc, Code::NoTask, None, message, help))
 }
 
-/// Adds that there is no task, if there is none.
-fn add_no_task(
-    alloc: Global,
-    list: &mut Vec<Diagnostic>,
-    items: &[Item],
-    known: &Known,
-) -> Result<(), AllocError>
-    ensures { OnOk result (list.new.items ≡ list.old.items ++ no_task items.now known.now) }
-{
-    if known.is_read && !known.has_task {
-        list.push(no_task_error(alloc, items)?)?;
+/// All that is wrong with a text of these lines.
+fn told(alloc: Global, rows: &[&[u8]]) -> Made<Vec<Diagnostic>> {
+    let items = items_of(alloc, rows)?;
+    let known = known_in(alloc, &items)?;
+    let given = Given {
+        alloc,
+        rows,
+        items: &items,
+        known: &known,
+    };
+    let found = mistakes(&given)?;
+    let mut list = Vec::new(alloc);
+    let mut seen = Seen::new(&given);
+    for mistake in first(&found, MOST_SHOWN) {
+        if let Some(item) = items.get(mistake.item) {
+            list.push(error_in(&given, &mut seen, mistake, item)?)?;
+        }
     }
-    Ok(())
-}
-
-/// The diagnostics for what was found in a text.
-#[tactic(auto, unfolding(crate::specs::Refusals::told_of))]
-fn told_of(
-    alloc: Global,
-    rows: &[&[u8]],
-    items: &[Item],
-    known: &Known,
-    found: &[Mistake],
-) -> Result<Vec<Diagnostic>, AllocError>
-    ensures { IfOk result (λ list. list.items ≡ told_of (each (λ row. row.now) rows.now) items.now known.now found.now) }
-{
-    let mut list = all_said(alloc, rows, items, first(found, MOST_SHOWN))?;
-    add_no_task(alloc, &mut list, items, known)?;
+    if known.is_read && !known.has_task {
+        list.push(no_task(&given)?)?;
+    }
     let more = found.len().saturating_sub(MOST_SHOWN);
     add_more(alloc, &mut list, Source::Program, more, "error", "errors")?;
     Ok(list)
@@ -320,6 +186,31 @@ fn told_as(fault: AsmFault) -> (Code, Option<u32>)
     }
 }
 
+/// The token that is to blame for what is wrong with the line of this number.
+fn token_in(alloc: Global, rows: &[&[u8]], number: u32, kind: LineFaultKind) -> Made<Option<Span>>
+    ensures { IfOk result (λ span. span ≡ token_in (each (λ row. row.now) rows.now) number kind) }
+{
+    let line = line_at(rows, number);
+    let reading = read(alloc, line)?;
+    let place = line_place(alloc, kind, line, &reading)?;
+    Ok(Some(span_in(number, place)))
+}
+
+/// The token that is to blame for a fault, if its line cannot be read.
+fn token_of(alloc: Global, rows: &[&[u8]], fault: AsmFault) -> Made<Option<Span>>
+    ensures { IfOk result (λ span. span ≡ token_of (each (λ row. row.now) rows.now) fault) }
+{
+    match fault {
+        AsmFault::NotAscii(line) => token_in(alloc, rows, line, LineFaultKind::NotAscii),
+        AsmFault::Token(line) => token_in(alloc, rows, line, LineFaultKind::Token),
+        AsmFault::Mnemonic(line) => token_in(alloc, rows, line, LineFaultKind::Mnemonic),
+        AsmFault::Operand(line) => token_in(alloc, rows, line, LineFaultKind::Operand),
+        AsmFault::Number(line) => token_in(alloc, rows, line, LineFaultKind::Number),
+        AsmFault::Mark(line) => token_in(alloc, rows, line, LineFaultKind::Mark),
+        _ => Ok(None),
+    }
+}
+
 /// Whether a place is on this line, or no line is asked for.
 fn is_on(line: Option<u32>, span: Option<Span>) -> bool
     ensures { result ≡ is_on line span }
@@ -333,113 +224,133 @@ fn is_on(line: Option<u32>, span: Option<Span>) -> bool
     }
 }
 
-/// Whether a diagnostic reports a fault.
-fn tells(fault: AsmFault, said: &Diagnostic) -> bool
-    ensures { result ≡ tells fault said.now }
+/// Whether a place is this token, or, where none is asked for, on this line.
+fn is_at(token: Option<Span>, line: Option<u32>, span: Option<Span>) -> bool
+    ensures { result ≡ is_at token line span }
+{
+    match token {
+        None => is_on(line, span),
+        Some(token) => match span {
+            Some(span) => {
+                span.line == token.line
+                    && (span.column == token.column && span.width == token.width)
+            }
+            None => false,
+        },
+    }
+}
+
+/// Whether a diagnostic is an error.
+fn is_error(said: &Diagnostic) -> bool
+    ensures { result ≡ is_error said.now.severity }
+{
+    matches!(said.severity, Severity::Error)
+}
+
+/// Whether it is about the program text.
+fn is_of_program(said: &Diagnostic) -> bool
+    ensures { result ≡ is_of_program said.now.source }
+{
+    matches!(said.source, Source::Program)
+}
+
+/// Whether a diagnostic is the error that reports a fault, at its token.
+fn tells(fault: AsmFault, token: Option<Span>, said: &Diagnostic) -> bool
+    ensures { result ≡ tells fault token said.now }
 {
     let (code, line) = told_as(fault);
-    code.id().as_bytes() == said.code.id().as_bytes() && is_on(line, said.span)
+    let is_code = code.id().as_bytes() == said.code.id().as_bytes();
+    (is_error(said) && is_of_program(said)) && (is_code && is_at(token, line, said.span))
 }
 
-/// Whether one of some diagnostics does.
-fn is_told(fault: AsmFault, list: &[Diagnostic]) -> bool
-    ensures { result ≡ list_any (tells fault) list.now }
+/// The place of a fault: its token, or the beginning of its line, if it has one.
+fn place_of(token: Option<Span>, line: Option<u32>) -> Option<Span>
+    ensures { is_at token line result ≡ true }
 {
-    list.iter().any(|said| tells(fault, said))
-}
-
-/// The beginning of a line.
-fn line_start(line: Option<u32>) -> Option<Span>
-    ensures { result ≡ line_start line }
-{
-    match line {
-        Some(line) => Some(Span {
-            line,
-            column: 1,
-            width: 0,
-        }),
-        None => None,
+    match token {
+        Some(token) => Some(token),
+        None => match line {
+            Some(line) => Some(Span {
+                line,
+                column: 1,
+                width: 0,
+            }),
+            None => None,
+        },
     }
 }
 
-/// The diagnostic for a fault by itself.
-fn plain(alloc: Global, fault: AsmFault) -> Result<Diagnostic, AllocError>
-    ensures { IfOk result (λ said. said ≡ plain fault) }
+/// The fault by itself: at its token, or at the beginning of its line.
+#[tactic(auto, using(crate::proofs::Told::told_alone))]
+fn plain(alloc: Global, fault: AsmFault, token: Option<Span>) -> Made<Diagnostic>
+    ensures { IfOk result (λ said. tells fault token said ≡ true) }
 {
-    let notes = Listed::new(Vec::new(alloc));
-    match fault {
+    let (code, line) = told_as(fault);
+    let span = place_of(token, line);
+    let message = match fault {
+        AsmFault::TooLong => "the text is too long",
+        _ => "this is what is refused first",
+    };
+    let help = match fault {
         AsmFault::TooLong => {
-            let message = Words::of(alloc, "the text is too long")?;
-            let help = Words::of(alloc, "a text has at most 4194304 bytes")?;
-            let help = Some(in_words(alloc, help));
-            Ok(error_of(Code::TooLong, None, message, notes, help))
+            let words = Words::of(alloc, "a text has at most 4194304 bytes")?;
+            Some(in_words(alloc, words))
         }
-        _ => {
-            let message = Words::of(alloc, "this is what is refused first")?;
-            let (code, line) = told_as(fault);
-            Ok(error_of(code, line_start(line), message, notes, None))
-        }
-    }
+        _ => None,
+    };
+    let message = Words::of(alloc, message)?;
+    Ok(error_of(alloc, code, span, message, help))
 }
 
-/// All diagnostics for the items of a text.
-#[tactic(auto, unfolding(crate::specs::Refusals::told))]
-fn told(alloc: Global, text: &[u8], items: &[Item]) -> Result<Vec<Diagnostic>, AllocError>
-    requires { items.now ≡ tree_of text.now }
-    ensures { IfOk result (λ list. list.items ≡ told text.now) }
-{
-    let rows = lines_of(alloc, text)?;
-    let known = known_in(alloc, items)?;
-    let found = mistakes(alloc, &rows, items, &known)?;
-    told_of(alloc, &rows, items, &known, &found)
-}
-
-/// The list with a fault, which is put first where the list does not report it.
+/// The list with a fault at its token, which is put first where the list does not report it.
 fn with_first(
     alloc: Global,
     fault: AsmFault,
+    token: Option<Span>,
     mut list: Vec<Diagnostic>,
-) -> Result<Vec<Diagnostic>, AllocError>
-    ensures { IfOk result (λ all. all.items ≡ with_first fault list.items) }
+) -> Made<Vec<Diagnostic>>
+    ensures { IfOk result (λ all. list_any (tells fault token) all.items ≡ true) }
 {
-    if !is_told(fault, &list) {
-        list.insert(0, plain(alloc, fault)?)?;
+    if list.iter().any(|said| tells(fault, token, said)) {
+        return Ok(list);
     }
+    list.insert(0, plain(alloc, fault, token)?)?;
     Ok(list)
 }
 
-/// All diagnostics for a text whose first fault this is: an error for each of at most `MOST_SHOWN` mistakes in the
+/// All that is wrong with a text whose first fault this is: an error for each of at most `MOST_SHOWN` mistakes in the
 /// order of the text, and how many more there are; the first fault is always among them.
 ///
 /// # Errors
 ///
 /// `AllocError` where memory was refused.
-#[tactic(auto, unfolding(crate::specs::Refusals::refusal))]
 pub fn refusal(alloc: Global, text: &[u8], fault: AsmFault) -> Result<Vec<Diagnostic>, AllocError>
-    ensures { IfOk result (λ list. list.items ≡ refusal text.now fault) }
+    ensures { IfOk result (λ list. IsTold text.now fault list.items) }
 {
-    match syntax_tree(alloc, text) {
-        Ok(tree) => {
-            let list = told(alloc, text, tree.items())?;
-            with_first(alloc, fault, list)
-        }
-        Err(TreeFault::TooLong) => {
-            let mut list = Vec::new(alloc);
-            list.push(plain(alloc, fault)?)?;
-            Ok(list)
-        }
-        Err(TreeFault::OutOfMemory) => Err(AllocError),
+    if let AsmFault::TooLong = fault {
+        let list = with_first(alloc, fault, None, Vec::new(alloc))?;
+        return Ok(list);
     }
+    let rows = lines_of(alloc, text)?;
+    let list = if text.len() > MOST_TEXT {
+        Vec::new(alloc)
+    } else {
+        told(alloc, &rows)?
+    };
+    let token = token_of(alloc, &rows, fault)?;
+    let list = with_first(alloc, fault, token, list)?;
+    Ok(list)
 }
 
-/// All that is wrong with a text; nothing exactly where it spells a program (`laws::silent_where_spelled`).
+/// All that is wrong with a text: nothing exactly where it spells a program, and else among it the fault at which the
+/// assembler stops.
 ///
 /// # Errors
 ///
 /// `AllocError` where memory was refused.
-#[tactic(auto, using(crate::proofs::Refused::told))]
+#[tactic(auto, using(crate::proofs::Refused::told, crate::proofs::Told::of_program, crate::proofs::Told::of_refusal))]
 pub fn text_diagnostics(alloc: Global, text: &[u8]) -> Result<Vec<Diagnostic>, AllocError>
-    ensures { IfOk result (λ list. list.items ≡ text_diagnostics text.now) }
+    ensures { IfOk result (λ list. AreTextErrors text.now list.items) }
 {
     match assemble(alloc, text) {
         Ok(_) => Ok(Vec::new(alloc)),

@@ -33,10 +33,6 @@ next_by : (budget : ℕ) (history : List Event) (e : Event) → AreLate budget h
 next_by budget history e a room true is = late_append budget history (e ∷ []) a (is, tt)
 next_by budget history e a room false is = within_append budget history e (room is)
 
--- none has come at the start
-pub none_late : (budget : ℕ) (history : List Event) → history ≡ [] → AreLate budget history
-none_late budget history none = subst (λ (h : List Event). AreLate budget h) (sym none) (rest_late budget [] tt)
-
 -- one event more, which is late if the budget is spent
 pub next_late : (budget : ℕ) (old new : List Event) (e : Event) → new ≡ old ++ e ∷ [] → AreLate budget old → (is_late e ≡ false → length old < budget) → AreLate budget new
 next_late budget old new e more a room = subst (λ (h : List Event). AreLate budget h) (sym more) (next_by budget old e a room (is_late e) refl)

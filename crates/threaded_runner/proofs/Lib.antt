@@ -1,6 +1,5 @@
 pub mod Counting
 pub mod Locked
-pub mod Putting
 pub mod Rounds
 pub mod Sharing
 pub mod Turning
@@ -8,5 +7,4 @@ pub mod Going
 pub mod Late
 pub mod HoldTurning
 pub mod Filling
-pub mod Rousing
 pub mod RoundByRound

@@ -54,16 +54,6 @@ far m head unit is in_ring within after = distance_by m head unit is ∙ from_it
 near : (m : MachineView) (head unit : ℕ) → unit_for m (Exec 0) ≡ head → head < units_of m → unit < head → distance m unit ≡ unit + (units_of m - head)
 near m head unit is in_ring below = distance_by m head unit is ∙ below_it (units_of m) head unit in_ring below
 
--- a share of a run is one of its machine's ring
-
-pub of_ring : (s : Share) (n units workers : ℕ) → n ≡ units → IsShareOf units workers s → IsShareOf n s.workers s
-of_ring s n units workers same h = record {
-  of_units = h.of_units ∙ sym same;
-  of_workers = refl;
-  is_worker = subst (λ (x : ℕ). s.worker < x) (sym h.of_workers) h.is_worker;
-  few = subst (λ (x : ℕ). x ≤ 16) (sym h.of_workers) h.few;
-}
-
 -- a worker for each unit
 
 pub only_unit : (m : MachineView) (s : Share) → IsShareOf (units_of m) s.workers s → s.workers ≡ s.units → (turn_of m s.worker ≡ Wait → ⊥) → IsFirst m s s.worker

@@ -7,7 +7,7 @@ mod execution;
 pub mod laws;
 pub mod read_log;
 pub mod state;
-mod step;
+pub mod step;
 pub mod unit;
 pub mod wait;
 pub mod world;

@@ -54,12 +54,12 @@ pub(crate) struct Operands {
 
 /// The instruction that a unit executes next: its index and address, and its operands.
 #[derive(Clone, Copy)]
-pub(crate) struct Next<'a> {
-    pub(crate) index: u32,
-    pub(crate) pc: u32,
-    pub(crate) marked: &'a Marked,
-    pub(crate) a: u32,
-    pub(crate) b: u32,
+pub struct Next<'a> {
+    pub index: u32,
+    pub pc: u32,
+    pub marked: &'a Marked,
+    pub a: u32,
+    pub b: u32,
 }
 
 impl<'a> Next<'a> {
@@ -101,7 +101,7 @@ pub(crate) fn waits_for_operands(op: &Op) -> bool
 
 /// The registers that an instruction with these destinations sends.
 #[inline]
-pub(crate) fn sends_of(marked: &Marked, dests: RegSet) -> RegSet
+pub fn sends_of(marked: &Marked, dests: RegSet) -> RegSet
     requires { (r : ℕ) → has dests r ≡ dests_of marked.now.op r }
     ensures { (r : ℕ) → has result r ≡ sends marked.now r }
 {
@@ -152,7 +152,7 @@ fn load_by_operation(op: &Op, a: u32, fixed: &[u8]) -> Result<Option<u32>, Wait>
 
 /// Where a unit stands after an instruction.
 #[inline(always)]
-pub(crate) fn spot_after(next: &Next<'_>) -> Spot
+pub fn spot_after(next: &Next<'_>) -> Spot
     requires { next.now.index < 4096 }
     ensures { result ≡ place_after (leaves next.now.marked.now.stop (taken next.now.marked.now.op next.now.a next.now.b)) (edge next.now.marked.now.op next.now.index (taken next.now.marked.now.op next.now.a next.now.b)) (turn next.now.marked.now.op next.now.a next.now.b next.now.pc) }
 {
@@ -285,7 +285,7 @@ pub(crate) fn write(local: &mut RegisterWords, next: &Next<'_>, dests: RegSet, l
 }
 
 /// Writes what an instruction computes or has loaded to each register of a set.
-fn write_each(local: &mut RegisterWords, next: &Next<'_>, dests: RegSet, loaded: Option<u32>)
+pub fn write_each(local: &mut RegisterWords, next: &Next<'_>, dests: RegSet, loaded: Option<u32>)
     requires { (r : ℕ) → has dests r ≡ dests_of next.now.marked.now.op r }
     ensures { pairs local.new ≡ with_own (writes next.now.marked.now.op next.now.a next.now.b next.now.pc loaded) (pairs local.old) }
 {
@@ -300,7 +300,7 @@ fn write_each(local: &mut RegisterWords, next: &Next<'_>, dests: RegSet, loaded:
 
 /// The value of a register: 0 for register 0, else the unit's own write, else what arrived.
 #[inline(always)]
-pub(crate) fn value_of(local: &RegisterWords, port: &Port, register: Reg) -> Option<u32>
+pub fn value_of(local: &RegisterWords, port: &Port, register: Reg) -> Option<u32>
     ensures { result ≡ value_in (pairs local.now) (arrived_of port.now) register }
 {
     if register.get() == 0 {
@@ -314,7 +314,7 @@ pub(crate) fn value_of(local: &RegisterWords, port: &Port, register: Reg) -> Opt
 
 /// Sends each register of a set with its value; one that was sent stays as it was.
 #[inline(never)]
-pub(crate) fn send_each(port: &mut Port, local: &RegisterWords, set: RegSet)
+pub fn send_each(port: &mut Port, local: &RegisterWords, set: RegSet)
     ensures sent { sent_of port.new ≡ sent_with (has set) (value_in (pairs local.now) (arrived_of port.old)) (sent_of port.old) }
     ensures arrived { arrived_of port.new ≡ arrived_of port.old }
 {

@@ -1,41 +1,23 @@
 -- A run on its way: an event is one more in its list, and a turn that ends the run has one.
 use Rattle.std.proofs.Common.{◌≡◌, ℕ, zero, suc, ◌+◌, ◌-◌, ◌<◌, ◌≤◌, inl, inr, Bool, true, false, cond, List, [], ◌∷◌, ◌++◌, length, Option, Some, None, Ok, Err, refl, sym, ap, ◌∙◌, subst, arith, true≢false, length-append}
-use Rattle.std.specs.Prelude.{map, nat_lt, not, is_none, IsSome, IfSome, Result, OnOk}
-use Rattle.std.specs.List.{All, find, last_or}
-use Rattle.std.specs.Option.{option_map}
-use Rattle.std.proofs.lemmas.List.Elements.{All-cons, All-append, All-map, All-head, All-tail}
-use Rattle.std.proofs.lemmas.Bool.{cases_Bool, and_parts, ltb-true, ltb-false}
+use Rattle.std.specs.Prelude.{nat_lt, IsSome, Result, OnOk}
+use Rattle.std.proofs.lemmas.Bool.{cases_Bool, and_parts, ltb-true}
 use Rattle.task_descriptor.specs.Listing.{Listing}
 use Rattle.mark_checker.specs.Places.{Checked}
-use Rattle.machine_model.specs.Machine.{Active, State, opening, creates}
-use Rattle.machine_model.specs.Step.{is_listed, next_begins}
-use Rattle.machine_model.specs.Refusals.{least}
-use Rattle.machine_model.specs.Answer.{after, is_running, refusal}
-use Rattle.machine_model.specs.HeadEvent.{head_event, event_of_head, event_of_queue, task_beginning, drain_or_retire}
-use Rattle.machine_model.specs.Laws.{NextIsAfter}
+use Rattle.machine_model.specs.Machine.{State, opening}
+use Rattle.machine_model.specs.Answer.{is_running}
+use Rattle.machine_model.specs.HeadEvent.{head_event}
 use Rattle.machine_model.specs.declared.event.Event.{Event}
-use Rattle.machine_model.specs.declared.event.Event.TheVariants.{Assign, Exec, Transfer, Drain, Squash, Retire, Fault, Drop}
 use Rattle.machine_model.specs.declared.event.Refused.{Refused}
-use Rattle.machine_model.specs.declared.event.Refused.TheVariants.{OutOfMemory}
-use Rattle.machine_model.specs.declared.event.Spot.{Spot}
-use Rattle.machine_model.specs.declared.event.Spot.TheVariants.{Inside, Stopped}
-use Rattle.processor_steps.specs.Choices.{task_behind}
 use Rattle.machine_model.specs.declared.event.Standing.{Standing}
 use Rattle.machine_model.specs.declared.event.Standing.TheVariants.{Running, Halted, Trapped, Unlisted}
 use Rattle.sequencer.specs.Choices.{choices_of, choice_of}
-use Rattle.sequencer.specs.Machines.{MachineView, Applies, IsAnswered, answer_to, state, units_of}
-use Rattle.unit_turns.specs.FirstAllowed.{registers, first_allowed}
+use Rattle.sequencer.specs.Machines.{MachineView, state}
+use Rattle.unit_turns.specs.FirstAllowed.{first_allowed}
 use Rattle.unit_turns.specs.declared.predictor.Predictor.{Predictor}
 use Rattle.unit_turns.specs.Predictions.{answer_for, asked}
 use Rattle.unit_turns.specs.Steps.{Course, beginning, goes_on, with_event, with_targets, with_task, turn_of, turn, turns, step, after_steps, tries, Takes}
 use Rattle.unit_turns.specs.Courses.{course}
-
--- an event that is applied
-
-pub applied : NextIsAfter → (old new : MachineView) (predictor : Predictor) (e : Event) → Applies old e new → course new predictor ≡ with_event old.accepted.program (course old predictor) (Some e)
-applied law old new predictor e h =
-    ap (λ (s : State). record { state = s; events = new.history; predictor = predictor }) (law old.accepted.program (units_of old) (state old) (state new) e h.next)
-    ∙ ap (λ (es : List Event). record { state = after old.accepted.program (state old) e; events = es; predictor = predictor }) h.history
 
 -- a machine at its start, and one that has made some steps from it
 
@@ -55,10 +37,6 @@ takes_from_start m accepted units budget steps from over at_start none takes =
     let P : Checked → Type 0 = λ a. Takes a.program units budget (course m from) steps in
     let Q : Course → Type 0 = λ c. Takes accepted.program units budget c steps in
     subst Q (opened m accepted.program from at_start none) (subst P over takes)
-
-pub refused_by : (m : MachineView) (e : Event) (result : Result (Unit {0}) Refused) (why : Refused) → IsAnswered m e result → answer_to m e ≡ Ok tt → result ≡ Err why → why ≡ OutOfMemory
-refused_by m e result why (inl same) ok is = absurd (cc)
-refused_by m e result why (inr memory) ok is = cc
 
 -- what follows of a call's answer
 
@@ -112,122 +90,42 @@ no_turn p units (suc k) c behind not_there none_before =
 pub on_turn : (p : Listing) (units budget k : ℕ) (c : Course) → goes_on budget c.state (length c.events) ≡ true → turn p units budget k c ≡ turn_of p units k c
 on_turn p units budget k c on = either_true (goes_on budget c.state (length c.events)) _ c on
 
-pub off_turn : (p : Listing) (units budget k : ℕ) (c : Course) → goes_on budget c.state (length c.events) ≡ false → turn p units budget k c ≡ c
-off_turn p units budget k c off = either_false (goes_on budget c.state (length c.events)) _ c off
-
 abbrev pub goes : ℕ → Course → Bool
 goes budget c = goes_on budget c.state (length c.events)
 
--- A turn has at most one event, one of the unit at its position, in a queue of this many units; no turn drops
--- a unit.
+-- A turn has at most one event.
 
-abbrev pub IsAt : (active k : ℕ) → Event → Type 0
-IsAt active k (Assign t) = active ≡ k
-IsAt active k (Exec j) = j ≡ k
-IsAt active k (Transfer j r) = j ≡ k
-IsAt active k (Drain j r) = j ≡ k
-IsAt active k (Squash j) = j ≡ k
-IsAt active k Retire = 0 ≡ k
-IsAt active k Fault = 0 ≡ k
-IsAt active k (Drop j) = ⊥
-
-pub record HasOne (p : Listing) (k : ℕ) (c d : Course) : Type 0 where
+pub record HasOne (p : Listing) (c d : Course) : Type 0 where
   pub event : Option Event
   pub predictor : Predictor
-  pub is_at : IfSome event (IsAt (length c.state.queue) k)
   pub is : d ≡ with_event p (record c { predictor = predictor }) event
 
-either_some : (P : Event → Type 0) (b : Bool) (x : Event) (o : Option Event) → P x → IfSome o P → IfSome (cond b (Some x) o) P
-either_some P true x o here there = here
-either_some P false x o here there = there
-
-found : (P : Event → Type 0) (test : Event → Bool) (xs : List Event) → All P xs → IfSome (find test xs) P
-found P test [] all = tt
-found P test (x ∷ xs) all = either_some P (test x) x (find test xs) (All-head P x xs all) (found P test xs (All-tail P x xs all))
-
-if_running : (P : Event → Type 0) (b : Bool) (o : Option Event) → IfSome o P → IfSome (cond b o None) P
-if_running P true o h = h
-if_running P false o h = tt
-
-at_assign : (active k : ℕ) (o : Option ℕ) → active ≡ k → IfSome (option_map Assign o) (IsAt active k)
-at_assign active k None e = tt
-at_assign active k (Some t) e = e
-
-at_tries : (active k : ℕ) → All (IsAt active k) (tries k)
-at_tries active k =
-    All-cons (IsAt active k) (Squash k) (Exec k ∷ (map (Transfer k) registers ++ map (Drain k) registers)) refl
-    (All-cons (IsAt active k) (Exec k) (map (Transfer k) registers ++ map (Drain k) registers) refl
-    (All-append (IsAt active k) (map (Transfer k) registers) (map (Drain k) registers)
-    (All-map (IsAt active k) (Transfer k) registers (λ i d l. refl))
-    (All-map (IsAt active k) (Drain k) registers (λ i d l. refl))))
-
 module _ (p : Listing) where
-  at_choice : (s : State) (answer k : ℕ) → length s.queue ≡ k → IfSome (choice_of p s answer) (IsAt (length s.queue) k)
-  at_choice s answer k e =
-      if_running (IsAt (length s.queue) k) (is_running s.outcome) (option_map Assign (task_behind p s.next (last_or None s.queue) answer))
-      (at_assign (length s.queue) k (task_behind p s.next (last_or None s.queue) answer) e)
+  along : (c d e : Course) → d ≡ e → HasOne p c d → HasOne p c e
+  along c d e same h = subst (HasOne p c) same h
 
-  at_either : (active k : ℕ) (b : Bool) (e f : Event) → IsAt active k e → IsAt active k f → IsAt active k (cond b e f)
-  at_either active k true e f one two = one
-  at_either active k false e f one two = two
+  at_work : (units k : ℕ) (c : Course) → HasOne p c (with_event p c (first_allowed p units c.state (tries k)))
+  at_work units k c = record { event = first_allowed p units c.state (tries k); predictor = c.predictor; is = refl }
 
-  at_drain : (active : ℕ) (o : Option ℕ) → IsAt active 0 (drain_or_retire o)
-  at_drain active None = refl
-  at_drain active (Some r) = refl
+  of_targets : (c : Course) (targets : List ℕ) → HasOne p c (with_targets p c targets)
+  of_targets c [] = record { event = choice_of p c.state 0; predictor = c.predictor; is = refl }
+  of_targets c (t ∷ ts) = record { event = choice_of p c.state (answer_for c.predictor (t ∷ ts)); predictor = asked c.predictor; is = refl }
 
-  at_place : (u : Active) (us : List Active) (place : Spot) → IsAt (length (u ∷ us)) 0 (event_of_head p u us place)
-  at_place u us (Inside index) = refl
-  at_place u us (Stopped exit) =
-      at_either (length (u ∷ us)) 0 (not (is_listed p u.task exit)) Fault _ refl
-      (at_either (length (u ∷ us)) 0 (not (next_begins p us exit)) (Squash 0) _ refl
-      (at_drain (length (u ∷ us)) (least (creates p u.task) (λ r. is_none (u.sent r)))))
-
-  at_queue : (next : ℕ) (us : List Active) → IfSome (event_of_queue p next us) (IsAt (length us) 0)
-  at_queue next [] = at_assign 0 0 (task_beginning p next) refl
-  at_queue next (u ∷ us) = at_place u us u.place
-
-  at_head : (s : State) → IfSome (head_event p s) (IsAt (length s.queue) 0)
-  at_head s = if_running (IsAt (length s.queue) 0) (is_running s.outcome) (event_of_queue p s.next s.queue) (at_queue s.next s.queue)
-
-  pub has_none : (k : ℕ) (c : Course) → HasOne p k c c
-  has_none k c = record { event = None; predictor = c.predictor; is_at = tt; is = refl }
-
-  along : (k : ℕ) (c d e : Course) → d ≡ e → HasOne p k c d → HasOne p k c e
-  along k c d e same h = subst (HasOne p k c) same h
-
-  at_work : (units k : ℕ) (c : Course) → HasOne p k c (with_event p c (first_allowed p units c.state (tries k)))
-  unfolding first_allowed
-  at_work units k c = record {
-    event = first_allowed p units c.state (tries k);
-    predictor = c.predictor;
-    is_at = found (IsAt (length c.state.queue) k) (λ e. is_none (refusal p units c.state e)) (tries k) (at_tries (length c.state.queue) k);
-    is = refl;
-  }
-
-  of_targets : (k : ℕ) (c : Course) (targets : List ℕ) → length c.state.queue ≡ k → HasOne p k c (with_targets p c targets)
-  of_targets k c [] e = record { event = choice_of p c.state 0; predictor = c.predictor; is_at = at_choice c.state 0 k e; is = refl }
-  of_targets k c (t ∷ ts) e = record {
-    event = choice_of p c.state (answer_for c.predictor (t ∷ ts));
-    predictor = asked c.predictor;
-    is_at = at_choice c.state (answer_for c.predictor (t ∷ ts)) k e;
-    is = refl;
-  }
-
-  behind_head : (units k : ℕ) (c : Course) → HasOne p (suc k) c (turn_of p units (suc k) c)
+  behind_head : (units k : ℕ) (c : Course) → HasOne p c (turn_of p units (suc k) c)
   behind_head units k c =
       let some : 0 < suc k = omega arith in
       let one : suc k - 1 ≡ k = omega arith in
       let before : nat_lt (suc k - 1) (length c.state.queue) ≡ nat_lt k (length c.state.queue) = ap (λ (n : ℕ). nat_lt n (length c.state.queue)) one in
       elim (cases_Bool (nat_lt (suc k) (length c.state.queue))) [
-        | inl there ↦ along (suc k) c _ _ (sym (work_turn p units (suc k) c some there)) (at_work units (suc k) c)
+        | inl there ↦ along c _ _ (sym (work_turn p units (suc k) c some there)) (at_work units (suc k) c)
         | inr beyond ↦ elim (cases_Bool (nat_lt k (length c.state.queue))) [
-          | inl free ↦ along (suc k) c _ _ (sym (free_turn p units (suc k) c some beyond (before ∙ free))) (of_targets (suc k) c (choices_of p c.state) (omega (arith, ltb-false (suc k) (length c.state.queue) beyond, ltb-true k (length c.state.queue) free)))
-          | inr none ↦ along (suc k) c _ _ (sym (no_turn p units (suc k) c some beyond (before ∙ none))) (has_none (suc k) c)
+          | inl free ↦ along c _ _ (sym (free_turn p units (suc k) c some beyond (before ∙ free))) (of_targets c (choices_of p c.state))
+          | inr none ↦ along c _ _ (sym (no_turn p units (suc k) c some beyond (before ∙ none))) (record { event = None; predictor = c.predictor; is = refl })
         ]
       ]
 
-  pub of_turn : (units k : ℕ) (c : Course) → HasOne p k c (turn_of p units k c)
-  of_turn units zero c = record { event = head_event p c.state; predictor = c.predictor; is_at = at_head c.state; is = refl }
+  pub of_turn : (units k : ℕ) (c : Course) → HasOne p c (turn_of p units k c)
+  of_turn units zero c = record { event = head_event p c.state; predictor = c.predictor; is = refl }
   of_turn units (suc k) c = behind_head units k c
 
 -- A run and a later one: the events grow, not beyond the budget, and where the later one is over they have
@@ -258,14 +156,14 @@ module _ (p : Listing) (budget : ℕ) where
       let more : length (c.events ++ e ∷ []) ≡ length c.events + 1 = length-append c.events (e ∷ []) in
       record { longer = omega arith; within = λ h. omega arith; ended = λ on off. omega arith }
 
-  by_one : (k : ℕ) (c d : Course) → HasOne p k c d → length c.events < budget → Grows budget c d
-  by_one k c d one room = subst (Grows budget c) (sym one.is) (by_event c one.predictor one.event room)
+  by_one : (c d : Course) → HasOne p c d → length c.events < budget → Grows budget c d
+  by_one c d one room = subst (Grows budget c) (sym one.is) (by_event c one.predictor one.event room)
 
   has_room : (c : Course) → goes budget c ≡ true → length c.events < budget
   has_room c on = ltb-true (length c.events) budget (and_parts (is_running c.state.outcome) (nat_lt (length c.events) budget) on).1
 
   by_goes : (units k : ℕ) (c : Course) (b : Bool) → goes budget c ≡ b → Grows budget c (cond b (turn_of p units k c) c)
-  by_goes units k c true on = by_one k c (turn_of p units k c) (of_turn p units k c) (has_room c on)
+  by_goes units k c true on = by_one c (turn_of p units k c) (of_turn p units k c) (has_room c on)
   by_goes units k c false off = grows_not budget c
 
   pub by_turn : (units k : ℕ) (c : Course) → Grows budget c (turn p units budget k c)

@@ -5,9 +5,7 @@ pub mod RingPlaces
 pub mod TurnKinds
 pub mod GoingOn
 pub mod Waiting
-pub mod Choosing
 pub mod Tries
 pub mod Going
 pub mod Looping
-pub mod Together
 pub mod Reporting

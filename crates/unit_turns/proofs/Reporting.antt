@@ -6,7 +6,6 @@ use Rattle.mark_checker.specs.Places.{Checked}
 use Rattle.machine_model.specs.Machine.{opening}
 use Rattle.machine_model.specs.Answer.{is_running}
 use Rattle.machine_model.specs.Replay.{Replays}
-use Rattle.machine_model.specs.Laws.{NextIsAfter, ReplayCut}
 use Rattle.machine_model.specs.declared.event.Event.{Event}
 use Rattle.machine_model.specs.declared.event.Standing.{Standing}
 use Rattle.machine_model.specs.declared.event.Standing.TheVariants.{Running}
@@ -18,14 +17,13 @@ use Rattle.unit_turns.specs.Steps.{Course, beginning, after_steps, Takes}
 use Rattle.unit_turns.specs.Courses.{course}
 use Rattle.unit_turns.specs.Reports.{IsStepsReportOf}
 use Rattle.unit_turns.proofs.Going.{goes, ran, steps_within, takes_from_start}
-use Rattle.unit_turns.proofs.Together.{machine_in_steps}
 
 -- where no step follows and the machine runs, the budget is used up
 used_up : (budget : ℕ) (c : Course) → goes budget c ≡ false → c.state.outcome ≡ Running → budget ≤ length c.events
 used_up budget c over running =
     ltb-false (length c.events) budget (ap (λ (s : Standing). is_running s && nat_lt (length c.events) budget) (sym running) ∙ over)
 
-pub reported : ReplayCut → NextIsAfter → (m : MachineView) (checked : Checked) (units budget : ℕ) (from to : Predictor) (report : StepsReport)
+pub reported : (m : MachineView) (checked : Checked) (units budget : ℕ) (from to : Predictor) (report : StepsReport)
     → m.accepted ≡ checked → units_of m ≡ units → state m ≡ opening checked.program → m.history ≡ []
     → SameRing m report.machine → course report.machine to ≡ after_steps m.accepted.program units budget report.steps (course m from)
     → Takes m.accepted.program units budget (course m from) report.steps
@@ -33,7 +31,7 @@ pub reported : ReplayCut → NextIsAfter → (m : MachineView) (checked : Checke
     → ((report.how ≡ Ended) ↔ ((state report.machine).outcome ≡ Running → ⊥))
     → (report.how ≡ OutOfBudget → (state report.machine).outcome ≡ Running)
     → IsStepsReportOf checked units budget from report
-reported cut law m checked units budget from to report over capacity at_start none kept is takes replay ended running =
+reported m checked units budget from to report over capacity at_start none kept is takes replay ended running =
     let p = checked.program in
     let last : Course = after_steps p units budget report.steps (beginning p from) in
     let same : course report.machine to ≡ last = ran m report.machine checked units budget report.steps from to over at_start none is in
@@ -46,7 +44,6 @@ reported cut law m checked units budget from to report over capacity at_start no
       takes = taken;
       left = ap (λ (x : Course). x.state) same;
       events = events;
-      lockstep = machine_in_steps cut law m report.machine checked units budget report.steps from to over capacity at_start none kept is takes replay;
       ended = ended;
       spent = λ out. used_up budget (course report.machine to) (ap (goes budget) same ∙ taken.is_over) (running out);
       within = subst (λ (es : List Event). length es ≤ budget) (sym events) (steps_within p budget units report.steps from);

@@ -6,8 +6,7 @@ use Rattle.std.proofs.lemmas.Nat.{mod_below}
 use Rattle.std.proofs.Math.Nat.{add-mod_left, mod-eq_of_lt}
 use Rattle.machine_model.specs.Answer.{is_running, most_events}
 use Rattle.machine_model.specs.declared.event.Event.TheVariants.{Assign, Exec}
-use Rattle.machine_model.specs.declared.event.Standing.{Standing}
-use Rattle.machine_model.specs.declared.event.Standing.TheVariants.{Running, Halted, Trapped, Unlisted}
+use Rattle.machine_model.specs.declared.event.Standing.TheVariants.{Running}
 use Rattle.sequencer.specs.Machines.{MachineView, state, units_of}
 use Rattle.sequencer.specs.Rings.{unit_for}
 use Rattle.sequencer.specs.Choices.{choices_of}
@@ -71,23 +70,12 @@ not_all false b c x h = refl
 not_all true false c x h = refl
 not_all true true false x h = refl
 
-pub is_run : (o : Standing) → is_running o ≡ true → o ≡ Running
-is_run Running e = refl
-is_run Halted e = absurd (true≢false (sym e))
-is_run (Trapped trap) e = absurd (true≢false (sym e))
-is_run (Unlisted at) e = absurd (true≢false (sym e))
-
 -- the turn of the unit at a position of the ring
 pub at_place : (m : MachineView) (unit k : ℕ) → (state m).outcome ≡ Running → length m.history < most_events → k < units_of m → unit_for m (Exec k) ≡ unit → turn_of m unit ≡ turn_at_position m k
 at_place m unit k running room below at =
     let small : unit < units_of m = subst (λ (x : ℕ). x < units_of m) at (mod_below (length (state m).commits + k) (units_of m) (omega arith)) in
     all_three (is_running (state m).outcome) (nat_lt (length m.history) most_events) (nat_lt unit (units_of m)) _ _ (ap is_running running) (lt-ltb _ _ room) (lt-ltb _ _ small)
     ∙ ap (turn_at_position m) (position_is (units_of m) (length (state m).commits) unit k below at)
-
--- a run that has ended, and one whose history is full
-pub when_over : (m : MachineView) (unit : ℕ) → ((state m).outcome ≡ Running → length m.history < most_events → ⊥) → turn_of m unit ≡ Wait
-when_over m unit over =
-    not_all (is_running (state m).outcome) (nat_lt (length m.history) most_events) (nat_lt unit (units_of m)) _ (λ running room small. absurd (over (is_run _ running) (ltb-true _ _ room)))
 
 -- by where the position lies
 

@@ -4,7 +4,6 @@ pub mod Examples
 pub mod Predictions
 pub mod Steps
 pub mod Courses
-pub mod Lockstep
 pub mod Reports
 pub mod SynchronousRunnerExamples
 pub mod Bells

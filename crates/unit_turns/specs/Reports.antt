@@ -8,7 +8,6 @@ use Rattle.unit_turns.specs.declared.predictor.Predictor.{Predictor}
 use Rattle.unit_turns.specs.declared.report.StepsEnd.TheVariants.{Ended, OutOfBudget}
 use Rattle.unit_turns.specs.declared.report.StepsReport.{StepsReport}
 use Rattle.unit_turns.specs.Steps.{beginning, after_steps, Takes}
-use Rattle.unit_turns.specs.Lockstep.{AreSteps}
 
 -- It is of the run of the schedule over this program and certificate, on the given number of units with this budget
 -- and predictor: the machine is the replay of its history, and has the state and the events that the steps leave;
@@ -21,7 +20,6 @@ pub record IsStepsReportOf (checked : Checked) (unit_count budget : ℕ) (predic
   pub takes : Takes checked.program unit_count budget (beginning checked.program predictor) report.steps
   pub left : state report.machine ≡ (after_steps checked.program unit_count budget report.steps (beginning checked.program predictor)).state
   pub events : report.machine.history ≡ (after_steps checked.program unit_count budget report.steps (beginning checked.program predictor)).events
-  pub lockstep : AreSteps checked.program unit_count budget predictor report.steps
   pub ended : (report.how ≡ Ended) ↔ ((state report.machine).outcome ≡ Running → ⊥)
   pub spent : report.how ≡ OutOfBudget → budget ≤ length report.machine.history
   pub within : length report.machine.history ≤ budget

@@ -1,7 +1,7 @@
 -- Worked examples, computed by the checker: the first steps of the loop `count` on two
--- units, what the predictors answer, and which events are of different units.
-use Rattle.std.specs.Prelude.{◌≡◌, ◌<◌, [], ◌∷◌, false}
-use Rattle.std.proofs.Common.{refl, arith, lit<}
+-- units, and what the predictors answer.
+use Rattle.std.specs.Prelude.{◌≡◌, [], ◌∷◌, false}
+use Rattle.std.proofs.Common.{refl}
 use Rattle.mips_instructions.specs.Words.{address, index_of}
 use Rattle.mips_plain.specs.MemoryMap.{region, effective}
 use Rattle.machine_model.specs.Refusals.{least}
@@ -10,7 +10,6 @@ use Rattle.machine_model.specs.declared.event.Event.TheVariants.{Assign, Exec, T
 use Rattle.unit_turns.specs.FirstAllowed.{registers, first_allowed}
 use Rattle.unit_turns.specs.declared.predictor.Predictor.TheVariants as predictor
 use Rattle.unit_turns.specs.Predictions.{answer_for, asked}
-use Rattle.unit_turns.specs.Lockstep.{FromLast}
 use Rattle.unit_turns.specs.Steps.{Course, beginning, goes_on, after_steps}
 
 -- the first task begins
@@ -71,11 +70,3 @@ list_answer = refl
 -- after its last number a list begins again
 pub list_again : asked (predictor.Script (record { list = 7 ∷ 1 ∷ []; at = 1 })) ≡ predictor.Script (record { list = 7 ∷ 1 ∷ []; at = 0 })
 list_again = refl
-
--- the free unit and then the head, in a queue of one
-pub free_then_head : FromLast 1 2 (Assign 0 ∷ Exec 0 ∷ [])
-free_then_head = (lit< tt, (lit< tt, tt))
-
--- no unit has two events in a step
-pub not_twice : FromLast 2 2 (Exec 1 ∷ Exec 1 ∷ []) → ⊥
-not_twice h = let again : 1 < 1 = h.1.0 in omega arith

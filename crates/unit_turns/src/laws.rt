@@ -1,6 +1,6 @@
 //! Laws: each call does nothing, and its contract is what follows for a turn.
 
-ghost use Rattle.std.specs.Prelude.{◌≡◌, ℕ, ◌<◌, ◌≤◌, ◌↔◌, length, Some, None};
+ghost use Rattle.std.specs.Prelude.{◌≡◌, ℕ, ◌<◌, ◌≤◌, length, Some, None};
 ghost use Rattle.machine_model.specs.Machine.{State};
 ghost use Rattle.machine_model.specs.Answer.{most_events, refusal};
 ghost use Rattle.machine_model.specs.HeadEvent.{head_event};
@@ -11,8 +11,8 @@ ghost use Rattle.machine_model.specs.declared.event.Standing.TheVariants as stan
 ghost use Rattle.sequencer.specs.Machines.{state, units_of};
 ghost use Rattle.sequencer.specs.Rings.{unit_for};
 ghost use Rattle.unit_turns.specs.FirstAllowed.{TakesAllowed, SkipsRefused, GoesByLists, TakesLeast, AllowedIsUnrefused};
-ghost use Rattle.unit_turns.specs.Turns.{IsOwn, MayChoose, MayWait, NamesRegister, turn_of};
-ghost use Rattle.unit_turns.specs.declared.turn.Turn.TheVariants.{Choose, Wait};
+ghost use Rattle.unit_turns.specs.Turns.{IsOwn, MayWait, NamesRegister, turn_of};
+ghost use Rattle.unit_turns.specs.declared.turn.Turn.TheVariants.{Wait};
 
 use machine_model::laws::events_count;
 use sequencer::machine::Machine;
@@ -35,14 +35,6 @@ pub fn law_waits(machine: &Machine<'_>)
     law_goes_on(machine);
     let _ = machine.length();
     let _ = machine.choice(0);
-}
-
-/// A unit is to choose exactly where there are choices, the history has room, and the unit is the one that
-/// takes the next task.
-pub fn law_chooses(machine: &Machine<'_>)
-    ensures { (unit : ℕ) → (turn_of machine.now unit ≡ Choose) ↔ MayChoose machine.now unit }
-{
-    let _ = machine.length();
 }
 
 /// The head event belongs to the unit at position 0.

@@ -14,15 +14,13 @@ use crate::report::{StepsEnd, StepsFault, StepsReport};
 use crate::turns::{goes_on, turn_behind, turn_of_head};
 use limits::ranges::{Budget, MOST_BUDGET, MOST_UNITS, Units};
 use machine_model::event::{Refused, Standing};
-use machine_model::laws::{next_is_after, replays_join};
 use mark_checker::accept::Accepted;
 use sequencer::machine::Machine;
 use std::alloc::{AllocError, Global};
 
 /// Runs the accepted program on a machine with the given number of units, 1 to 16, in steps, until the run has ended or
-/// the history has `budget` events, 1 to 1,000,000. In a step each unit does at most one event, which the
-/// machine allows already where the step begins. The same program, units, budget and predictor
-/// give the same events, output and number of steps.
+/// the history has `budget` events, 1 to 1,000,000. In a step each unit does at most one event. The same program,
+/// units, budget and predictor give the same events, output and number of steps.
 ///
 /// # Errors
 ///
@@ -80,8 +78,6 @@ pub fn run_steps_on<'a>(
     };
     // Reading a machine's history gives that the machine is its replay.
     let _ = machine.history();
-    next_is_after();
-    replays_join();
     let how = how_of(&machine);
     Ok(StepsReport {
         machine,

@@ -7,7 +7,7 @@ use Rattle.canonical_text.proofs.instructions.write_spelled.Goals as goal
 
 pub loop-index-preserved : goal.loop-index-preserved
 loop-index-preserved c =
-    one_more_operand (operand_text c.args.labels.now) c.args.name.now c.args.operands.now c.loop-index.index c.index-operands-index.result _ _ _ (omega arith)
+    one_more_operand (operand_text c.args.tasks.now) c.args.name.now c.args.operands.now c.loop-index.index c.index-operands-index.result _ _ _ (omega arith)
     c.loop-index.invariant
     (c.in_ok-write_next_operand.ensures
-    ∙ ap (λ (o : InstructionOperand). string_bytes c.loop-index.text ++ (before_operand (nat_eq c.loop-index.index 0) ++ operand_text c.args.labels.now o)) c.index-operands-index.is)
+    ∙ ap (λ (o : InstructionOperand). string_bytes c.loop-index.text ++ (before_operand (nat_eq c.loop-index.index 0) ++ operand_text c.args.tasks.now o)) c.index-operands-index.is)

@@ -5,4 +5,4 @@ use Rattle.canonical_text.proofs.pieces.write_places.Given as goal
 
 abbrev pub invariant-loop-index : goal.invariant-loop-index
 invariant-loop-index l =
-    string_bytes l.text ≡ string_bytes l.initial.text ++ commas (map (place_text l.labels) (take l.index l.places))
+    string_bytes l.text ≡ string_bytes l.initial.text ++ commas (map (place_text l.tasks) (take l.index l.places))

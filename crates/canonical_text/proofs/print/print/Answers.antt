@@ -7,8 +7,8 @@ use Rattle.canonical_text.proofs.print.print.Goals as goal
 
 pub returns : goal.returns
 returns c =
-    program_written c.args.program.now c.in_ok-labels.labels c.code.result.now c.bytes.result.now c.fixed.result.now c.get.result _
-    _ _ _ _ _ _ (c.in_ok-labels.ensures ∙ c.tasks.ensures.value) c.code.ensures.value c.bytes.ensures.value c.fixed.ensures.value
+    program_written c.args.program.now c.tasks-tasks.result.now c.code.result.now c.bytes.result.now c.fixed.result.now c.get.result _
+    _ _ _ _ _ _ c.tasks-tasks.ensures.value c.code.ensures.value c.bytes.ensures.value c.fixed.ensures.value
     (c.get.ensures.value ∙ c.start.ensures.value) c.task_at.ensures c.in_ok-write_start.ensures c.in_ok-write_tasks.ensures
     c.in_ok-write_code.ensures
     (c.in_ok-write_section.ensures ∙ ap (λ (t : Vec ℕ). t.items ++ section (codes ".data") c.bytes.result.now) c.into_bytes-text.ensures.value)

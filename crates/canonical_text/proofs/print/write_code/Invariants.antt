@@ -5,4 +5,4 @@ use Rattle.canonical_text.proofs.print.write_code.Given as goal
 
 abbrev pub invariant-loop-index : goal.invariant-loop-index
 invariant-loop-index l =
-    string_bytes l.text ++ code_lines l.labels l.index (drop l.index l.code) ≡ string_bytes l.initial.text ++ code_lines l.labels 0 l.code
+    string_bytes l.text ++ code_lines l.tasks l.index (drop l.index l.code) ≡ string_bytes l.initial.text ++ code_lines l.tasks 0 l.code

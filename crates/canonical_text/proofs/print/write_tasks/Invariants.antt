@@ -6,4 +6,4 @@ use Rattle.canonical_text.proofs.print.write_tasks.Given as goal
 
 abbrev pub invariant-loop-task : goal.invariant-loop-task
 invariant-loop-task l =
-    string_bytes l.text ≡ string_bytes l.initial.text ++ flat_map (task_line l.labels) (take l.task-index l.labels)
+    string_bytes l.text ≡ string_bytes l.initial.text ++ flat_map (task_line l.tasks) (take l.task-index l.tasks)

@@ -3,7 +3,7 @@ use Rattle.std.proofs.Common.{ℕ, List, ◌++◌, ◌∙◌, ap}
 use Rattle.std.specs.Prelude.{flat_map}
 use Rattle.json.specs.Token.{Token}
 use Rattle.json.specs.Tree.{json_tokens}
-use Rattle.run_picture.proofs.Parts.{range_more}
+use Rattle.event_trace.proofs.Parts.{range_more}
 use Rattle.event_json.specs.Lanes.{lane_of}
 use Rattle.event_json.proofs.lanes.write_lanes.Goals as goal
 

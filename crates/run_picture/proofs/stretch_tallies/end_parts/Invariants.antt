@@ -1,6 +1,6 @@
 -- The parts of the lives so far.
 use Rattle.std.proofs.Common.{◌≡◌, ◌≤◌, length, map, take}
-use Rattle.run_picture.specs.StretchTallies.{end_part}
+use Rattle.run_picture.specs.Stretches.{end_part}
 use Rattle.run_picture.proofs.stretch_tallies.end_parts.Given as goal
 
 abbrev pub invariant-loop-life : goal.invariant-loop-life

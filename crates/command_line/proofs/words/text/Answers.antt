@@ -1,8 +1,0 @@
--- The value of an id is that of its row.
-use Rattle.std.proofs.Common.{◌∙◌}
-use Rattle.clap.specs.Words.{found_of}
-use Rattle.clap.proofs.WalkLemmas.{first_value-rows}
-use Rattle.command_line.proofs.words.text.Goals as goal
-
-pub returns : goal.returns
-returns c = c.get_str.ensures ∙ first_value-rows (found_of c.args.values.now) c.args.id.now

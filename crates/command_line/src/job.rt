@@ -1,0 +1,441 @@
+//! The job that the values of a subcommand ask for, and its files.
+ghost use Rattle.std.specs.Prelude.{◌≡◌, IfOk, IfErr, Some, codes, map, not, option_map};
+ghost use Rattle.std.specs.String.{string_bytes};
+ghost use Rattle.command_line.specs.Asked.{Gives, IsRequested, Names, Refuses, destination_in, emit_in, further_in, is_given, number_at, predict_in, values_in};
+ghost use Rattle.command_line.specs.Words.{emit_of};
+ghost use Rattle.jobs.specs.Files.{HasFilesOf, is_in_file};
+
+use crate::prediction::read_prediction;
+use crate::request::Request;
+use crate::values::Values;
+use crate::words::UsageFault;
+use clap::error::ErrorKind;
+use jobs::job::{
+    CertificateSource, Colors, CurveEmit, DemonstrateEmit, Emit, Format, Job, Paths, Prediction,
+    ReplayEmit, RunEmit, Schedule,
+};
+use limits::ranges::{Budget, Units, Workers};
+use std::alloc::AllocError;
+
+static FORMATS: [(&str, Format); 3] = [
+    ("text", Format::Text),
+    ("sarif", Format::Sarif),
+    ("json", Format::Json),
+];
+
+static COLORS: [(&str, Colors); 3] = [
+    ("auto", Colors::Auto),
+    ("always", Colors::Always),
+    ("never", Colors::Never),
+];
+
+static SCHEDULES: [(&str, Schedule); 2] = [
+    ("threads", Schedule::Threads),
+    ("steps", Schedule::Steps),
+];
+
+static REPLAY_EMITS: [(&str, ReplayEmit); 7] = [
+    ("answers", ReplayEmit::Answers),
+    ("summary", ReplayEmit::Summary),
+    ("svg", ReplayEmit::Picture),
+    ("trace", ReplayEmit::Trace),
+    ("json", ReplayEmit::Json),
+    ("perfetto", ReplayEmit::Timeline),
+    ("state", ReplayEmit::State),
+];
+
+static RUN_EMITS: [(&str, RunEmit); 9] = [
+    ("report", RunEmit::Report),
+    ("script", RunEmit::Script),
+    ("summary", RunEmit::Summary),
+    ("svg", RunEmit::Picture),
+    ("trace", RunEmit::Trace),
+    ("json", RunEmit::Json),
+    ("waits", RunEmit::Waits),
+    ("vcd", RunEmit::Waveform),
+    ("perfetto", RunEmit::Timeline),
+];
+
+static CURVE_EMITS: [(&str, CurveEmit); 2] = [
+    ("table", CurveEmit::Table),
+    ("svg", CurveEmit::Picture),
+];
+
+static DEMONSTRATE_EMITS: [(&str, DemonstrateEmit); 2] = [
+    ("events", DemonstrateEmit::Events),
+    ("svg", DemonstrateEmit::Picture),
+];
+
+/// What a subcommand asks for.
+pub(crate) fn request_in(values: &Values<'_, '_>) -> Result<Request, UsageFault>
+    ensures files { IfOk result (λ r. HasFilesOf r.job r.paths) }
+    ensures request { IfOk result (IsRequested values.now.name.now (values_in values.now.matches.now)) }
+    ensures fault { IfErr result (Refuses values.now.name.now (values_in values.now.matches.now)) }
+{
+    let job = job_in(values)?;
+    let paths = paths_in(values, &job)?;
+    let output = output_in(values, &job)?;
+    let further = further_in(values, &job)?;
+    if !further.is_empty() {
+        expect_alone(values, &job, output.is_some())?;
+    }
+    Ok(Request {
+        job,
+        paths,
+        output,
+        further,
+        report: values.is_given("report"),
+        progress: values.is_given("progress"),
+    })
+}
+
+// The job of a subcommand.
+fn job_in(values: &Values<'_, '_>) -> Result<Job, UsageFault>
+    ensures value { IfOk result (Gives values.now.name.now (values_in values.now.matches.now)) }
+    ensures fault { IfErr result (Refuses values.now.name.now (values_in values.now.matches.now)) }
+{
+    match values.name {
+        "seq" => Ok(Job::Seq {
+            budget: budget_in(values, "budget")?,
+        }),
+        "print" => Ok(Job::Print),
+        "annotate" => match emit_in(values) {
+            Some(emit) => Ok(Job::Annotate { emit }),
+            None => Err(UsageFault::Emit),
+        },
+        "explain" => explain_in(values),
+        "check" => Ok(Job::Check {
+            certificate: check_source_in(values)?,
+            workers: values.there(values.number("workers").and_then(Workers::new))?,
+        }),
+        "replay" => replay_in(values),
+        "run" => run_in(values),
+        "curve" => curve_in(values),
+        "demonstrate" => Ok(Job::Demonstrate {
+            units: units_in(values)?,
+            steps: budget_in(values, "steps")?,
+            emit: values.word(
+                "emit",
+                &DEMONSTRATE_EMITS,
+                "the value of --emit is events or svg",
+            )?,
+        }),
+        _ => Err(values.no_job()),
+    }
+}
+
+// The value of `--emit` of `annotate`.
+fn emit_in(values: &Values<'_, '_>) -> Option<Emit>
+    ensures { result ≡ emit_in (values_in values.now.matches.now) }
+{
+    let otherwise = if values.is_given("in-place") {
+        "marks"
+    } else {
+        "text"
+    };
+    emit_named(values.text("emit").unwrap_or(otherwise))
+}
+
+fn emit_named(text: &str) -> Option<Emit>
+    ensures { result ≡ emit_of text.now }
+{
+    match text {
+        "text" => Some(Emit::Text),
+        "cert" => Some(Emit::Cert),
+        "keep" => Some(Emit::Keep),
+        "marks" => Some(Emit::Marks),
+        _ => None,
+    }
+}
+
+fn explain_in(values: &Values<'_, '_>) -> Result<Job, UsageFault>
+    requires { values.now.name.now ≡ codes "explain" }
+    ensures value { IfOk result (Gives values.now.name.now (values_in values.now.matches.now)) }
+    ensures fault { IfErr result (Refuses values.now.name.now (values_in values.now.matches.now)) }
+{
+    Ok(Job::Explain {
+        name: values.path("program")?,
+        certificate: values.free_path("certificate")?,
+        script: values.free_path("script")?,
+        warnings: !values.is_given("no-warnings"),
+        format: values.word(
+            "format",
+            &FORMATS,
+            "the value of --format is text, sarif or json",
+        )?,
+        colors: values.word(
+            "color",
+            &COLORS,
+            "the value of --color is auto, always or never",
+        )?,
+    })
+}
+
+fn replay_in(values: &Values<'_, '_>) -> Result<Job, UsageFault>
+    requires { values.now.name.now ≡ codes "replay" }
+    ensures value { IfOk result (Gives values.now.name.now (values_in values.now.matches.now)) }
+    ensures fault { IfErr result (Refuses values.now.name.now (values_in values.now.matches.now)) }
+{
+    let certificate = source_in(values, "script")?;
+    let units = units_in(values)?;
+    let emit = values.word(
+        "emit",
+        &REPLAY_EMITS,
+        "the value of --emit is answers, summary, svg, trace, json, perfetto or state",
+    )?;
+    let until = match values.number("until") {
+        Some(most) => Some(values.there(Budget::new(most))?),
+        None => None,
+    };
+    if !values.is_given("strict") {
+        return Ok(Job::Replay {
+            certificate,
+            units,
+            emit,
+            until,
+        });
+    }
+    let why = if emit != ReplayEmit::Answers {
+        "with --strict there is no other --emit"
+    } else if until.is_some() {
+        "with --strict there is no --until"
+    } else {
+        return Ok(Job::ReplayStrictly { certificate, units });
+    };
+    Err(values.fault(ErrorKind::ArgumentConflict, why))
+}
+
+fn run_in(values: &Values<'_, '_>) -> Result<Job, UsageFault>
+    requires { values.now.name.now ≡ codes "run" }
+    ensures value { IfOk result (Gives values.now.name.now (values_in values.now.matches.now)) }
+    ensures fault { IfErr result (Refuses values.now.name.now (values_in values.now.matches.now)) }
+{
+    let certificate = source_in(values, "certificate")?;
+    let schedule = values.word(
+        "schedule",
+        &SCHEDULES,
+        "the value of --schedule is threads or steps",
+    )?;
+    let emit = run_emit_in(values, schedule)?;
+    let units = units_in(values)?;
+    let workers = values.number("workers").unwrap_or(units.get());
+    let workers = values.there(Workers::new(workers))?;
+    let budget = budget_in(values, "budget")?;
+    match predict_in(values)? {
+        Some(predict) => Ok(Job::Run {
+            certificate,
+            schedule,
+            units,
+            workers,
+            budget,
+            predict,
+            emit,
+        }),
+        None => Err(UsageFault::Predict),
+    }
+}
+
+// What `run` writes. `--with-values` goes with a script, `--axis` with a picture, and waits, a waveform and the
+// columns of steps with a run in steps.
+fn run_emit_in(values: &Values<'_, '_>, schedule: Schedule) -> Result<RunEmit, UsageFault>
+    ensures { IfErr result (Refuses values.now.name.now (values_in values.now.matches.now)) }
+{
+    let message =
+        "the value of --emit is report, script, summary, svg, trace, json, perfetto or, with --schedule steps, waits or vcd; --with-values goes with script, and --axis, events or steps, with svg";
+    let named = values.word("emit", &RUN_EMITS, message)?;
+    let in_steps = schedule == Schedule::Steps;
+    let valued = values.is_given("with-values");
+    let emit = match (named, values.text("axis")) {
+        (RunEmit::Script, None) if valued => Some(RunEmit::ScriptWithValues),
+        _ if valued => None,
+        (RunEmit::Picture, None) if in_steps => Some(RunEmit::StepPicture),
+        (RunEmit::Picture, Some("steps")) if in_steps => Some(RunEmit::StepPicture),
+        (RunEmit::Picture, None | Some("events")) => Some(RunEmit::Picture),
+        (_, Some(_)) => None,
+        (RunEmit::Waits | RunEmit::Waveform, None) if !in_steps => None,
+        (named, None) => Some(named),
+    };
+    match emit {
+        Some(emit) => Ok(emit),
+        None => Err(values.fault(ErrorKind::InvalidValue, message)),
+    }
+}
+
+fn curve_in(values: &Values<'_, '_>) -> Result<Job, UsageFault>
+    requires { values.now.name.now ≡ codes "curve" }
+    ensures value { IfOk result (Gives values.now.name.now (values_in values.now.matches.now)) }
+    ensures fault { IfErr result (Refuses values.now.name.now (values_in values.now.matches.now)) }
+{
+    let certificate = source_in(values, "certificate")?;
+    let units = units_in(values)?;
+    let budget = budget_in(values, "budget")?;
+    let Some(predict) = predict_in(values)? else {
+        let message =
+            "the value of --predict is first, last, or 1 to 64 numbers 0 to 15 with commas, as in 1,0";
+        return Err(values.fault(ErrorKind::InvalidValue, message));
+    };
+    let emit = values.word("emit", &CURVE_EMITS, "the value of --emit is table or svg")?;
+    Ok(Job::Curve {
+        certificate,
+        units,
+        budget,
+        predict,
+        emit,
+    })
+}
+
+fn units_in(values: &Values<'_, '_>) -> Result<Units, UsageFault>
+    ensures value { IfOk result (λ units. number_at (codes "units") (values_in values.now.matches.now) ≡ Some units) }
+    ensures fault { IfErr result (Refuses values.now.name.now (values_in values.now.matches.now)) }
+{
+    values.there(values.number("units").and_then(Units::new))
+}
+
+fn budget_in(values: &Values<'_, '_>, id: &str) -> Result<Budget, UsageFault>
+    ensures value { IfOk result (λ budget. number_at id.now (values_in values.now.matches.now) ≡ Some budget) }
+    ensures fault { IfErr result (Refuses values.now.name.now (values_in values.now.matches.now)) }
+{
+    values.there(values.number(id).and_then(Budget::new))
+}
+
+// What the value of `--predict` stands for.
+fn predict_in(values: &Values<'_, '_>) -> Result<Option<Prediction>, AllocError>
+    ensures { IfOk result (λ r. r ≡ predict_in (values_in values.now.matches.now)) }
+{
+    match values.text("predict") {
+        Some(text) => read_prediction(values.alloc, text),
+        None => Ok(None),
+    }
+}
+
+// Where the certificate comes from: with `--least` there is one file fewer, and so none of this name, the last.
+fn source_in(values: &Values<'_, '_>, last: &str) -> Result<CertificateSource, UsageFault>
+    ensures value { IfOk result (λ source. is_in_file source ≡ not (is_given (codes "least") (values_in values.now.matches.now))) }
+    ensures fault { IfErr result (Refuses values.now.name.now (values_in values.now.matches.now)) }
+{
+    match (values.text(last), values.is_given("least")) {
+        (Some(_), false) => Ok(CertificateSource::File),
+        (None, true) => Ok(CertificateSource::Least),
+        (Some(_), true) => Err(values.fault(
+            ErrorKind::ArgumentConflict,
+            "there is a file too many: with --least there is no CERT",
+        )),
+        (None, false) => Err(file_missing(values)),
+    }
+}
+
+// Where `check` takes the certificate from: with `--least` the files after the program are further programs.
+fn check_source_in(values: &Values<'_, '_>) -> Result<CertificateSource, UsageFault>
+    ensures value { IfOk result (λ source. is_in_file source ≡ not (is_given (codes "least") (values_in values.now.matches.now))) }
+    ensures fault { IfErr result (Refuses values.now.name.now (values_in values.now.matches.now)) }
+{
+    if values.is_given("least") {
+        return Ok(CertificateSource::Least);
+    }
+    match values.matches.get_strs("certificate") {
+        None => Err(file_missing(values)),
+        Some([_]) => Ok(CertificateSource::File),
+        Some(_) => Err(values.fault(
+            ErrorKind::UnknownArgument,
+            "there is a file too many: there is one CERT; with --least there are several programs",
+        )),
+    }
+}
+
+fn file_missing(values: &Values<'_, '_>) -> UsageFault
+    ensures { Refuses values.now.name.now (values_in values.now.matches.now) result }
+{
+    values.fault(
+        ErrorKind::MissingRequiredArgument,
+        "a file is missing: give CERT, or --least in its place",
+    )
+}
+
+// The files of a job. Without a certificate the script of `replay` stands in its place.
+fn paths_in(values: &Values<'_, '_>, job: &Job) -> Result<Paths, UsageFault>
+    ensures files { IfOk result (HasFilesOf job.now) }
+    ensures names { IfOk result (Names (values_in values.now.matches.now) job.now) }
+    ensures fault { IfErr result (Refuses values.now.name.now (values_in values.now.matches.now)) }
+{
+    let program = values.path("program")?;
+    let mut certificate = String::new(values.alloc);
+    let mut script = String::new(values.alloc);
+    if job.has_certificate() {
+        certificate = values.path("certificate")?;
+    }
+    if job.has_script() {
+        let is_last = job.has_certificate() || matches!(job, Job::Explain { .. });
+        script = values.path(if is_last { "script" } else { "certificate" })?;
+    }
+    Ok(Paths {
+        program,
+        certificate,
+        script,
+    })
+}
+
+// The file that takes the result of a job, if it is not standard output.
+fn output_in(values: &Values<'_, '_>, job: &Job) -> Result<Option<String>, UsageFault>
+    ensures value { IfOk result (λ output. option_map string_bytes output ≡ destination_in (values_in values.now.matches.now)) }
+    ensures fault { IfErr result (Refuses values.now.name.now (values_in values.now.matches.now)) }
+{
+    let output = values.text("output");
+    if !values.is_given("in-place") {
+        return match output {
+            Some("-") | None => Ok(None),
+            Some(_) => Ok(values.free_path("output")?),
+        };
+    }
+    match job {
+        Job::Annotate {
+            emit: Emit::Text | Emit::Marks,
+        } if output.is_none() && values.text("program") != Some("-") => {
+            Ok(values.free_path("program")?)
+        }
+        _ => Err(values.fault(
+            ErrorKind::ArgumentConflict,
+            "with --in-place PROGRAM is a file, there is no --output, and the value of --emit is marks or text",
+        )),
+    }
+}
+
+// The names of the programs after the first.
+fn further_in(values: &Values<'_, '_>, job: &Job) -> Result<Vec<String>, AllocError>
+    ensures { IfOk result (λ names. map string_bytes names.items ≡ further_in job.now (values_in values.now.matches.now)) }
+{
+    match job {
+        Job::Explain { .. } => values.names("further"),
+        Job::Check {
+            certificate: CertificateSource::Least,
+            ..
+        } => values.names("certificate"),
+        _ => Ok(Vec::new(values.alloc)),
+    }
+}
+
+// Refuses a job that further programs cannot also have: they would share what is of one.
+fn expect_alone(values: &Values<'_, '_>, job: &Job, has_output: bool) -> Result<(), UsageFault>
+    ensures { IfErr result (Refuses values.now.name.now (values_in values.now.matches.now)) }
+{
+    let shared = if has_output {
+        "--output takes the result of one program"
+    } else {
+        match job {
+            Job::Explain {
+                certificate: Some(_),
+                ..
+            } => "--certificate is that of one program",
+            Job::Explain {
+                script: Some(_),
+                ..
+            } => "--script is that of one program",
+            Job::Explain {
+                format: Format::Sarif | Format::Json,
+                ..
+            } => "--format sarif and --format json write of one program",
+            _ => return Ok(()),
+        }
+    };
+    let message = format!(in values.alloc; "{shared}: give each program a command of its own")?;
+    Err(values.fault(ErrorKind::ArgumentConflict, message.as_str()))
+}

@@ -1,0 +1,3 @@
+pub mod Froms
+pub mod Starts
+pub mod Judging

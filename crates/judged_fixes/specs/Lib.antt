@@ -1,0 +1,4 @@
+pub mod Mended
+pub mod Proposed
+pub mod Right
+pub mod Fixed

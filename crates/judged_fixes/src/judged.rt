@@ -1,0 +1,183 @@
+//! Fixes for wrong marks, which are made together and judged, or one by one.
+
+ghost use Rattle.std.specs.Prelude.{◌≡◌, Ok, IfOk, IfSome};
+ghost use Rattle.std.specs.List.{All};
+ghost use Rattle.annotator.specs.Least.{IsLeast};
+ghost use Rattle.judged_fixes.specs.Fixed.{AreSameErrors, IsFixed, besides_help};
+ghost use Rattle.judged_fixes.specs.Proposed.{IsProposed};
+
+use crate::fixed::Fixed;
+use crate::judge::{Marks, is_gone, marks_of};
+use crate::mended::mended;
+use crate::proposal::{Proposed, has_fix, proposal};
+use diagnostics::diagnostic::{Diagnostic, Help};
+use diagnostics::helps::in_words;
+use diagnostics::listed::Listed;
+use mark_checker::finding::Finding;
+use mark_diagnostics::told::first_told;
+use mask_certificate::certificate::Cert;
+use std::alloc::{AllocError, Global};
+use task_descriptor::program::Program;
+
+/// How often the checker runs at most where the fixes together do not make the marks right.
+pub const MOST_RUNS: usize = 16;
+
+/// The errors of a text, as they are said, and the text with the fixes made that were judged.
+#[derive(Debug, Drop)]
+pub struct Judged {
+    /// The errors. One whose fix leaves it in place is told as words alone.
+    pub errors: Vec<Diagnostic>,
+    /// The text with fixes; `None` where there is none to make.
+    pub fixed: Option<Fixed>,
+}
+
+// A text with a proposal made in it; `None` where it proposes nothing, or what comes out cannot be read.
+fn made(
+    alloc: Global,
+    text: &[u8],
+    said: &[Diagnostic],
+    proposal: &Proposed,
+) -> Result<Option<Fixed>, AllocError>
+    requires { All (IsProposed text.now said.now) proposal.now.edits.items }
+    ensures { IfOk result (λ found. IfSome found (IsFixed text.now said.now)) }
+{
+    if proposal.from.is_empty() {
+        return Ok(None);
+    }
+    let new = mended(alloc, text, &proposal.edits)?;
+    let marks = marks_of(alloc, &new)?;
+    if marks == Marks::Unread {
+        return Ok(None);
+    }
+    Ok(Some(Fixed {
+        text: Listed::new(new),
+        fixes: proposal.from.len(),
+        is_right: marks.are_right(),
+    }))
+}
+
+// The places of the errors whose fix makes them go, and of those whose fix does not.
+#[derive(Drop)]
+struct Tried {
+    good: Vec<usize>,
+    bad: Vec<usize>,
+}
+
+// Tries fixes one by one, as many as there may be runs of the checker before the last one.
+fn try_each(
+    alloc: Global,
+    text: &[u8],
+    said: &[Diagnostic],
+    findings: &[Finding],
+) -> Result<Tried, AllocError> {
+    let mut good = Vec::new(alloc);
+    let mut bad = Vec::new(alloc);
+    for (place, finding) in findings.iter().enumerate() {
+        if good.len().saturating_add(bad.len()) >= MOST_RUNS - 1 {
+            break;
+        }
+        if said.get(place).is_some_and(has_fix) {
+            let alone = proposal(alloc, text, said, Some(&[place]))?;
+            let new = mended(alloc, text, &alone.edits)?;
+            if is_gone(alloc, &new, finding)? {
+                good.push(place)?;
+            } else {
+                bad.push(place)?;
+            }
+        }
+    }
+    Ok(Tried { good, bad })
+}
+
+// A help in words alone.
+fn without_replacements(alloc: Global, help: Help) -> Help {
+    in_words(alloc, help.message)
+}
+
+// Leaves of a diagnostic's help its words alone.
+fn tell_in_words(alloc: Global, said: &mut Diagnostic)
+    ensures { besides_help said.new ≡ besides_help said.old }
+{
+    let help = said.help.take();
+    said.help = help.map(|help| without_replacements(alloc, help));
+}
+
+// Leaves of the helps of the errors at these places their words alone.
+fn tell_all_in_words(alloc: Global, errors: &mut Vec<Diagnostic>, places: &[usize])
+    ensures { AreSameErrors errors.new.items errors.old.items }
+{
+    for place in places {
+        if let Some(said) = errors.get_mut(*place) {
+            tell_in_words(alloc, said);
+        }
+    }
+}
+
+// The places of the errors whose fix is not among those from these places.
+fn left_out(
+    alloc: Global,
+    errors: &[Diagnostic],
+    from: &[usize],
+) -> Result<Vec<usize>, AllocError> {
+    let mut left = Vec::new(alloc);
+    for (place, error) in errors.iter().enumerate() {
+        if has_fix(error) && !from.contains(&place) {
+            left.push(place)?;
+        }
+    }
+    Ok(left)
+}
+
+// Whether a text with fixes is right.
+fn is_right(fixed: &Option<Fixed>) -> bool {
+    match fixed {
+        Some(fixed) => fixed.is_right,
+        None => false,
+    }
+}
+
+/// Judges the fixes that the errors of a program's marks propose: all of them together, and where that does not make the
+/// marks right, some of them alone, of which those are made that make their error go.
+///
+/// # Errors
+///
+/// `AllocError` where memory was refused.
+pub fn judge_fixes(
+    alloc: Global,
+    text: &[u8],
+    program: &Program,
+    least: &Cert,
+    mut errors: Vec<Diagnostic>,
+) -> Result<Judged, AllocError>
+    requires { IsLeast program.now least.now }
+    ensures same { IfOk result (λ judged. AreSameErrors judged.errors.items errors.items) }
+    ensures fixed { IfOk result (λ judged. IfSome judged.fixed (IsFixed text.now errors.items)) }
+{
+    let all = proposal(alloc, text, &errors, None)?;
+    if all.from.is_empty() {
+        return Ok(Judged {
+            errors,
+            fixed: None,
+        });
+    }
+    let together = made(alloc, text, &errors, &all)?;
+    if is_right(&together) {
+        let left = left_out(alloc, &errors, &all.from)?;
+        tell_all_in_words(alloc, &mut errors, &left);
+        return Ok(Judged {
+            errors,
+            fixed: together,
+        });
+    }
+    let findings = first_told(alloc, program, least, errors.len())?;
+    let tried = try_each(alloc, text, &errors, &findings.0)?;
+    let some = proposal(alloc, text, &errors, Some(&tried.good))?;
+    let fixed = made(alloc, text, &errors, &some)?;
+    let left = if is_right(&fixed) {
+        left_out(alloc, &errors, &some.from)?
+    } else {
+        tried.bad
+    };
+    tell_all_in_words(alloc, &mut errors, &left);
+    Ok(Judged { errors, fixed })
+}

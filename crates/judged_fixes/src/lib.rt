@@ -1,0 +1,11 @@
+//! Fixes that are judged. What helps propose to write is written into a copy of the text, and the assembler and the
+//! checker say of that copy whether its marks are right. How a proposal was found does not matter.
+#![tactic(auto)]
+
+pub mod edit;
+pub mod fixed;
+pub mod judge;
+pub mod judged;
+pub mod mended;
+mod places;
+pub mod proposal;

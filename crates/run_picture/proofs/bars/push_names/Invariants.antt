@@ -1,7 +1,0 @@
--- The names of the lives so far.
-use Rattle.std.proofs.Common.{◌≡◌, ◌++◌, take}
-use Rattle.run_picture.specs.Bars.{names_of}
-use Rattle.run_picture.proofs.bars.push_names.Given as goal
-
-abbrev pub invariant-loop-life : goal.invariant-loop-life
-invariant-loop-life l = l.shapes.items ≡ l.initial.shapes.items ++ names_of l.tasks l.events (take l.life-index l.lives)

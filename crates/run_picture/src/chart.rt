@@ -1,0 +1,104 @@
+//! What a picture is of, and its shapes.
+
+ghost use Rattle.std.specs.Prelude.{◌≡◌, ◌<◌, ◌≤◌, IfOk, length, nat_le};
+ghost use Rattle.machine_model.specs.Answer.{most_events};
+ghost use Rattle.machine_model.specs.Runs.{events_of};
+ghost use Rattle.task_lives.specs.Lives.{AllFit};
+ghost use Rattle.task_lives.specs.Sums.{AreFew};
+ghost use Rattle.run_picture.specs.Meanings.{meanings};
+ghost use Rattle.run_picture.specs.Charts.{HasRoom, IsChartOfEvents, told};
+
+use crate::bars::{halted_unit, push_bars, push_waits};
+use crate::events::{numbers_to, single_events};
+use crate::marks::push_marks;
+use crate::shape::{Axis, Counted, Shape, Wait};
+use crate::stretches::push_shares;
+use machine_model::event::{Event, EventRun, Standing};
+use std::alloc::{AllocError, Global};
+use task_lives::life::Life;
+use task_lives::lives::lives_of_runs;
+use task_lives::tally::{Tally, add_up};
+
+/// The most events or steps that are drawn singly; more are summed by stretches.
+pub const MOST_SINGLE: u32 = 2_000;
+
+/// What a picture is of: the lives, events and waits of a run, and in which columns they come.
+#[derive(Drop)]
+pub struct Chart {
+    /// How many columns and units there are.
+    pub axis: Axis,
+    /// The column of each event, from 1.
+    pub columns: Vec<u32>,
+    /// The events.
+    pub events: Vec<Event>,
+    /// The lives; their first and last events are columns, from 0.
+    pub lives: Vec<Life>,
+    /// Their tally.
+    pub tally: Tally,
+    /// The unit that halted; if none did, a number that no unit has.
+    pub halted: u32,
+    /// The waits, which pictures of steps have.
+    pub waits: Vec<Wait>,
+}
+
+impl Chart {
+    /// Whether events or steps are drawn singly.
+    pub fn is_single(&self) -> bool
+        ensures { result ≡ nat_le self.now.axis.count 2000 }
+    {
+        self.axis.count <= MOST_SINGLE
+    }
+}
+
+/// What a picture of the events of a history of `units` units is of; it is known how the run stands, or not. The history
+/// has at most 1,000,000 events, and no event of it is at a position where there is no unit. An error means that memory was
+/// refused.
+pub fn chart_of_events(
+    alloc: Global,
+    units: u32,
+    standing: Option<Standing>,
+    runs: &[EventRun],
+) -> Result<Chart, AllocError>
+    requires some { 0 < units }
+    requires room { length (events_of runs.now) ≤ most_events }
+    requires fit { AllFit 0 (events_of runs.now) }
+    ensures chart { IfOk result (IsChartOfEvents units standing (events_of runs.now)) }
+    ensures room { IfOk result HasRoom }
+{
+    let events = single_events(alloc, runs)?;
+    let lives = lives_of_runs(alloc, runs, units)?;
+    let count = events.len() as u32;
+    let columns = numbers_to(alloc, count)?;
+    let tally = add_up(&lives);
+    Ok(Chart {
+        axis: Axis {
+            counted: Counted::Events,
+            units,
+            count,
+        },
+        columns,
+        events,
+        lives,
+        tally,
+        halted: halted_unit(units, tally.retired, standing),
+        waits: Vec::new(alloc),
+    })
+}
+
+/// The shapes of a chart: of its lives, its waits and its events, or of the stretches of a long run. An error means that
+/// memory was refused.
+pub fn shapes_of(alloc: Global, chart: &Chart) -> Result<Vec<Shape>, AllocError>
+    requires { HasRoom chart.now }
+    ensures { IfOk result (λ shapes. meanings shapes.items ≡ told chart.now) }
+{
+    let mut shapes = Vec::new(alloc);
+    if chart.is_single() {
+        let axis = chart.axis;
+        push_bars(&mut shapes, axis, chart.halted, &chart.lives)?;
+        push_waits(&mut shapes, axis, &chart.waits)?;
+        push_marks(&mut shapes, axis, &chart.columns, &chart.events)?;
+    } else {
+        push_shares(alloc, &mut shapes, chart)?;
+    }
+    Ok(shapes)
+}

@@ -1,9 +1,0 @@
-pub mod Limits
-pub mod Pieces
-mod Walks
-pub mod Unplaced
-mod Alone
-mod Fitting
-mod TokenSteps
-mod FirstFaults
-mod NumberedRows

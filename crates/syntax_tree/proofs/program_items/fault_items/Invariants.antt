@@ -1,7 +1,0 @@
--- What was found, with what is found in the items that are left, is all.
-use Rattle.std.proofs.Common.{◌≡◌, ◌++◌, map, drop}
-use Rattle.syntax_tree.specs.ProgramItems.{fault_items}
-use Rattle.syntax_tree.proofs.program_items.fault_items.Given as goal
-
-abbrev pub invariant-loop-item : goal.invariant-loop-item
-invariant-loop-item l = map (λ item. item.now) l.found.items ++ fault_items (drop l.item-index l.items) ≡ fault_items l.items

@@ -1,0 +1,107 @@
+//! What to write in a line that cannot be read.
+
+ghost use Rattle.std.specs.Prelude.{◌≡◌, true, IfOk, IfSome};
+ghost use Rattle.std.specs.List.{All};
+ghost use Rattle.text_diagnostics.specs.Mending.{mends};
+
+use crate::advice::Made;
+use crate::faulty_line::FaultyLine;
+use crate::mending::mends;
+use diagnostics::quotation::as_shown;
+use diagnostics::words::Words;
+use operand_forms::bytes::{byte_at, bytes_at};
+use operand_forms::candidates::candidates;
+use operand_forms::line_fault::LineFaultKind;
+use program_tokens::span::TokenSpan as Place;
+
+/// The most bytes that are written anew at the end of a line, as much as a message quotes.
+const MOST_WRITTEN: usize = 40;
+
+/// What stands from the place on with one comma before each operand, where one comma more does not do.
+fn with_commas(wrong: &FaultyLine<'_>) -> Made<Option<Vec<u8>>> {
+    if matches!(wrong.first(), b',' | b'!') {
+        return Ok(None);
+    }
+    let mut text = Vec::new(wrong.alloc);
+    for place in wrong.reading.places.as_slice() {
+        let first = byte_at(wrong.line, *place);
+        if place.column < wrong.place.column || first == b',' {
+            continue;
+        }
+        text.push(if first == b'!' { b' ' } else { b',' })?;
+        text.extend_from_slice(bytes_at(wrong.line, *place))?;
+    }
+    let mut one = b",".to_vec(wrong.alloc)?;
+    one.extend_from_slice(wrong.meant())?;
+    let is_one = wrong.reads_with(wrong.place, &one)?;
+    Ok(if is_one { None } else { Some(text) })
+}
+
+/// What stands from the place on without braces, in a statement with lists.
+fn without_braces(wrong: &FaultyLine<'_>) -> Made<Option<Vec<u8>>> {
+    let word = wrong.word();
+    if word != ".task".as_bytes() && word != "release".as_bytes() {
+        return Ok(None);
+    }
+    let mut text = Vec::new(wrong.alloc);
+    for byte in bytes_at(wrong.line, wrong.rest()) {
+        if !matches!(*byte, b'{' | b'}') {
+            text.push(*byte)?;
+        }
+    }
+    Ok(if text.is_empty() { None } else { Some(text) })
+}
+
+/// A text as it is shown, where it mends a line in place of what is wrong.
+fn judged(wrong: &FaultyLine<'_>, text: &[u8]) -> Made<Option<Words>>
+    ensures { IfOk result (λ fix. IfSome fix (λ words. mends wrong.now.kind wrong.now.section wrong.now.line.now wrong.now.place words ≡ true)) }
+{
+    let words = as_shown(wrong.alloc, text)?;
+    let FaultyLine {
+        alloc,
+        kind,
+        section,
+        line,
+        place,
+        ..
+    } = *wrong;
+    if mends(alloc, kind, section, line, place, words.as_str().as_bytes())? {
+        return Ok(Some(words));
+    }
+    Ok(None)
+}
+
+/// What is to stand from a line's place on to its end: operands with all their commas, or lists without braces.
+pub(crate) fn rest_fix(wrong: &FaultyLine<'_>, rest: Place) -> Made<Option<Words>>
+    ensures { IfOk result (λ fix. IfSome fix (λ words. mends wrong.now.kind wrong.now.section wrong.now.line.now rest words ≡ true)) }
+{
+    if rest.len > MOST_WRITTEN {
+        return Ok(None);
+    }
+    let text = match wrong.kind {
+        LineFaultKind::Operand => with_commas(wrong)?,
+        LineFaultKind::Token => without_braces(wrong)?,
+        _ => None,
+    };
+    let Some(text) = text else {
+        return Ok(None);
+    };
+    let words = as_shown(wrong.alloc, &text)?;
+    if wrong.reads_with(rest, words.as_str().as_bytes())? {
+        return Ok(Some(words));
+    }
+    Ok(None)
+}
+
+/// The texts that mend a line, in place of what is wrong in it.
+pub(crate) fn fixes(wrong: &FaultyLine<'_>) -> Made<Vec<Words>>
+    ensures { IfOk result (λ list. All (λ words. mends wrong.now.kind wrong.now.section wrong.now.line.now wrong.now.place words ≡ true) list.items) }
+{
+    let mut list = Vec::new(wrong.alloc);
+    for text in candidates(wrong.alloc, wrong.kind, wrong.meant())? {
+        if let Some(words) = judged(wrong, &text)? {
+            list.push(words)?;
+        }
+    }
+    Ok(list)
+}
