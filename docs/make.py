@@ -118,8 +118,9 @@ def crates():
             name = re.match(r"\w+", line)[0]
             file = next(it for it in (CRATES / name / "src" / "lib.rt", CRATES / name / "src" / "main.rt") if it.is_file())
             comment = " ".join(re.findall(r"^//! ?(.*)$", file.read_text(), re.M))
-            said = one_line(re.split(r"(?<=[a-z0-9)])[.;](?: |$)", re.sub(r" \([^)]*ISCA[^)]*\)", "", comment))[0].rstrip("."))
-            lines.append(f"- `{name}`: {said[:1].lower() + said[1:]}" if said else f"- `{name}`")
+            comment = re.sub(r" \([^)]*ISCA[^)]*\)", "", one_line(comment))
+            said = re.match(r"(?:\S+ ){,2}\S+:.*?(?=[:;.]( |$))|.*?(?=[:;.]( |$))", comment)[0]
+            lines.append(f"- `{name}`: {said[:1].lower() + said[1:]}")
     return "\n".join(lines).strip()
 
 
