@@ -6,8 +6,9 @@
 
 Options and subcommands come from the table of `--help` (crates/command_line/src/table.rt), values from job.rt beside it,
 faults from the enums, limits from the constants, crates from crates.txt and the first sentence of each, and what a caller
-must ensure from the contracts. A made part stands between two comments, `made: NAME` and `end of NAME`, in a page, in
-the man page or in a completion. With PROGRAM, the built `multiscalar`, its `--help` must have each option and each text of the table.
+must ensure (docs/REQUIRES.txt) from the contracts. A made part stands between two comments, `made: NAME` and `end of NAME`,
+in a page, the man page or a completion. With PROGRAM, the built `multiscalar`, its `--help` must have each option and each
+text of the table.
 """
 import argparse
 import pathlib
@@ -17,7 +18,6 @@ import sys
 
 TOP = pathlib.Path(__file__).resolve().parent.parent
 CRATES = TOP / "crates"
-LINE = CRATES / "command_line" / "src"
 TEXT = r'"((?:[^"\\]|\\.)*)"'
 # The lists of values in job.rt; those of `annotate --emit`, `--axis` and `--predict` are matched there, not listed.
 LISTS = {("explain", "format"): "FORMATS", ("explain", "color"): "COLORS", ("run", "schedule"): "SCHEDULES",
@@ -136,9 +136,7 @@ def required():
                 owner = re.findall(r"^impl(?:<[^>]*>)? (?:[\w<>, ]+ for )?(\w+)", text[:found.start()], re.M) if found[1] else []
                 if clauses:
                     rows.setdefault(clauses, []).append("::".join([*owner[-1:], found[2]]))
-        if rows:
-            said = (", ".join(f"`{it}`" for it in names) + ": " + ", ".join(f"`{it}`" for it in clauses) for clauses, names in rows.items())
-            lines.append(f"- **{name}** " + "; ".join(said))
+        lines += [name] * bool(rows) + [f"    {', '.join(names)}: {', '.join(clauses)}" for clauses, names in rows.items()]
     return "\n".join(lines)
 
 
@@ -278,7 +276,7 @@ def main():
     options.add_argument("--check", action="store_true")
     options.add_argument("program", metavar="PROGRAM", nargs="?", type=pathlib.Path)
     given = options.parse_args()
-    files = [TOP / "man/multiscalar.1", *sorted((TOP / "completions").iterdir()), *sorted((TOP / "docs").glob("*.md"))]
+    files = [TOP / "man/multiscalar.1", *sorted((TOP / "completions").iterdir()), *sorted((TOP / "docs").glob("*.md")), TOP / "docs/REQUIRES.txt"]
     found = list(differences(given.program and given.program.resolve()))
     for path in files:
         old = path.read_text()
