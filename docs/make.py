@@ -120,6 +120,8 @@ def crates():
             comment = " ".join(re.findall(r"^//! ?(.*)$", file.read_text(), re.M))
             comment = re.sub(r" \([^)]*ISCA[^)]*\)", "", one_line(comment))
             said = re.match(r"(?:\S+ ){,2}\S+:.*?(?=[:;.]( |$))|.*?(?=[:;.]( |$))", comment)[0]
+            short = re.match(r"(?:\S+ ){3,}?\S+(?=, )", said) if said.count(" ") > 10 and ":" not in said else None
+            said = short[0] if short else said
             lines.append(f"- `{name}`: {said[:1].lower() + said[1:]}")
     return "\n".join(lines).strip()
 
