@@ -15,6 +15,7 @@ import pathlib
 import re
 import subprocess
 import sys
+import textwrap
 
 TOP = pathlib.Path(__file__).resolve().parent.parent
 CRATES = TOP / "crates"
@@ -144,13 +145,19 @@ def required():
 
 # ---------------------------------------------------------------- pages
 def commands():
-    usages = "\n".join(it for _, _, usage, _ in subcommands() for it in usage)
-    lines = ["```", usages.replace("<", "").replace(">", ""), "```", "", "| Of | Option | Default | |", "|---|---|---|---|"]
-    for of, name, letter, value, default, said in arguments():
-        spelled = "".join(f"`-{it}` " for it in letter) + f"`--{name}" + (f" {value}`" if value else "`")
-        said = said.replace("|", "\\|")
-        lines.append(f"| {'all' if len(of) == len(subcommands()) else ', '.join(of)} | {spelled} | {default or ''} | {said} |")
-    return "\n".join(lines)
+    """Each subcommand with its options, their values and, after a `=`, what they are if not given."""
+    lines = ["```"]
+    for name, _, usages, _ in subcommands():
+        words = ["[-o FILE]"]
+        for of, option, _, value, default, _ in options_of(name):
+            listed = values(of, option) if option not in ("units", "workers") else []
+            own = f" = {default}" if default in (*listed, "first") or (default or "").isdigit() else ""
+            words.append(f"[--{option}{' ' + ('|'.join(listed) or value) if value else ''}{own}]")
+        words = [it.replace(" ", "\0") for it in words if it != "[--least]" and not it.startswith("[--output")]
+        for number, usage in enumerate(usages):
+            whole = re.sub("[<>]", "", usage).replace("[OPTIONS]", "[..]" if number else " ".join(words))
+            lines += textwrap.wrap(whole, 118, subsequent_indent="    ", break_on_hyphens=False)
+    return "\n".join([*lines, "```"]).replace("\0", " ")
 
 
 def status():
