@@ -274,9 +274,8 @@ def differences(program):
     yield from (f"docs/FORMATS.md lacks the instruction {it}" for it in sorted(instructions - shown))
     for name in names() if program else ():
         said = one_line(subprocess.run([program, name, "--help"], capture_output=True, text=True, check=True).stdout)
-        own = options_of(name)
-        yield from (f"{name} --help lacks --{option}: {told}" for _, option, _, _, _, told in own if f"--{option}" not in said or told not in said)
-        more = set(re.findall(r"(?<=\s)--([a-z-]+) ?(?:<\w+> )?(?=[A-Z])", said.split(" Options: ")[1])) - {it[1] for it in own} - {"help"}
+        yield from (f"{name} --help lacks --{it[1]}: {it[5]}" for it in options_of(name) if f"--{it[1]}" not in said or it[5] not in said)
+        more = set(re.findall(r"(?<=\s)--([a-z-]+) ?(?:<\w+> )?(?=[A-Z])", said.split(" Options: ")[1])) - {it[1] for it in options_of(name)} - {"help"}
         yield from (f"{name} --help has --{it}, and the table does not" for it in sorted(more))
 
 
@@ -288,13 +287,11 @@ def main():
     files = [TOP / "man/multiscalar.1", *sorted((TOP / "completions").iterdir()), *sorted((TOP / "docs").glob("*.md")), TOP / "docs/REQUIRES.txt"]
     found = list(differences(given.program and given.program.resolve()))
     for path in files:
-        old = path.read_text()
-        new = made(old)
-        if old != new and given.check:
+        new = made(path.read_text())
+        if new != path.read_text() and given.check:
             found.append(f"{path.relative_to(TOP)} is not as docs/make.py makes it")
-        elif old != new:
+        elif new != path.read_text():
             path.write_text(new)
-            print(f"{path.relative_to(TOP)}: written")
     print(*found, sep="\n") if found else print("pages, man page and completions are as the sources have it")
     sys.exit(1 if found else 0)
 
