@@ -27,12 +27,8 @@ LISTS = {("explain", "format"): "FORMATS", ("explain", "color"): "COLORS", ("run
 VALUES = {("annotate", "emit"): "text cert keep marks", ("run", "axis"): "events steps", ("run curve", "predict"): "first last"}
 
 
-def source(path):
-    return (CRATES / path).read_text()
-
-
-def one_line(text):
-    return re.sub(r"\s+", " ", text).strip()
+source = lambda path: (CRATES / path).read_text()
+one_line = lambda text: re.sub(r"\s+", " ", text).strip()
 
 
 # ---------------------------------------------------------------- what the sources know
@@ -121,8 +117,8 @@ def crates():
             comment = " ".join(re.findall(r"^//! ?(.*)$", file.read_text(), re.M))
             comment = re.sub(r" \([^)]*ISCA[^)]*\)", "", one_line(comment))
             said = re.match(r"(?:\S+ ){,2}\S+:.*?(?=[:;.]( |$))|.*?(?=[:;.]( |$))", comment)[0]
-            short = re.match(r"(?:\S+ ){3,}?\S+(?=, )", said) if said.count(" ") > 10 and ":" not in said else None
-            said = short[0] if short else said
+            if said.count(" ") > 10 and ":" not in said:
+                said = (re.match(r"(?:\S+ ){3,}?\S+(?=, )", said) or [said])[0]
             lines.append(f"- `{name}`: {said[:1].lower() + said[1:]}")
     return "\n".join(lines).strip()
 
@@ -210,7 +206,7 @@ def statuses():
 def short(said):
     """What an option does, in a few words."""
     said = re.split(r" ?[:.;(]", re.sub(r"^With --[\w-]+ \w+: ", "", said))[0]
-    return (said[:1].lower() + said[1:]).replace("'", "’").replace("[", "").replace("]", "")
+    return re.sub(r"[][]", "", said[:1].lower() + said[1:]).replace("'", "’")
 
 
 def bash_options():
