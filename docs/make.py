@@ -148,6 +148,7 @@ def commands():
         for of, option, _, value, default, _ in options_of(name):
             listed = values(of, option) if option not in ("units", "workers") else []
             own = f" = {default}" if default in (*listed, "first") or (default or "").isdigit() else ""
+            listed = [*listed, "LIST"] if option == "predict" else listed
             words.append(f"[--{option}{' ' + ('|'.join(listed) or value) if value else ''}{own}]")
         words = [it.replace(" ", "\0") for it in words if it != "[--least]" and not it.startswith("[--output")]
         for number, usage in enumerate(usages):
