@@ -40,7 +40,7 @@ committed() { git archive --format=tar HEAD -- "$@" | tar -xf - -C "$root"; }
 
 committed README.md CHANGELOG.md CONTRIBUTING.md LICENSE-APACHE LICENSE-MIT docs examples man completions syntax compiler
 # Pages to which those link.
-committed bench/README.md fuzz/README.md fuzz/results.txt fuzz/entry/README.md web/README.md
+committed bench/README.md bench/results.txt fuzz/README.md fuzz/results.txt fuzz/entry/README.md web/README.md
 rm -f "$root"/examples/*.py "$root"/docs/*.py
 cp release/install.sh "$root/install.sh"
 install -m 755 "$program" "$root/multiscalar"
