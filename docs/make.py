@@ -106,7 +106,7 @@ def limits():
 
 
 def crates():
-    """The layers of crates.txt, with the first sentence of each crate."""
+    """The layers of crates.txt, with the first words of each crate; of tests the names alone."""
     lines = []
     for line in (TOP / "crates.txt").read_text().splitlines()[1:]:
         if line.startswith("#"):
@@ -119,7 +119,7 @@ def crates():
             said = re.match(r"(?:\S+ ){,2}\S+:.*?(?=[:;.]( |$))|.*?(?=[:;.]( |$))", comment)[0]
             if said.count(" ") > 10 and ":" not in said:
                 said = (re.match(r"(?:\S+ ){3,}?\S+(?=, )", said) or [said])[0]
-            lines.append(f"- `{name}`: {said[:1].lower() + said[1:]}")
+            lines.append(f"- `{name}`" + ("" if name.startswith("test_") else f": {said[:1].lower() + said[1:]}"))
     return "\n".join(lines).strip()
 
 
