@@ -1,6 +1,6 @@
--- What the values of a subcommand ask for, and when they have one of the two faults that have a name of their own. What
--- the words of an option stand for is said here of `--predict`, and of `--emit` of `annotate`.
-use Rattle.std.specs.Prelude.{◌≡◌, ◌≢◌, ℕ, Bool, true, false, not, List, [], map, Option, Some, None, ⊤, if◌then◌else◌, codes, option_and_then, unwrap_or}
+-- What words and the values of a subcommand ask for, and when they have one of the two faults that have a name of their
+-- own. What the words of an option stand for is said here of `--predict`, and of `--emit` of `annotate`.
+use Rattle.std.specs.Prelude.{◌≡◌, ◌≢◌, ℕ, Bool, true, false, not, List, [], map, Option, Some, None, ⊤, Contains, if◌then◌else◌, codes, option_and_then, slice_get, unwrap_or}
 use Rattle.std.specs.String.{string_bytes}
 use Rattle.std.specs.Option.{option_map, option_map_or}
 use Rattle.std.specs.Str.{bytes_eq}
@@ -124,6 +124,20 @@ abbrev pub Refuses : Text → List Row → UsageFault → Type 0
 Refuses name values Predict = (name ≡ codes "run") × (predict_in values ≡ None)
 Refuses name values EmitFault = (name ≡ codes "annotate") × (emit_in values ≡ None)
 Refuses name values fault = ⊤
+
+-- the words ask for this: the second names a subcommand, whose values give the request, and one is the program's file
+pub record IsRequestOf (words : List Text) (request : Request) : Type 0 where
+  pub name : Text
+  pub subcommand : slice_get words 1 ≡ Some name
+  pub values : List Row
+  pub requested : IsRequested name values request
+  pub program : Contains words (string_bytes request.paths.program)
+
+-- a fault that the words can have
+abbrev pub IsFaultOf : List Text → UsageFault → Type 0
+IsFaultOf words Predict = slice_get words 1 ≡ Some (codes "run")
+IsFaultOf words EmitFault = slice_get words 1 ≡ Some (codes "annotate")
+IsFaultOf words fault = ⊤
 
 -- a fault of `clap`'s, or memory ran out
 abbrev pub IsFrom : Error → UsageFault → Type 0
