@@ -1,6 +1,6 @@
 -- What `explain` says: what is wrong with a program text, or with the marks of its program, what could be better about
 -- them, and what is wrong with a certificate and with an event script that are given beside it.
-use Rattle.std.specs.Prelude.{◌≡◌, ℕ, Bool, true, false, not, ◌&&◌, List, [], ◌∷◌, ◌++◌, Option, Some, None, IfSome, Result, Ok, Err}
+use Rattle.std.specs.Prelude.{◌≡◌, ℕ, Bool, true, false, ◌&&◌, List, [], ◌∷◌, ◌++◌, Option, Some, None, IfSome, Result, Ok, Err}
 use Rattle.task_descriptor.specs.Listing.{Listing}
 use Rattle.annotated_asm.specs.declared.fault.AsmFault.{AsmFault}
 use Rattle.annotated_asm.specs.ProgramText.{parse}
@@ -15,6 +15,8 @@ use Rattle.input_diagnostics.specs.Advice.{IsErrorIn}
 use Rattle.input_diagnostics.specs.MistakenTexts.{mistaken_kind}
 use Rattle.input_diagnostics.specs.ScriptErrors.{AreScriptErrors}
 use Rattle.judged_fixes.specs.Fixed.{AreSameErrors, IsFixed}
+use Rattle.judged_fixes.specs.Right.{IsSaidOf}
+use Rattle.judged_fixes.specs.declared.judge.Marks.TheVariants.{Unread}
 use Rattle.explain_report.specs.declared.explanation.Explanation.{Explanation}
 use Rattle.explain_report.specs.Beside.{IsCertificateSaid, is_silent}
 use Rattle.explain_report.specs.Order.{in_order}
@@ -51,7 +53,7 @@ pub record IsProgramExplained (cert_file script_file : Option (List ℕ)) (warni
   pub scripted : List Diagnostic
   pub played : IsScriptSaid script_file p script scripted
   pub said : e.said ≡ in_order (told ++ (warned ++ (beside ++ scripted)))
-  pub marked : e.has_wrong_marks ≡ not (is_silent errors)
+  pub marked : IsSaidOf p e.marks
   pub status : e.status ≡ said_status (errors ++ (beside ++ scripted))
 
 -- The diagnostics for a text that spells no program: the fault at which the assembler stops is among them; or only what it
@@ -63,7 +65,7 @@ IsRefusedBy (Some kind) text fault said = (d : Diagnostic) × IsErrorIn Program 
 pub record IsRefusedSaid (text : List ℕ) (fault : AsmFault) (e : Explanation) : Type 0 where
   pub errors : List Diagnostic
   pub wrong : IsRefusedBy (mistaken_kind text) text fault errors
-  pub is : e ≡ record { said = in_order errors; has_wrong_marks = false; status = 1; fixed = None }
+  pub is : e ≡ record { said = in_order errors; marks = Unread; status = 1; fixed = None }
 
 abbrev pub IsReadExplained : (cert_file script_file : Option (List ℕ)) → (warnings : Bool) → (text certificate script : List ℕ) → Result Listing AsmFault → Explanation → Type 0
 IsReadExplained cert_file script_file warnings text certificate script (Ok p) e =
