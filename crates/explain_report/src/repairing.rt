@@ -1,5 +1,5 @@
 //! `explain --fix`: the author's text with the fixes that were judged, and what is left.
-ghost use Rattle.std.specs.Prelude.{IfOk};
+ghost use Rattle.std.specs.Prelude.{◌≡◌, IfOk};
 ghost use Rattle.std.specs.Option.{option_map};
 ghost use Rattle.std.specs.String.{string_bytes};
 ghost use Rattle.explain_report.specs.Repairs.{IsRepaired};
@@ -12,7 +12,6 @@ use crate::repaired::Repaired;
 use diagnostics::diagnostic::{Diagnostic, Severity, Source};
 use diagnostics::listed::Listed;
 use jobs::job::{Colors, Format, Texts};
-use judged_fixes::fixed::Fixed;
 use judged_fixes::judge::Marks;
 use shown_names::name::shown_name;
 use std::alloc::{AllocError, Global};
@@ -59,42 +58,41 @@ pub fn repair(
         script,
         &before,
     )?;
-    let Explanation {
-        said: diagnostics,
-        marks,
-        status,
-        fixed,
-    } = before;
-    let Some(
-        Fixed {
-            text: new,
-            fixes,
-            ..
-        },
-    ) = fixed
-    else {
-        let line = line_of(alloc, name, 0, marks, diagnostics.as_slice())?;
-        return Ok(Repaired {
-            said,
-            text: Listed::new(text.to_vec(alloc)?),
-            marks,
-            status,
-            line,
-        });
-    };
-    let after = explained(
-        alloc,
-        cert_file,
-        script_file,
-        warnings,
-        new.as_slice(),
-        &certificate,
-        script,
-    )?;
-    let line = line_of(alloc, name, fixes, after.marks, after.said.as_slice())?;
+    match &before.fixed {
+        Some(fixed) => {
+            let new = fixed.text.as_slice();
+            let after = explained(
+                alloc,
+                cert_file,
+                script_file,
+                warnings,
+                new,
+                &certificate,
+                script,
+            )?;
+            repaired_as(alloc, name, said, new, fixed.fixes, &after)
+        }
+        None => repaired_as(alloc, name, said, text, 0, &before),
+    }
+}
+
+// What is written, where this is said of the text as it was, and then of the text with so many fixes.
+fn repaired_as(
+    alloc: Global,
+    name: &str,
+    said: Vec<u8>,
+    text: &[u8],
+    fixes: usize,
+    after: &Explanation,
+) -> Result<Repaired, AllocError>
+    ensures text { IfOk result (λ r. r.text ≡ text.now) }
+    ensures marks { IfOk result (λ r. r.marks ≡ after.now.marks) }
+    ensures status { IfOk result (λ r. r.status ≡ after.now.status) }
+{
+    let line = line_of(alloc, name, fixes, after)?;
     Ok(Repaired {
         said,
-        text: new,
+        text: Listed::new(text.to_vec(alloc)?),
         marks: after.marks,
         status: after.status,
         line,
@@ -106,8 +104,7 @@ fn line_of(
     alloc: Global,
     name: &str,
     fixes: usize,
-    marks: Marks,
-    said: &[Diagnostic],
+    after: &Explanation,
 ) -> Result<Vec<u8>, AllocError> {
     let name = shown_name(alloc, name)?;
     let mut line = String::new(alloc);
@@ -116,13 +113,13 @@ fn line_of(
         1 => write!(line, "multiscalar: {name}: 1 fix applied, ")?,
         _ => write!(line, "multiscalar: {name}: {fixes} fixes applied, ")?,
     }
-    match (marks, said.iter().filter(|one| is_error(one)).count()) {
+    let said = after.said.as_slice();
+    match (after.marks, said.iter().filter(|one| is_error(one)).count()) {
         (Marks::Right, _) => writeln!(line, "all marks are right")?,
         (_, 1) => writeln!(line, "1 error left")?,
-        (_, errors) if said.iter().any(|one| is_rest(one)) => writeln!(
-            line,
-            "more than {errors} errors left"
-        )?,
+        (_, errors) if said.iter().any(|one| is_rest(one)) => {
+            writeln!(line, "more than {errors} errors left")?
+        }
         (_, errors) => writeln!(line, "{errors} errors left")?,
     }
     Ok(line.into_bytes())

@@ -285,20 +285,13 @@ fn keep_fixed<D: Folder, O: Write, E: Write>(
         record { output = O.contents output.old; errors = E.contents errors.old; files = D.known folder.old }
         record { output = O.contents output.new; errors = E.contents errors.new; files = D.known folder.new } }
 {
-    let Repaired {
-        said,
-        text,
-        status,
-        line,
-        ..
-    } = repaired;
-    match replace(alloc, folder, path.as_str(), text.as_slice()) {
+    match replace(alloc, folder, path.as_str(), repaired.text.as_slice()) {
         Ok(()) => {
             let report = Written {
-                bytes: said,
-                status,
+                bytes: repaired.said,
+                status: repaired.status,
             };
-            show(&report, line.as_slice(), output, errors)
+            show(&report, repaired.line.as_slice(), output, errors)
         }
         Err(reason) => tell(&Fault::NotWritten(path, reason), output, errors),
     }
