@@ -22,6 +22,7 @@ use input_diagnostics::mistaken::{Mistaken, mistaken_error, mistaken_kind};
 use input_diagnostics::script::script_errors;
 use judged_fixes::judge::Marks;
 use judged_fixes::judged::judge_fixes;
+use judged_fixes::refused::judge_refusal;
 use mark_diagnostics::error::mark_errors;
 use mark_diagnostics::warning::mark_warnings;
 use mask_certificate::certificate::Cert;
@@ -95,12 +96,13 @@ fn refusal_explained(alloc: Global, text: &[u8], fault: AsmFault) -> Result<Expl
     ensures { IfOk result (IsRefusedSaid text.now fault) }
 {
     let errors = refused_said(alloc, text, fault)?;
-    let said = in_order(alloc, errors)?;
+    let judged = judge_refusal(alloc, text, fault, errors)?;
+    let said = in_order(alloc, judged.errors)?;
     Ok(Explanation {
         said: Listed::new(said),
         marks: Marks::Unread,
         status: 1,
-        fixed: None,
+        fixed: judged.fixed,
     })
 }
 

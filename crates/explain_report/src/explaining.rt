@@ -131,10 +131,10 @@ fn said_in(
     Ok(text.into_bytes())
 }
 
-// Whether what is told to write makes the marks right.
+// Whether what is told to write makes wrong marks right.
 fn mends(explained: &Explanation) -> bool {
     match &explained.fixed {
-        Some(fixed) => fixed.is_right,
+        Some(fixed) => fixed.is_right && explained.marks == Marks::Wrong,
         None => false,
     }
 }

@@ -14,6 +14,7 @@ pub struct Explanation {
     pub marks: Marks,
     /// 1 where something is wrong, else 0.
     pub status: u8,
-    /// The program text with fixes made in it, which were judged; `None` where there is none to make.
+    /// The text with fixes made in it, which were judged: of a refused text with that of its first fault. `None` where there
+    /// is none to make.
     pub fixed: Option<Fixed>,
 }
