@@ -5,7 +5,7 @@ _multiscalar_options() {
         seq) echo "--budget --output --help" ;;
         print) echo "--output --help" ;;
         annotate) echo "--emit --in-place --report --output --help" ;;
-        explain) echo "--certificate --script --format --color --no-warnings --output --help" ;;
+        explain) echo "--certificate --script --fix --in-place --format --color --no-warnings --output --help" ;;
         check) echo "--workers --least --output --help" ;;
         replay) echo "--units --emit --until --strict --least --output --help" ;;
         run) echo "--with-values --axis --units --budget --predict --workers --schedule --emit --least --output --help" ;;

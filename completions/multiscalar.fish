@@ -18,7 +18,7 @@ complete -c multiscalar -n "not __fish_seen_subcommand_from $subcommands" -a hel
 
 complete -c multiscalar -n '__fish_seen_subcommand_from seq print annotate explain check replay run curve demonstrate' -l help -d 'print the help'
 complete -c multiscalar -n '__fish_seen_subcommand_from seq print annotate explain check replay run curve demonstrate' -l output -s o -r -d 'where the result goes'
-complete -c multiscalar -n '__fish_seen_subcommand_from annotate' -l in-place -d 'replace the program text'
+complete -c multiscalar -n '__fish_seen_subcommand_from annotate explain' -l in-place -d 'replace the program text'
 complete -c multiscalar -n '__fish_seen_subcommand_from annotate' -l report -d 'say what is left to mend by hand'
 complete -c multiscalar -n '__fish_seen_subcommand_from seq run curve' -l budget -x -d 'when to end'
 complete -c multiscalar -n '__fish_seen_subcommand_from replay run curve demonstrate' -l units -x -a '1 2 4 8 16' -d 'how many units'
@@ -42,3 +42,4 @@ complete -c multiscalar -n '__fish_seen_subcommand_from explain' -l format -x -a
 complete -c multiscalar -n '__fish_seen_subcommand_from explain' -l script -r -d 'explain this script, too'
 complete -c multiscalar -n '__fish_seen_subcommand_from explain' -l color -x -a 'auto always never' -d 'whether it has colours'
 complete -c multiscalar -n '__fish_seen_subcommand_from explain' -l no-warnings -d 'say nothing of what costs speed'
+complete -c multiscalar -n '__fish_seen_subcommand_from explain' -l fix -d 'write the text with the fixes that were judged'

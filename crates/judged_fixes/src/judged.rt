@@ -1,16 +1,16 @@
 //! Fixes for wrong marks, which are made together and judged, or one by one.
 
-ghost use Rattle.std.specs.Prelude.{◌≡◌, Ok, IfOk, IfSome};
+ghost use Rattle.std.specs.Prelude.{◌≡◌, Ok, false, IfOk, IfSome};
 ghost use Rattle.std.specs.List.{All};
 ghost use Rattle.annotator.specs.Least.{IsLeast};
 ghost use Rattle.judged_fixes.specs.Fixed.{AreSameErrors, IsFixed, besides_help};
-ghost use Rattle.judged_fixes.specs.Proposed.{IsProposed};
+ghost use Rattle.judged_fixes.specs.Proposed.{IsProposed, has_fix};
 
 use crate::fixed::Fixed;
 use crate::judge::{Marks, is_gone, marks_of};
 use crate::mended::mended;
 use crate::proposal::{Proposed, has_fix, proposal};
-use diagnostics::diagnostic::{Diagnostic, Help};
+use diagnostics::diagnostic::Diagnostic;
 use diagnostics::helps::in_words;
 use diagnostics::listed::Listed;
 use mark_checker::finding::Finding;
@@ -89,17 +89,15 @@ fn try_each(
     Ok(Tried { good, bad })
 }
 
-// A help in words alone.
-fn without_replacements(alloc: Global, help: Help) -> Help {
-    in_words(alloc, help.message)
-}
-
-// Leaves of a diagnostic's help its words alone.
-fn tell_in_words(alloc: Global, said: &mut Diagnostic)
-    ensures { besides_help said.new ≡ besides_help said.old }
+/// Leaves of a diagnostic's help its words alone.
+pub(crate) fn tell_in_words(alloc: Global, said: &mut Diagnostic)
+    ensures same { besides_help said.new ≡ besides_help said.old }
+    ensures words { has_fix said.new ≡ false }
 {
-    let help = said.help.take();
-    said.help = help.map(|help| without_replacements(alloc, help));
+    said.help = match said.help.take() {
+        Some(help) => Some(in_words(alloc, help.message)),
+        None => None,
+    };
 }
 
 // Leaves of the helps of the errors at these places their words alone.
@@ -121,7 +119,7 @@ fn left_out(
 ) -> Result<Vec<usize>, AllocError> {
     let mut left = Vec::new(alloc);
     for (place, error) in errors.iter().enumerate() {
-        if has_fix(error) && !from.contains(&place) {
+        if has_fix(error) && from.binary_search(&place).is_err() {
             left.push(place)?;
         }
     }
