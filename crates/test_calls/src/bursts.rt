@@ -1,7 +1,7 @@
 //! Units that are lent, and bursts that are handed in.
 
 use crate::given::{accepted, apply_all, machine, register};
-use machine_model::event::{Event, EventRun};
+use machine_model::event::Event;
 use sequencer::machine::Machine;
 use std::alloc::Global;
 use std::process::Abort;
@@ -75,7 +75,7 @@ fn burst_log_grew(rt: HostRuntime) {
     hand_in(&rt, &mut machine, fresh, 64, 67);
 }
 
-// The first instruction sends $8, and the burst goes on.
+// The first instruction sends $8, and the burst goes on. Its equal events form one run of the history.
 #[test]
 fn burst_to_the_stop(rt: HostRuntime) {
     let accepted = accepted(&rt, rt.alloc(), COUNT, COUNT_CERTIFICATE);
@@ -84,6 +84,7 @@ fn burst_to_the_stop(rt: HostRuntime) {
     let whole = burst(&rt, &machine, 0, 4);
     assert!(rt; whole.ended() == Some(Wait::Stopped));
     hand_in(&rt, &mut machine, whole, 4, 5);
+    assert!(rt; machine.history().len() == 2);
 }
 
 /// The certificate of `COUNT` with $10 also in the mask of the last instruction of A.
@@ -143,27 +144,4 @@ fn burst_no_step(rt: HostRuntime) {
     apply_all(&rt, &mut machine, &events);
     let waiting = burst(&rt, &machine, 1, 0);
     hand_in(&rt, &mut machine, waiting, 0, 3);
-}
-
-const HISTORY: [EventRun; 2] = [
-    EventRun {
-        event: Event::Assign(0),
-        count: 1,
-    },
-    EventRun {
-        event: Event::Exec(0),
-        count: 4,
-    },
-];
-
-// Equal events in a row form one run, single events and those of a burst alike.
-#[test]
-fn burst_in_the_history(rt: HostRuntime) {
-    let accepted = accepted(&rt, rt.alloc(), COUNT, COUNT_CERTIFICATE);
-    let mut machine = machine(&rt, rt.alloc(), &accepted, 1);
-    let events = [Event::Assign(0), Event::Exec(0), Event::Exec(0)];
-    apply_all(&rt, &mut machine, &events);
-    let rest = burst(&rt, &machine, 0, 2);
-    hand_in(&rt, &mut machine, rest, 2, 5);
-    assert!(rt; machine.history() == HISTORY.as_slice());
 }

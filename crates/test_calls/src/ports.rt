@@ -2,8 +2,6 @@
 
 use crate::given::register;
 use mips_instructions::number::{Reg, RegSet};
-use register_ring::held::RegisterWords;
-use register_ring::members::next_member;
 use register_ring::port::{AlreadyThere, Port};
 use std::process::Abort;
 
@@ -76,10 +74,7 @@ const WORDS: [u32; 34] = [
 ];
 
 /// Other words.
-const FILLING: [u32; 34] = [
-    40, 41, 42, 43, 44, 45, 46, 47, 48, 49, 50, 51, 52, 53, 54, 55, 56, 57, 58, 59, 60, 61, 62, 63,
-    64, 65, 66, 67, 68, 69, 70, 71, 72, 73,
-];
+const FILLING: [u32; 34] = [99; 34];
 
 /// The next of a fixed sequence of numbers.
 fn next_draw(draw: u32) -> u32 {
@@ -91,43 +86,26 @@ fn mask(rt: &impl Abort, draw: u32) -> RegSet {
     RegSet::from_bits(bits).expect(rt, "a mask")
 }
 
-/// The registers that the calls were made for.
-#[derive(Drop)]
-struct Drawn {
-    arrived: RegSet,
-    sent: RegSet,
-    passed: RegSet,
-}
-
-/// One call on both, chosen by a drawn number, with the same answer.
-fn call(
-    rt: &impl Abort,
-    port: &mut Port,
-    plain: &mut PlainPort,
-    create: RegSet,
-    draw: u32,
-    drawn: &mut Drawn,
-) {
+/// One call on both, chosen by a drawn number, with the same answer; returns its register.
+fn call(rt: &impl Abort, port: &mut Port, plain: &mut PlainPort, create: RegSet, draw: u32) -> Reg {
     let register = register(rt, ((draw >> 16) % 34) as u8);
     match (draw >> 8) % 32 {
         0..=9 => {
             assert!(rt; port.arrive(register, draw) == plain.arrive(register, draw));
-            drawn.arrived = drawn.arrived.insert(register);
         }
         10..=19 => {
             port.send(register, draw);
             plain.send(register, draw);
-            drawn.sent = drawn.sent.insert(register);
         }
         20..=30 => {
             assert!(rt; port.pass(create, register) == plain.pass(create, register));
-            drawn.passed = drawn.passed.insert(register);
         }
         _ => {
             port.fill(&FILLING);
             plain.fill(&FILLING);
         }
     }
+    register
 }
 
 /// Asserts that both hold the same for each register.
@@ -139,9 +117,9 @@ fn compare(rt: &impl Abort, port: &Port, plain: &PlainPort) {
     }
 }
 
-/// Makes forty calls on a port and on its plain form, after which both hold the same; returns the last
-/// number drawn.
-fn run_both(rt: &impl Abort, draw: u32, drawn: &mut Drawn) -> u32 {
+/// Makes forty calls on a port and on its plain form, after which both hold the same; adds their registers, and returns
+/// the last number drawn.
+fn run_both(rt: &impl Abort, draw: u32, drawn: &mut RegSet) -> u32 {
     let mut draw = draw;
     let accum = mask(rt, draw);
     let create = mask(rt, next_draw(draw));
@@ -149,7 +127,7 @@ fn run_both(rt: &impl Abort, draw: u32, drawn: &mut Drawn) -> u32 {
     let mut plain = PlainPort::fresh(&WORDS, accum);
     for _ in 0..40 {
         draw = next_draw(draw);
-        call(rt, &mut port, &mut plain, create, draw, drawn);
+        *drawn = drawn.insert(call(rt, &mut port, &mut plain, create, draw));
     }
     compare(rt, &port, &plain);
     draw
@@ -158,50 +136,11 @@ fn run_both(rt: &impl Abort, draw: u32, drawn: &mut Drawn) -> u32 {
 #[test]
 fn port_two_representations(rt: HostRuntime) {
     let mut draw = 1995;
-    let mut drawn = Drawn {
-        arrived: RegSet::empty(),
-        sent: RegSet::empty(),
-        passed: RegSet::empty(),
-    };
+    let mut drawn = RegSet::empty();
     for _ in 0..1_000 {
         draw = run_both(&rt, next_draw(draw), &mut drawn);
     }
     for number in [0, 31, 33] {
-        expect_drawn(&rt, &drawn, number);
+        assert!(rt; drawn.has(register(&rt, number)), "register {number}");
     }
-}
-
-/// Asserts that a register was among those that the calls were made for.
-fn expect_drawn(rt: &impl Abort, drawn: &Drawn, number: u8) {
-    let register = register(rt, number);
-    assert!(rt; drawn.arrived.has(register), "register {number}");
-    assert!(rt; drawn.sent.has(register), "register {number}");
-    assert!(rt; drawn.passed.has(register), "register {number}");
-}
-
-#[test]
-fn calls_of_a_port(rt: HostRuntime) {
-    let r8 = register(&rt, 8);
-    let eight = RegSet::empty().insert(r8);
-    let mut port = Port::fresh(&WORDS, Port::accum(&[RegSet::empty(), eight]));
-    assert!(rt; port.arrived(r8) == None);
-    assert!(rt; !port.arrived_set().has(r8));
-    port.send(Reg::LO, 7);
-    assert!(rt; port.sent(Reg::LO) == Some(7));
-    assert!(rt; port.sent_set().has(Reg::LO));
-    let mut fresh = Port::fresh(&WORDS, eight);
-    fresh.take_sent(&port);
-    assert!(rt; fresh.is_within(&port));
-}
-
-#[test]
-fn calls_of_a_set_and_words(rt: HostRuntime) {
-    let r8 = register(&rt, 8);
-    let eight = RegSet::empty().insert(r8);
-    assert!(rt; next_member(eight, 0) == Some(r8));
-    let mut words = RegisterWords::all_but(&WORDS, eight);
-    assert!(rt; !words.is_same(&RegisterWords::none()));
-    words.put(r8, 4);
-    words.fill(&FILLING);
-    assert!(rt; words.get(r8) == Some(4));
 }

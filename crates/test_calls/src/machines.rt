@@ -1,15 +1,13 @@
 //! Runs by single events and by head events, and what the machine reports of them; the predictors.
 
-use crate::given::{accepted, apply_all, machine, register};
-use crate::numbers::place;
+use crate::given::{accepted, apply_all, machine, place, register};
 use machine_model::event::{Commit, Event, Standing};
 use mips_plain::outcome::Read;
 use sequencer::machine::{Machine, MachineFault};
 use sequencer::predict::{First, Last, Predict, Script};
-use std::alloc::Global;
 use std::process::Abort;
-use test_programs::certificates::{COUNT_CERTIFICATE, READ_ONLY_CERTIFICATE};
-use test_programs::programs::{COUNT, READ_ONLY};
+use test_programs::certificates::COUNT_CERTIFICATE;
+use test_programs::programs::COUNT;
 
 /// Applies head events until h has grown by `k`, and asserts the length, c and h, and the head event after them.
 fn expect_finished(
@@ -104,93 +102,6 @@ fn finish_runs_ahead(rt: HostRuntime) {
     expect_finished(&rt, &mut machine, 1, 12, 4, 6, Some(Event::Exec(0)));
     let last = machine.history().last().expect(&rt, "an event");
     assert!(rt; last.event == Event::Retire);
-}
-
-// After events on two units; the scripts of `replay` (`test_jobs`) have them, too.
-#[test]
-fn values_after_scripts(rt: HostRuntime) {
-    let (r8, r9, r10) = (register(&rt, 8), register(&rt, 9), register(&rt, 10));
-    let waits = [
-        Event::Assign(0),
-        Event::Assign(0),
-        Event::Exec(0),
-        Event::Transfer(1, r8),
-        Event::Exec(1),
-    ];
-    // The head has not written $9, so it has its first value there, and the other unit waits for it.
-    let values = [(1, 8, Some(2)), (0, 9, Some(0)), (1, 9, None)];
-    expect_values(&rt, rt.alloc(), COUNT, COUNT_CERTIFICATE, &waits, &values);
-    let taken_again = [
-        Event::Assign(0),
-        Event::Assign(1),
-        Event::Exec(0),
-        Event::Exec(0),
-        Event::Transfer(1, r8),
-        Event::Transfer(1, r9),
-        Event::Exec(0),
-        Event::Exec(0),
-        Event::Drain(0, r10),
-        Event::Squash(0),
-        Event::Assign(0),
-        Event::Transfer(1, r8),
-        Event::Transfer(1, r9),
-        Event::Exec(1),
-        Event::Exec(1),
-        Event::Retire,
-    ];
-    let values = [(0, 9, Some(3))];
-    expect_values(
-        &rt,
-        rt.alloc(),
-        COUNT,
-        COUNT_CERTIFICATE,
-        &taken_again,
-        &values,
-    );
-    let ahead = [
-        Event::Assign(0),
-        Event::Assign(1),
-        Event::Exec(1),
-        Event::Exec(1),
-        Event::Exec(1),
-    ];
-    let values = [(1, 9, Some(7))];
-    expect_values(
-        &rt,
-        rt.alloc(),
-        READ_ONLY,
-        READ_ONLY_CERTIFICATE,
-        &ahead,
-        &values,
-    );
-}
-
-/// Asserts the values of registers, each with its position and number, after events on two units.
-fn expect_values(
-    rt: &impl Abort,
-    alloc: Global,
-    program: &str,
-    certificate: &str,
-    events: &[Event],
-    values: &[(u32, u8, Option<u32>)],
-) {
-    let accepted = accepted(rt, alloc, program, certificate);
-    let mut machine = machine(rt, alloc, &accepted, 2);
-    apply_all(rt, &mut machine, events);
-    for (position, number, value) in values {
-        expect_value(rt, &machine, *position, *number, *value);
-    }
-}
-
-fn expect_value(
-    rt: &impl Abort,
-    machine: &Machine<'_>,
-    position: u32,
-    number: u8,
-    value: Option<u32>,
-) {
-    let register = register(rt, number);
-    assert!(rt; machine.value(position, register) == value);
 }
 
 // The first round has retired, and the unit of the second one is the head.
