@@ -22,6 +22,7 @@ use input_diagnostics::mistaken::{Mistaken, mistaken_error, mistaken_kind};
 use input_diagnostics::script::script_errors;
 use judged_fixes::judge::Marks;
 use judged_fixes::judged::judge_fixes;
+use judged_fixes::proposal::proposal;
 use judged_fixes::refused::judge_refusal;
 use mark_diagnostics::error::mark_errors;
 use mark_diagnostics::warning::mark_warnings;
@@ -130,7 +131,8 @@ fn program_explained(
     let beside = both(certified, scripted)?;
     let status = status_of(&errors, &beside);
     let marks = marks_by(&errors);
-    let judged = judge_fixes(alloc, text, program, &least, errors)?;
+    let all = proposal(alloc, text, &errors, None)?;
+    let judged = judge_fixes(alloc, text, program, &least, errors, &all)?;
     let all = both(judged.errors, both(warned, beside)?)?;
     let said = in_order(alloc, all)?;
     Ok(Explanation {

@@ -114,7 +114,10 @@ fn line_of(
         _ => write!(line, "multiscalar: {name}: {fixes} fixes applied, ")?,
     }
     let said = after.said.as_slice();
-    match (after.marks, said.iter().filter(|one| is_error(one)).count()) {
+    match (
+        after.marks,
+        said.iter().filter(|one| is_error(*one)).count(),
+    ) {
         (Marks::Right, _) => writeln!(line, "all marks are right")?,
         (_, 1) => writeln!(line, "1 error left")?,
         (_, errors) if said.iter().any(|one| is_rest(one)) => {

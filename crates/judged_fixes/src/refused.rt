@@ -1,15 +1,17 @@
 //! The fix of what is wrong first in a text that the assembler refuses.
 
-ghost use Rattle.std.specs.Prelude.{◌≡◌, ℕ, false, true, None, Option, IfOk, IfSome};
+ghost use Rattle.std.specs.Prelude.{◌≡◌, ◌↔◌, false, true, None, IfOk, IfSome};
 ghost use Rattle.std.specs.List.{All};
-ghost use Rattle.program_tokens.specs.Lines.{lines};
-ghost use Rattle.text_diagnostics.specs.Refusals.{tells, token_of};
+ghost use Rattle.annotated_asm.specs.ProgramText.{parse};
+ghost use Rattle.text_diagnostics.specs.Refusals.{tells};
 ghost use Rattle.judged_fixes.specs.Fixed.{AreSameErrors, besides_help};
-ghost use Rattle.judged_fixes.specs.Further.{IsFixedFurther, IsInWords, build_stage, is_below, is_later, is_operand, stage};
+ghost use Rattle.judged_fixes.specs.declared.judge.Marks.TheVariants.{Right};
+ghost use Rattle.judged_fixes.specs.Right.{IsRight};
+ghost use Rattle.judged_fixes.specs.Further.{IsFixedFurther, IsFurther, IsInWords, build_stage, is_below, is_later, is_operand, stage};
 ghost use Rattle.judged_fixes.specs.Proposed.{IsProposed, has_fix};
 
 use crate::fixed::Fixed;
-use crate::judge::marks_in;
+use crate::judge::{Marks, marks_in};
 use crate::judged::{Judged, tell_in_words};
 use crate::mended::mended;
 use crate::proposal::{Proposed, has_fix, proposal};
@@ -78,6 +80,19 @@ fn is_later(old: AsmFault, new: AsmFault) -> bool
     is_below(stage(old), stage(new)) || is_operand(old, new)
 }
 
+// What the marks of a text are, if the assembler comes further in it than to this fault.
+fn marks_further(alloc: Global, text: &[u8], first: AsmFault) -> Result<Option<Marks>, AllocError>
+    ensures right { IfOk result (λ found. IfSome found (λ marks. (marks ≡ Right) ↔ IsRight text.now)) }
+    ensures further { IfOk result (λ found. IfSome found (λ _. IsFurther first (parse text.now))) }
+{
+    match assemble(alloc, text) {
+        Ok(program) => Ok(Some(marks_in(alloc, &program)?)),
+        Err(AsmFault::OutOfMemory) => Err(AllocError),
+        Err(fault) if is_later(first, fault) => Ok(Some(Marks::Unread)),
+        Err(_) => Ok(None),
+    }
+}
+
 // A text with a proposal made in it, if the assembler comes further in it than to this fault.
 fn made_further(
     alloc: Global,
@@ -90,16 +105,13 @@ fn made_further(
     ensures { IfOk result (λ found. IfSome found (IsFixedFurther text.now first said.now)) }
 {
     let new = mended(alloc, text, &proposal.edits)?;
-    let is_right = match assemble(alloc, &new) {
-        Ok(program) => marks_in(alloc, &program)?.are_right(),
-        Err(AsmFault::OutOfMemory) => return Err(AllocError),
-        Err(fault) if is_later(first, fault) => false,
-        Err(_) => return Ok(None),
+    let Some(marks) = marks_further(alloc, &new, first)? else {
+        return Ok(None);
     };
     Ok(Some(Fixed {
         text: Listed::new(new),
         fixes: proposal.from.len(),
-        is_right,
+        is_right: marks.are_right(),
     }))
 }
 
@@ -171,8 +183,8 @@ pub fn judge_refusal(
     let token = first_token(alloc, text, first)?;
     let places = fixed_places(alloc, &errors, first, token)?;
     if !places.is_empty() {
-        let proposal = proposal(alloc, text, &errors, Some(&places))?;
-        if let Some(fixed) = made_further(alloc, text, first, &errors, &proposal)? {
+        let some = proposal(alloc, text, &errors, Some(&places))?;
+        if let Some(fixed) = made_further(alloc, text, first, &errors, &some)? {
             return Ok(Judged {
                 errors,
                 fixed: Some(fixed),

@@ -1,7 +1,7 @@
 //! From what was asked and its files to what is written and the status.
 ghost use Rattle.std.specs.Prelude.{◌≡◌, ◌⊎◌, ◌∷◌, IfOk, false};
 ghost use Rattle.result_files.specs.Files.{Files};
-ghost use Rattle.program_edge.specs.Answering.{IsAnswered, IsAnsweredFor, IsDelivered, IsDeliveredFixed, IsDeliveredIf, IsDeliveredTold, IsJobDone, IsKeptFixed, IsNotDone, IsNotKept, IsPut, IsRead, IsShown, IsTaken, ending_after, is_whole};
+ghost use Rattle.program_edge.specs.Answering.{IsAnswered, IsAnsweredFor, IsDelivered, IsDeliveredFixed, IsDeliveredIf, IsDeliveredOf, IsDeliveredTold, IsJobDone, IsKeptFixed, IsNotDone, IsNotKept, IsPut, IsRead, IsShown, IsTaken, ending_after, is_whole};
 ghost use Rattle.program_edge.specs.Refusals.{is_refusal};
 ghost use Rattle.program_edge.specs.Several.{IsEach};
 ghost use Rattle.program_edge.specs.Streams.{IsBroken};
@@ -147,14 +147,9 @@ fn answer_request<F: NamedFiles, D: Folder, O: Write, E: Write, R: Threads + Wai
                 wants_rest,
                 name,
             };
-            match fixes {
-                Some(path) => deliver_fixed(
-                    rt, alloc, &job, &texts, path, &reader, folder, output, errors,
-                ),
-                None => deliver_if(
-                    progress, rt, alloc, &job, &texts, place, &reader, folder, output, errors,
-                ),
-            }
+            deliver_of(
+                fixes, progress, rt, alloc, &job, &texts, place, &reader, folder, output, errors,
+            )
         }
         Err(unread) => tell(&fault_of_file(&job, unread), output, errors),
     }
@@ -221,6 +216,32 @@ fn fault_of_file(job: &Job, unread: Unread) -> Fault
             ..
         } => Fault::NoProgram(unread),
         _ => Fault::File(unread.path),
+    }
+}
+
+// Does a job with its texts; a file may take the program's text with fixes.
+fn deliver_of<D: Folder, O: Write, E: Write, R: Threads + Wait + Sync>(
+    fixes: Option<String>,
+    progress: bool,
+    rt: &R,
+    alloc: Global,
+    job: &Job,
+    texts: &Texts,
+    place: Option<String>,
+    reader: &Reader,
+    folder: &mut D,
+    output: &mut O,
+    errors: &mut E,
+) -> Answered
+    ensures { IsDeliveredOf fixes progress D.is_watched reader.now place job.now texts.now result
+        record { output = O.contents output.old; errors = E.contents errors.old; files = D.known folder.old }
+        record { output = O.contents output.new; errors = E.contents errors.new; files = D.known folder.new } }
+{
+    match fixes {
+        Some(path) => deliver_fixed(rt, alloc, job, texts, path, reader, folder, output, errors),
+        None => deliver_if(
+            progress, rt, alloc, job, texts, place, reader, folder, output, errors,
+        ),
     }
 }
 
