@@ -1,31 +1,44 @@
-# bash completion for multiscalar
+# bash completion for multiscalar; docs/make.py makes the parts between such comments
 
 _multiscalar_options() {
     case $1 in
+        # made: bash options
         seq) echo "--budget --output --help" ;;
         print) echo "--output --help" ;;
-        annotate) echo "--emit --in-place --report --output --help" ;;
-        explain) echo "--certificate --script --fix --in-place --format --color --no-warnings --output --help" ;;
-        check) echo "--workers --least --output --help" ;;
-        replay) echo "--units --emit --until --strict --least --output --help" ;;
-        run) echo "--with-values --axis --units --budget --predict --workers --schedule --emit --least --output --help" ;;
-        curve) echo "--units --budget --predict --emit --progress --least --output --help" ;;
+        annotate) echo "--emit --output --in-place --report --help" ;;
+        explain) echo "--certificate --script --no-warnings --format --color --fix --output --in-place --help" ;;
+        check) echo "--least --workers --output --help" ;;
+        replay) echo "--least --units --emit --until --strict --output --help" ;;
+        run) echo "--least --schedule --units --workers --budget --predict --emit --axis --with-values --output --help" ;;
+        curve) echo "--least --units --budget --predict --emit --progress --output --help" ;;
         demonstrate) echo "--units --steps --emit --output --help" ;;
+        # end of bash options
     esac
 }
 
 _multiscalar_values() {
     case $1:$2 in
-        annotate:--emit) echo "text cert keep marks" ;;
-        replay:--emit) echo "answers summary svg trace json perfetto state" ;;
-        run:--emit) echo "report script summary svg trace json perfetto waits vcd" ;;
-        curve:--emit) echo "table svg" ;;
-        demonstrate:--emit) echo "events svg" ;;
+        # made: bash values
         explain:--format) echo "text sarif json" ;;
         explain:--color) echo "auto always never" ;;
         run:--schedule) echo "threads steps" ;;
+        replay:--units | run:--units) echo "1 2 4 8 16" ;;
+        curve:--units | demonstrate:--units) echo "1 2 4 8 16" ;;
+        check:--workers) echo "1 2 4 8 16" ;;
+        run:--workers) echo "1 2 4 8 16" ;;
+        seq:--budget) echo " " ;;
+        run:--budget) echo " " ;;
+        curve:--budget) echo " " ;;
+        demonstrate:--steps) echo " " ;;
         run:--predict | curve:--predict) echo "first last" ;;
-        *:--units | check:--workers | run:--workers) echo "1 2 4 8 16" ;;
+        annotate:--emit) echo "text cert keep marks" ;;
+        replay:--emit) echo "answers summary svg trace json perfetto state" ;;
+        run:--emit) echo "report script summary svg trace json waits vcd perfetto" ;;
+        curve:--emit) echo "table svg" ;;
+        demonstrate:--emit) echo "events svg" ;;
+        replay:--until) echo " " ;;
+        run:--axis) echo "events steps" ;;
+        # end of bash values
     esac
 }
 
@@ -33,8 +46,12 @@ _multiscalar() {
     local word=${COMP_WORDS[COMP_CWORD]} before=${COMP_WORDS[COMP_CWORD - 1]} subcommand=${COMP_WORDS[1]}
     COMPREPLY=()
     if [ "$COMP_CWORD" -eq 1 ]; then
+        local names
+        # made: bash names
+        names="seq print annotate explain check replay run curve demonstrate help"
+        # end of bash names
         # shellcheck disable=SC2207
-        COMPREPLY=($(compgen -W "seq print annotate explain check replay run curve demonstrate help --help --version" -- "$word"))
+        COMPREPLY=($(compgen -W "$names --help --version" -- "$word"))
         return
     fi
     local values
@@ -45,7 +62,7 @@ _multiscalar() {
     elif [[ $word == -* ]]; then
         # shellcheck disable=SC2207
         COMPREPLY=($(compgen -W "$(_multiscalar_options "$subcommand")" -- "$word"))
-    elif [ "$before" != --budget ] && [ "$before" != --until ]; then
+    else
         local IFS=$'\n'
         # shellcheck disable=SC2207
         COMPREPLY=($(compgen -f -- "$word"))

@@ -21,7 +21,7 @@ HERE = pathlib.Path(__file__).resolve().parent
 MOST_LINES = 40
 REFUSED = HERE / "refused"
 # The value of NO_COLOR, None where it is not set; the stream that is a terminal; the words of a command, whose status
-# is 1; and the file in `expected` with what the terminal shows. docs/FORMATS.md says which: the table of options, for
+# is 1; and the file in `expected` with what the terminal shows. docs/COMMANDS.md says which: the table of options, for
 # `explain --color`, and "Exit status and standard error".
 ON_A_TERMINAL = [
     (None, "stdout", "explain mnemonic-misspelled.s", "mnemonic-misspelled-colours.txt"),

@@ -21,7 +21,8 @@ import tempfile
 TOP = pathlib.Path(__file__).resolve().parent.parent
 PICTURES = TOP / "docs" / "pictures"
 # A page, the folder of its commands, and how the names of its pictures begin.
-PAGES = [("docs/TUTORIAL.md", "examples/tutorial", "tutorial-"), ("docs/FORMATS.md", "examples/count", "")]
+PAGES = [("docs/TUTORIAL.md", "examples/tutorial", "tutorial-"), ("docs/COMMANDS.md", "examples/count", ""),
+         ("docs/OUTPUTS.md", "examples/count", "")]
 END = "----- the end of what a command says -----"
 
 

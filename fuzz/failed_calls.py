@@ -3,7 +3,7 @@
 
     failed_calls.py PROGRAM [--minutes M] [--seed N] [--only WORD] [--list]
 
-The table EXPECTED says, before anything is run, what the answer must be (docs/FORMATS.md). In each run
+The table EXPECTED says, before anything is run, what the answer must be (docs/COMMANDS.md). In each run
 of the first group calls of the C library fail, in turn or by a seed (faults.py); those of the second are given files,
 pipes and devices of the system. No run may open a file for writing. What differs is told, and the script ends
 with status 1. If the minutes do not suffice, the runs are drawn. Needs python3 and cc, and root for the

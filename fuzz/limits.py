@@ -10,7 +10,7 @@ of the limit. The other texts are those that were found to take the most memory:
 as a program text can name, and as many entries, events and answers as the longest files give; the most tasks that each go through the
 most instructions, with every register in their create masks, and in those of a certificate; and the longest runs, by
 threads and in steps, with each `--emit`, and traces whose events say as much as they can. Of each run the
-greatest memory is compared with BOUNDS, which README.md counts from the limits. The script ends with status 1 where
+largest memory is compared with BOUNDS. The script ends with status 1 where
 an answer or the memory is another, and says the seconds, which depend on the machine; those of hostile masks may be a
 second of the processor, and one for each 30 MB that are read and written. Needs python3, Linux, 400 MB
 in the temporary folder and 3 GB of memory; it is no part of the tests.
@@ -37,7 +37,17 @@ TOP = pathlib.Path(__file__).resolve().parent.parent
 COUNT = TOP / "examples" / "count"
 PROGRAM_LIMIT, FILE_LIMIT = 4_194_304, 134_217_728
 
-# The most memory of a subcommand, in millions of bytes: README.md, "How much memory".
+# The most memory of a subcommand, in millions of bytes, as it is counted from the limits.
+# In bytes, and then MB; a refused text is counted below. A list that grows has room for up to twice its
+# entries; the process takes 3 MB more, and the C library keeps up to 10 MB of what was given back.
+# - program text: 4,194,304; for each a token of 48; for each two a label of 88, or a target twice in 48: 4 + 201 +
+#   201
+# - certificate: 134,217,728; 16 for each line of 11, 134 + 268; at last 4,194,304 entries of 16, 134 + 67
+# - script: 134,217,728; 8 for each line of 6, 134 + 268; answers of `replay` 27 for each, 1,074
+# - machine: 1,000,000 events, reads, commits and words, 68
+# - output: 1,000,000 words or events, 34; table or picture of a run: 24 for each life, 8 for each event, 64
+# - trace of a run: 1,007 for each of 1,000,000 events, if 15 of 16 are an `assign` at which 33 registers arrive, as
+#   JSON 1,820; that of a script is written while its events are played
 BOUNDS = {"seq": 410, "print": 410, "annotate": 410, "explain": 490, "check": 545, "run": 545, "replay": 1760, "curve": 545}
 # `explain` reads a refused text once more, with places. The most is where a name is unknown beside a list of targets in one
 # long line: the text, a token of 48 bytes and a place of 16 for each byte, and for each two a target that is kept twice in

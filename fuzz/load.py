@@ -146,7 +146,7 @@ NOBODY = 60000 + os.getpid() % 5000
 # What is left of a process whose stack cannot grow: a signal, and nothing written.
 NO_ROOM = -signal.SIGSEGV, b"", b""
 STACKS = (1280, 1536, 2048, 4096)  # KiB; below 1,200 some jobs have too little stack, and the kernel ends them
-# KiB of address space, from and to: as it is, where the kernel ends a job whose stack has no room to grow (docs/RELIABILITY.md); and
+# KiB of address space, from and to: as it is, where the kernel ends a job whose stack has no room to grow (docs/TRUST.md); and
 # where the stack has grown before, by so many bytes, so that the limit meets the heap and the threads alone.
 SPACE, SPACE_BEHIND_STACK, STACK = (4000, 200000), (9000, 200000), "1500000"
 TOP = pathlib.Path(__file__).resolve().parent.parent

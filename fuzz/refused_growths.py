@@ -488,7 +488,7 @@ def run(program, minutes, seed, only="", rest=False):
             rows.append(perform(name, list(jobs(small, draw)), draw, begin + 60 * minutes * until, 2000))
         large = [Case(bench, w) for w in limit_cases(bench.folder) if only in ("", w[0])]
         rows.append(perform("growths refused, texts at the limits", at_limits(large, draw), draw, begin + 60 * minutes * 0.9, 1))
-        # the stack has grown before the limit on the address space can stop it: docs/RELIABILITY.md
+        # the stack has grown before the limit on the address space can stop it: docs/TRUST.md
         every, end = small + large, begin + 60 * minutes
         rows.append(limited("address space of 9 to 600 MB", resource.RLIMIT_AS, 9e6, 6e8, every, draw, end - 2 * minutes, STACK="1500000"))
         rows.append(limited("stack of 1.3 to 8 MB", resource.RLIMIT_STACK, 1.25 * 2 ** 20, 2 ** 23, every, draw, end))

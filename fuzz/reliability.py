@@ -19,7 +19,7 @@ growths in a row, each call that fails, all seeds and kept cases of hostile byte
 
 Each part answers rows: the part, the number of runs, how often each answer was seen, and the differences, one line each with what
 reproduces it; they go to standard error as soon as a part is done, with its minutes. The table that is printed has all rows;
---write puts one row for each part in place of the figures of docs/RELIABILITY.md. The script ends with status 1 if there is any difference.
+--write puts one row for each part in place of the figures of fuzz/results.txt. The script ends with status 1 if there is any difference.
 Needs python3, cc, and what the modules say; what makes answers of the model is run by pypy3 where there is one.
 """
 import argparse
@@ -92,7 +92,7 @@ NEEDS = {
     "kept_cases": (["fuzzer", "kept"], "no --fuzzer and no --kept"),
 }
 HERE = pathlib.Path(__file__).resolve().parent
-BEGIN, END = "<!-- figures -->\n", "<!-- end of figures -->\n"
+BEGIN, END = "# figures\n", "# end of figures\n"
 sys.path.insert(0, str(HERE))
 
 

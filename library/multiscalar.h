@@ -9,7 +9,7 @@
  *     if (answer) fwrite(answer, 1, length, stdout);   // status 0: accepted; 1: each wrong mark, or why a text is refused
  *     multiscalar_free(answer);
  *
- * Link with -lmultiscalar. `multiscalar SUBCOMMAND --help` and docs/FORMATS.md say what each job writes:
+ * Link with -lmultiscalar. `multiscalar SUBCOMMAND --help` and docs/COMMANDS.md say what each job writes:
  * the bytes and the status are those of the program.
  *
  * Status. 0: accepted, printed, halted. 1: refused, or trapped. 3: out of budget. Then *answer holds *length bytes

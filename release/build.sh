@@ -40,8 +40,8 @@ committed() { git archive --format=tar HEAD -- "$@" | tar -xf - -C "$root"; }
 
 committed README.md CHANGELOG.md CONTRIBUTING.md LICENSE-APACHE LICENSE-MIT docs examples man completions syntax compiler
 # Pages to which those link.
-committed bench/README.md fuzz/README.md fuzz/entry/README.md web/README.md
-rm -f "$root"/examples/*.py
+committed bench/README.md fuzz/README.md fuzz/results.txt fuzz/entry/README.md web/README.md
+rm -f "$root"/examples/*.py "$root"/docs/*.py
 cp release/install.sh "$root/install.sh"
 install -m 755 "$program" "$root/multiscalar"
 strip --strip-all "$root/multiscalar"
@@ -110,10 +110,10 @@ Suggests: python3, gcc-mipsel-linux-gnu
 Section: devel
 Priority: optional
 Description: proved checker and runner for annotated Multiscalar programs
- A Multiscalar processor cuts one sequential program into tasks and runs
- several at once on a ring of units. Marks in the program say when each
- register leaves a task. This program checks the marks on every path,
- explains those that are wrong, and runs what is right. Each of its
+ A compiler cuts a sequential program into tasks, and a Multiscalar processor
+ runs several of them at once on a ring of units. Marks in the program say
+ when each register leaves a task. This program checks the marks on every
+ path, explains those that are wrong, and runs what is right. Each of its
  functions is proved against its contract.
 EOF
 printf 'libmultiscalar 0 multiscalar\n' > "$deb/DEBIAN/shlibs"

@@ -8,7 +8,7 @@
 #     answers    web/compare: the module's answers beside the program's                              10 min
 #     browsers   web/test: Chromium and Firefox, with screenshots                                     4 min
 #     library    library/build.sh, library/test/run.sh: the library, its tests, stack, sizes, times   2 min
-#     agree      release/agree.py: the man page and the completions beside --help                     1 s
+#     agree      docs/make.py: pages, man page and completions beside --help                         1 s
 #     release    release/build.sh in two clones of this commit: the same bytes                        7 min
 #     package    lintian                                                                             15 s
 #     python     pip installs the module of the release, and its tests run                           25 s
@@ -34,7 +34,7 @@ try_page() { web/build.sh; }
 try_answers() { web/compare "$page" "$program"; }
 try_browsers() { web/test "$page" --screenshots "$out/screenshots"; }
 try_library() { library/build.sh "$out/library" && library/test/run.sh "$out/library" "$program"; }
-try_agree() { release/agree.py "$program"; }
+try_agree() { docs/make.py --check "$program"; }
 
 # A clone of this commit with what was proved and built here, in which the page and the release are made.
 released() { # FOLDER

@@ -3,7 +3,29 @@
  * The program's own `main` and the calls of C that it makes are renamed (build.sh): its words, files,
  * output and heap are those below. A case is two bytes of choices and then a program text, a
  * certificate and a script, parted by lines that are `%%`. The first byte picks the job, the second its
- * options. After each call the answer's form is tested; jobs 7, 14, 15, 18 and 21 to 23 test answers against one another.
+ * options; its highest bit cuts reads and writes short and interrupts them. A case is kept if it reaches a new edge or a new
+ * form of an answer. Three in four mutations change words and lines (LLVMFuzzerCustomMutator).
+ *
+ * Each call must end with a status 0 to 3, with its answer on one stream and the other empty (unless the words name several
+ * programs, or ask for --report or --progress), with a whole last line, with each block of memory freed and each thread
+ * ended, in less than a second of processor time and 96 MiB of heap (words may ask for threads, for sixteen runs of a million
+ * events, or for a trace of so many: then 40 seconds, and 288 MiB for a trace); and only words give status 2.
+ *
+ * Jobs 7, 14, 15, 18 and 21 to 23 test answers against one another. Of a program text: `print` of its canonical text is that
+ * text, `seq` of both is the same, one checker and three find the same, `explain` says something exactly if they find
+ * something, `run` with the certificate of `annotate --emit keep` is refused exactly if `check` refuses, puts out the words of
+ * `seq`, ends as it ends and counts as it counts, and its script replays to the same end with no event refused. With that
+ * certificate `explain` says the same as without it, `check` and `run` the same as with `--least`; a run in steps ends as the
+ * replay of its script does, and its table and its picture by events, but for the predictor, are those of that script. The
+ * text of `annotate --emit marks`, printed, is what `annotate` proposes, and asked for its marks once more it stays as it is.
+ * The trace of a run in steps, but for its steps, is that of its script, and the last row of `curve` has its steps and its
+ * retired instructions. A trace of any script says of each event what the answers say. A log of `explain` is JSON, has as many
+ * findings and warnings as the text form, and its status.
+ *
+ * One worker of `run` does its work inside the call that makes its thread, so that a case is the same each time; one run in
+ * sixty-four, and some that are asked for by words, have real threads. The call for a file's size and positioned reads are
+ * answered as if there were no such file, and one thread reads each file; ../failed_calls.py tries them.
+ * HOSTILE_PLANT=KIND,JOB plants a fault into each answer of a job (`plant`), for ../selftest.py.
  */
 #define _GNU_SOURCE
 #include <errno.h>

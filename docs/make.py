@@ -1,0 +1,300 @@
+#!/usr/bin/env python3
+"""Makes what pages, man page and completions take from the sources, so that it is written once.
+
+    docs/make.py [PROGRAM]             writes it
+    docs/make.py --check [PROGRAM]     names what is not as it would be written, with status 1
+
+Options and subcommands come from the table of `--help` (crates/command_line/src/table.rt), values from job.rt beside it,
+faults from the enums, limits from the constants, crates from crates.txt and the first sentence of each, and what a caller
+must ensure (docs/REQUIRES.txt) from the contracts. A made part stands between two comments, `made: NAME` and `end of NAME`,
+in a page, the man page or a completion. With PROGRAM, the built `multiscalar`, its `--help` must have each option and each
+text of the table.
+"""
+import argparse
+import pathlib
+import re
+import subprocess
+import sys
+import textwrap
+
+TOP = pathlib.Path(__file__).resolve().parent.parent
+CRATES = TOP / "crates"
+TEXT = r'"((?:[^"\\]|\\.)*)"'
+# The lists of values in job.rt; those of `annotate --emit`, `--axis` and `--predict` are matched there, not listed.
+LISTS = {("explain", "format"): "FORMATS", ("explain", "color"): "COLORS", ("run", "schedule"): "SCHEDULES",
+         ("replay", "emit"): "REPLAY_EMITS", ("run", "emit"): "RUN_EMITS", ("curve", "emit"): "CURVE_EMITS",
+         ("demonstrate", "emit"): "DEMONSTRATE_EMITS"}
+VALUES = {("annotate", "emit"): "text cert keep marks", ("run", "axis"): "events steps", ("run curve", "predict"): "first last"}
+
+
+def source(path):
+    return (CRATES / path).read_text()
+
+
+def one_line(text):
+    return re.sub(r"\s+", " ", text).strip()
+
+
+# ---------------------------------------------------------------- what the sources know
+def constants():
+    found = {}
+    for file in sorted(CRATES.glob("*/src/**/*.rt")):
+        for name, value in re.findall(r"^\s*(?:pub(?:\(crate\))? )?const (\w+): \w+ = ([\d_]+);", file.read_text(), re.M):
+            found.setdefault((file.relative_to(CRATES).parts[0], name), int(value.replace("_", "")))
+    return found
+
+
+def subcommands():
+    """Name, one line, usages and long help of each."""
+    rows = re.findall(rf"\(\s*{TEXT},\s*{TEXT},\s*UsageBy::\w+,\s*{TEXT},\s*{TEXT},\s*\)", source("command_line/src/table.rt"), re.S)
+    return [(name, about, [it.strip() for it in usage.split("\n")], long) for name, about, usage, long in rows]
+
+
+def arguments():
+    """Subcommands, name, letter, value, default and help of each option; and of each file, with no name of an option."""
+    table = source("command_line/src/table.rt")
+    for of, name, kind, inside, said in re.findall(rf"\(\s*{TEXT},\s*{TEXT},\s*Kind::(\w+)(?:\(([^)]*)\))?,\s*{TEXT},\s*\)", table, re.S):
+        if kind in ("File", "FreeFile", "Files"):
+            continue
+        words = re.findall(TEXT, inside)
+        letter = re.findall(r"'(\w)'", inside)
+        value = "N" if "Number" in kind else words[0] if words else None
+        default = words[-1] if kind in ("Word", "Number") else None
+        note = re.search(r"\n\n\[default: (.*)\]$", said)
+        yield of.split(), name, letter, value, note[1] if note else default, one_line(said[:note.start()] if note else said)
+
+
+def names():
+    return [it[0] for it in subcommands()]
+
+
+def options_of(subcommand):
+    return [it for it in arguments() if subcommand in it[0]]
+
+
+def values(of, name):
+    key = (" ".join(of), name)
+    if key in LISTS:
+        listed = re.search(rf"static {LISTS[key]}: .*? = \[(.*?)\];", source("command_line/src/job.rt"), re.S)[1]
+        return re.findall(r'\("(\w+)"', listed)
+    return VALUES.get(key, "1 2 4 8 16" if name in ("units", "workers") else "").split()
+
+
+def variants(path, enum):
+    """Number, name and comment of each variant that has a number in its comment."""
+    body = re.search(rf"^pub enum {enum} \{{\n(.*?)^\}}", source(path), re.M | re.S)[1]
+    for comment, name in re.findall(r"((?:^ *///.*\n)+)(?:^ *#.*\n)*^ *(\w+)", body, re.M):
+        said = one_line(comment.replace("///", ""))
+        number, _, said = said.partition(": ")
+        if number.isdigit() and name not in ("OutOfMemory", "Foreign"):
+            yield int(number), name, said.rstrip(".")
+
+
+def faults(path, enum):
+    return table("Fault", "When", ((f"`{number} {name}`", said) for number, name, said in variants(path, enum)))
+
+
+def table(first, second, rows):
+    return "\n".join([f"| {first} | {second} |", "|---|---|", *(f"| {one} | {other} |" for one, other in rows)])
+
+
+def limits():
+    of = constants()
+    rows = (("instructions", "mips_instructions", "MOST_INSTRUCTIONS", ""), ("tasks", "task_descriptor", "MOST_TASKS", ""),
+            ("targets of a task", "task_descriptor", "MOST_TARGETS", ""), ("data memory", "task_descriptor", "MOST_BYTES", " bytes"),
+            ("read-only data", "task_descriptor", "MOST_BYTES", " bytes"), ("a name", "task_descriptor", "MOST_NAME", " bytes"),
+            ("program text", "annotated_asm", "MOST_TEXT", " bytes"), ("any other file", "program_edge", "MOST_FILE", " bytes"),
+            ("units of a machine", "limits", "MOST_UNITS", ""), ("workers", "limits", "MOST_WORKERS", ""),
+            ("events of a machine", "limits", "MOST_EVENTS", ""), ("`--budget`", "limits", "MOST_BUDGET", ""))
+    return table("Limit", "", ((what, f"{of[crate, name]:,}{unit}") for what, crate, name, unit in rows))
+
+
+def crates():
+    """The layers of crates.txt, with the first sentence of each crate."""
+    lines = []
+    for line in (TOP / "crates.txt").read_text().splitlines()[1:]:
+        if line.startswith("#"):
+            lines += ["", f"**{line[2:]}**", ""]
+        elif line.strip():
+            name = re.match(r"\w+", line)[0]
+            file = next(it for it in (CRATES / name / "src" / "lib.rt", CRATES / name / "src" / "main.rt") if it.is_file())
+            comment = " ".join(re.findall(r"^//! ?(.*)$", file.read_text(), re.M))
+            comment = re.sub(r" \([^)]*ISCA[^)]*\)", "", one_line(comment))
+            said = re.match(r"(?:\S+ ){,2}\S+:.*?(?=[:;.]( |$))|.*?(?=[:;.]( |$))", comment)[0]
+            short = re.match(r"(?:\S+ ){3,}?\S+(?=, )", said) if said.count(" ") > 10 and ":" not in said else None
+            said = short[0] if short else said
+            lines.append(f"- `{name}`: {said[:1].lower() + said[1:]}")
+    return "\n".join(lines).strip()
+
+
+def required():
+    """The `requires` of public functions, by crate; functions with the same ones together."""
+    lines = []
+    for name in re.findall(r"^(\w+)[^\n]*:", (TOP / "crates.txt").read_text(), re.M):
+        rows = {}
+        for file in sorted((CRATES / name / "src").glob("**/*.rt")) if not name.startswith("test") else ():
+            text = file.read_text()
+            for found in re.finditer(r"^( *)pub fn (\w+)(.*?)^\1[{}]", text, re.M | re.S):
+                clauses = tuple(map(one_line, re.findall(r"^\s*requires(?: \w+)? \{(.*?)\}\s*$", found[3], re.M | re.S)))
+                owner = re.findall(r"^impl(?:<[^>]*>)? (?:[\w<>, ]+ for )?(\w+)", text[:found.start()], re.M) if found[1] else []
+                if clauses:
+                    rows.setdefault(clauses, []).append("::".join([*owner[-1:], found[2]]))
+        lines += [name] * bool(rows) + [f"    {', '.join(names)}: {', '.join(clauses)}" for clauses, names in rows.items()]
+    return "\n".join(lines)
+
+
+# ---------------------------------------------------------------- pages
+def commands():
+    """Each subcommand with its options, their values and, after a `=`, what they are if not given."""
+    lines = ["```"]
+    for name, _, usages, _ in subcommands():
+        words = ["[-o FILE]"]
+        for of, option, _, value, default, _ in options_of(name):
+            listed = values(of, option) if option not in ("units", "workers") else []
+            own = f" = {default}" if default in (*listed, "first") or (default or "").isdigit() else ""
+            words.append(f"[--{option}{' ' + ('|'.join(listed) or value) if value else ''}{own}]")
+        words = [it.replace(" ", "\0") for it in words if it != "[--least]" and not it.startswith("[--output")]
+        for number, usage in enumerate(usages):
+            whole = re.sub("[<>]", "", usage).replace("[OPTIONS]", "[..]" if number else " ".join(words))
+            lines += textwrap.wrap(whole, 118, subsequent_indent="    ", break_on_hyphens=False)
+    return "\n".join([*lines, "```"]).replace("\0", " ")
+
+
+def status():
+    said = re.search(rf"pub const STATUS: &str = {TEXT}", source("command_line/src/help.rt"), re.S)[1]
+    return re.findall(r"^  (\d)  (.*(?:\n     .*)*)", said, re.M), said
+
+
+# ---------------------------------------------------------------- man page and completions
+def roff(text):
+    """Paragraphs, and indented lines as they are."""
+    lines, literal = [], False
+    for line in text.replace("\\", "\\e").split("\n"):
+        if line.startswith("  ") != literal:
+            literal = not literal
+            lines.append(".Bd -literal -offset indent" if literal else ".Ed")
+        line = line.strip() if literal else re.sub(r"`([^`]*)`", r"\\fB\1\\fR", line)
+        lines.append(("\\&" if line[:1] in (".", "'") else "") + line.replace("--", "\\-\\-") if line else ".Pp")
+    return "\n".join(lines + [".Ed"] * literal)
+
+
+def synopsis():
+    lines = []
+    for name, _, usages, _ in subcommands():
+        for usage in usages:
+            lines += [".Nm", f".Cm {name}"]
+            lines += [f".Op Fl -{option}" + (f" Ar {value}" if value else "") for _, option, _, value, _, _ in options_of(name) if option != "least"]
+            files = re.sub("[<>]", "", usage.split("[OPTIONS] ")[1]).replace("...", " ...")
+            lines += [".Fl -least"] * files.startswith("--least") + [f".Ar {files.removeprefix('--least ')}"]
+    return "\n".join(lines)
+
+
+def details():
+    long = re.search(rf"pub const PROGRAM_LONG: &str =\s*{TEXT}", source("command_line/src/help.rt"), re.S)[1]
+    lines = [roff(long)]
+    for name, _, _, said in subcommands():
+        lines += [f".Ss {name}", roff(said.split("\n\nFor example")[0]), ".Bl -tag -width Ds"]
+        for _, option, letter, value, default, told in options_of(name):
+            spelled = "".join(f"Fl {it} , " for it in letter) + f"Fl -{option}" + (f" Ar {value}" if value else "")
+            lines += [f".It {spelled}", roff(told + (f" (default: {default})" if default else "")) + "."]
+        lines.append(".El")
+    return "\n".join(lines)
+
+
+def statuses():
+    rows, said = status()
+    lines = [".Bl -tag -width Ds", *(f".It {number}\n{roff(one_line(it))}." for number, it in rows), ".El", ".Pp"]
+    return "\n".join([*lines, roff(re.split(r"^  3  .*\n(?:     .*\n)*", said, flags=re.M)[1].strip())])
+
+
+def short(said):
+    """What an option does, in a few words."""
+    said = re.split(r" ?[:.;(]", re.sub(r"^With --[\w-]+ \w+: ", "", said))[0]
+    return (said[:1].lower() + said[1:]).replace("'", "’").replace("[", "").replace("]", "")
+
+
+def bash_options():
+    return "\n".join(f"        {name}) echo \"{' '.join('--' + it[1] for it in options_of(name))} --help\" ;;" for name in names())
+
+
+def bash_values():
+    rows = [(of, name, values(of, name)) for of, name, _, value, *_ in arguments() if value not in (None, "FILE")]
+    return "\n".join(f"        {' | '.join(f'{it}:--{name}' for it in of)}) echo \"{' '.join(listed) or ' '}\" ;;" for of, name, listed in rows)
+
+
+def zsh_options():
+    lines = []
+    for name in names():
+        words = []
+        for of, option, letter, value, _, told in options_of(name):
+            taken = f":{value}:({' '.join(values(of, option))})" if values(of, option) else f":{value}:_files" if value == "FILE" else f":{value}:" if value else ""
+            words += [f"'{it}[{short(told)}]{taken}'" for it in (f"--{option}", *(f"-{it}" for it in letter))]
+        lines.append(f"        {name}) _arguments {' '.join(words)} '--help' '*:file:_files' ;;")
+    return "\n".join(lines)
+
+
+def fish_options():
+    lines = []
+    for of, name, letter, value, _, said in arguments():
+        taken = f" -x -a '{' '.join(values(of, name))}'" if values(of, name) else " -r" if value == "FILE" else " -x" if value else ""
+        lines.append(f"complete -c multiscalar -n '__fish_seen_subcommand_from {' '.join(of)}' -l {name}{''.join(f' -s {it}' for it in letter)}{taken} -d '{short(said)}'")
+    return "\n".join(lines)
+
+
+# ---------------------------------------------------------------- the whole
+PARTS = {
+    "limits": limits, "crates": crates, "requires": required, "commands": commands,
+    "exit status": lambda: table("Status", "When", ((number, one_line(said)) for number, said in status()[0])),
+    "traps": lambda: faults("mips_plain/src/outcome.rt", "Trap"),
+    "faults of a text": lambda: faults("annotated_asm/src/fault.rt", "AsmFault"),
+    "faults of a program": lambda: faults("task_descriptor/src/program.rt", "BuildFault"),
+    "faults of a certificate": lambda: faults("mask_certificate/src/fault.rt", "CertFault"),
+    "faults of a script": lambda: faults("event_script/src/fault.rt", "ScriptFault"),
+    "refusals": lambda: faults("machine_model/src/event.rt", "Refused"),
+    "synopsis": synopsis, "details": details, "statuses": statuses,
+    "bash names": lambda: f'        names="{" ".join(names())} help"', "bash options": bash_options, "bash values": bash_values,
+    "zsh names": lambda: "\n".join(f"        '{name}:{short(about)}'" for name, about, *_ in subcommands()), "zsh options": zsh_options,
+    "fish names": lambda: f"set -l subcommands {' '.join(names())}",
+    "fish subcommands": lambda: "\n".join(f"complete -c multiscalar -n \"not __fish_seen_subcommand_from $subcommands help\" -a {name} -d '{short(about)}'"
+                                          for name, about, *_ in subcommands()),
+    "fish options": fish_options,
+}
+
+
+def made(text):
+    """A text with its made parts as they are to be."""
+    part = lambda found: f"{found[1]} made: {found[2]}{found[3]}\n{PARTS[found[2]]()}\n{found[1]} end of {found[2]}{found[3]}"
+    return re.sub(r'^([ \t]*(?:<!--|#|\.\\")) made: ([\w ]+?)( -->|)$\n.*?^\1 end of \2\3$', part, text, flags=re.M | re.S)
+
+
+def differences(program):
+    """What `--help` of the built program has otherwise than the table; and instructions that docs/FORMATS.md lacks."""
+    instructions = set(re.findall(r'codes "(\w+)"', source("mips_instructions/specs/InstructionTable.antt")))
+    shown = set(re.findall(r"[a-z]+", " ".join(re.findall(r"`([^`]*)`", (TOP / "docs/FORMATS.md").read_text()))))
+    yield from (f"docs/FORMATS.md lacks the instruction {it}" for it in sorted(instructions - shown))
+    for name in names() if program else ():
+        said = one_line(subprocess.run([program, name, "--help"], capture_output=True, text=True, check=True).stdout)
+        yield from (f"{name} --help lacks --{it[1]}: {it[5]}" for it in options_of(name) if f"--{it[1]}" not in said or it[5] not in said)
+        more = set(re.findall(r"(?<=\s)--([a-z-]+) ?(?:<\w+> )?(?=[A-Z])", said.split(" Options: ")[1])) - {it[1] for it in options_of(name)} - {"help"}
+        yield from (f"{name} --help has --{it}, and the table does not" for it in sorted(more))
+
+
+def main():
+    options = argparse.ArgumentParser(description=__doc__, formatter_class=argparse.RawDescriptionHelpFormatter)
+    options.add_argument("--check", action="store_true")
+    options.add_argument("program", metavar="PROGRAM", nargs="?", type=pathlib.Path)
+    given = options.parse_args()
+    files = [TOP / "man/multiscalar.1", *sorted((TOP / "completions").iterdir()), *sorted((TOP / "docs").glob("*.md")), TOP / "docs/REQUIRES.txt"]
+    found = list(differences(given.program and given.program.resolve()))
+    for path in files:
+        new = made(path.read_text())
+        if new != path.read_text() and given.check:
+            found.append(f"{path.relative_to(TOP)} is not as docs/make.py makes it")
+        elif new != path.read_text():
+            path.write_text(new)
+    print(*found, sep="\n") if found else print("pages, man page and completions are as the sources have it")
+    sys.exit(1 if found else 0)
+
+
+if __name__ == "__main__":
+    main()
