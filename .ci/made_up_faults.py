@@ -36,8 +36,6 @@ ALLOWED = {
     "verdict_report/src/replaying.rt": 1,
     # Noted when a call or a thread was refused.
     "threaded_runner/src/desk.rt": 1,
-    # A test that says what is told of this fault.
-    "test_jobs/src/told_faults.rt": 2,
 }
 
 FAULTS = {"AllocError", "OutOfMemory"}

@@ -6,7 +6,7 @@ _multiscalar_options() {
         seq) echo "--budget --output --help" ;;
         print) echo "--output --help" ;;
         annotate) echo "--emit --output --in-place --report --help" ;;
-        explain) echo "--certificate --script --no-warnings --format --color --output --help" ;;
+        explain) echo "--certificate --script --no-warnings --format --color --fix --output --in-place --help" ;;
         check) echo "--least --workers --output --help" ;;
         replay) echo "--least --units --emit --until --strict --output --help" ;;
         run) echo "--least --schedule --units --workers --budget --predict --emit --axis --with-values --output --help" ;;

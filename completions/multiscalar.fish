@@ -27,6 +27,7 @@ complete -c multiscalar -n '__fish_seen_subcommand_from explain' -l script -r -d
 complete -c multiscalar -n '__fish_seen_subcommand_from explain' -l no-warnings -d 'says nothing of annotations that are right but cost speed'
 complete -c multiscalar -n '__fish_seen_subcommand_from explain' -l format -x -a 'text sarif json' -d 'how it is laid out'
 complete -c multiscalar -n '__fish_seen_subcommand_from explain' -l color -x -a 'auto always never' -d 'whether the lines for a person have colours'
+complete -c multiscalar -n '__fish_seen_subcommand_from explain' -l fix -d 'writes your text with the fixes that were judged to the file of --output or, with --in-place, to PROGRAM'
 complete -c multiscalar -n '__fish_seen_subcommand_from check replay run curve' -l least -d 'makes the least certificate of the program as it stands, in place of CERT'
 complete -c multiscalar -n '__fish_seen_subcommand_from run' -l schedule -x -a 'threads steps' -d 'how the units take turns'
 complete -c multiscalar -n '__fish_seen_subcommand_from replay run' -l units -x -a '1 2 4 8 16' -d 'how many units the machine has, 1 to 16'
@@ -49,6 +50,6 @@ complete -c multiscalar -n '__fish_seen_subcommand_from run' -l axis -x -a 'even
 complete -c multiscalar -n '__fish_seen_subcommand_from run' -l with-values -d 'says of each event what it did, for replay --strict'
 complete -c multiscalar -n '__fish_seen_subcommand_from curve' -l progress -d 'says on standard error of each run when it is done'
 complete -c multiscalar -n '__fish_seen_subcommand_from seq print annotate explain check replay run curve demonstrate' -l output -s o -r -d 'writes the result to FILE, whole or not at all'
-complete -c multiscalar -n '__fish_seen_subcommand_from annotate' -l in-place -d 'writes the text with the proposed marks to PROGRAM itself, whole or not at all'
+complete -c multiscalar -n '__fish_seen_subcommand_from annotate explain' -l in-place -d 'writes the text with the proposed marks or the fixes to PROGRAM itself, whole or not at all'
 complete -c multiscalar -n '__fish_seen_subcommand_from annotate' -l report -d 'says on standard error what is left to mend by hand, and how much it is'
 # end of fish options

@@ -55,8 +55,8 @@ FILES = {"seq": (1, 1), "print": (1, 1), "annotate": (1, 1), "explain": (1, 1), 
          "demonstrate": (1, 1)}
 NUMBERS = {"budget": 1000000, "units": 16, "workers": 16, "until": 1000000, "steps": 1000000}
 # Options that have no value.
-FLAGS = ("least", "no-warnings", "in-place", "report", "strict", "with-values", "progress")
-OPTIONS = {"seq": ("budget",), "print": (), "annotate": ("emit", "in-place", "report"), "explain": ("certificate", "script", "no-warnings", "format", "color"),
+FLAGS = ("least", "no-warnings", "fix", "in-place", "report", "strict", "with-values", "progress")
+OPTIONS = {"seq": ("budget",), "print": (), "annotate": ("emit", "in-place", "report"), "explain": ("certificate", "script", "no-warnings", "format", "color", "fix", "in-place"),
            "check": ("least", "workers"), "replay": ("least", "units", "emit", "until", "strict"), "demonstrate": ("units", "steps", "emit"),
            "run": ("least", "schedule", "units", "workers", "budget", "predict", "emit", "axis", "with-values"),
            "curve": ("least", "units", "budget", "predict", "emit", "progress")}
@@ -191,6 +191,9 @@ def asked(words):
 def fit(name, options, files):
     """Whether options go with one another and with so many files."""
     emit, in_steps = options.get("emit"), options.get("schedule") == "steps"
+    if name == "explain" and ("fix" in options or "in-place" in options):
+        return ("fix" in options and len(files) == 1 and files != ["-"] and options.get("format", "text") == "text"
+                and (options.get("output") not in (None, "-")) != ("in-place" in options) and not {"output", "in-place"} <= {*options})
     if len(files) > 1 and (name == "explain" or name == "check" and "least" in options):
         return not {"certificate", "script"} & {*options} and options.get("format", "text") == "text" and options.get("output", "-") == "-"
     if "in-place" in options:
@@ -243,7 +246,9 @@ def wanted(words, held, call):
     if name == "check":
         return check_text(*given)
     if name == "explain":
-        return wanted_explanation(given[0], {it: held[options[it]] for it in ("certificate", "script") if it in options}, options)
+        fits = wanted_explanation(given[0], {it: held[options[it]] for it in ("certificate", "script") if it in options}, options)
+        # the status is that of the text with the fixes, which the model does not make
+        return fits if "fix" not in options else lambda out, status: status in (0, 1) and (fits(out, 0) or fits(out, 1))
     if name == "demonstrate":
         return wanted_demonstration(given[0], options)
     called = "" if files[0] == "-" else os.path.basename(files[0])
@@ -269,6 +274,8 @@ def told_so(words, held, told):
         most = int(options.get("units", 16))
         accepted, _ = accepted_program(text, least_cert(text) if "least" in options else held[files[1]])
         return told == "".join(f"multiscalar: {files[0]}: {k} of {most} runs\n" for k in range(1, most + 1) if accepted)
+    if "fix" in options:
+        return re.fullmatch(r"multiscalar: .*: (no fix|1 fix|\d+ fixes) applied, (all marks are right|1 error left|(more than )?\d+ errors left)\n", told) is not None
     if "report" not in options or wanted_marks(text)[1]:
         return told == ""
     program = assemble(wanted_marks(text)[0].encode("latin-1"))
@@ -634,8 +641,10 @@ def answered(runner, words, texts):
     changed = sorted(it for it in {*before, *after} if before.get(it) != after.get(it))
     if not changed:
         wrong = "no file is written" if target and status != 2 and not is_refusal(what[0], out) else ""
-    elif changed != [target] or target not in after or status == 2 or out or is_refusal(what[0], after[target][1]):
+    elif changed != [target] or target not in after or status == 2 or "fix" not in options and (out or is_refusal(what[0], after[target][1])):
         wrong = f"files {changed} are others"
+    elif "fix" in options:
+        wrong = ""
     else:
         wrong, out = "", after[target][1]
     return status, out, told, wrong
@@ -715,7 +724,7 @@ def steering(words, out, told):
     """What of an answer would steer a terminal; marks in the author's own text and colours that were asked for may."""
     what = asked(words)
     _, options, _ = what if isinstance(what, tuple) else ("", {}, [])
-    if options.get("emit") == "marks" or "in-place" in options:
+    if options.get("emit") == "marks" or "in-place" in options and "fix" not in options:
         out = b""
     text = (out + told).decode("utf-8", "surrogateescape")
     found = STEERING.search(re.sub(r"\x1b\[[0-9;]*m", "", text) if options.get("color") == "always" else text)

@@ -324,7 +324,8 @@ WRONG_WORDS = (
     "", "help", "sequ a.s", "seq", "seq a.s b.s", "seq --budget a.s", "seq --budget 0 a.s", "seq --budget 1000001 a.s", "seq --budget 1x a.s",
     "seq --units 4 a.s", "seq --bugdet 4 a.s", "seq missing.s", "print -x a.s", "print --output= a.s", "annotate --emit marked a.s",
     "annotate --in-place --emit cert a.s", "annotate --in-place -o b.s a.s", "annotate --in-place -", "explain", "explain --format xml a.s",
-    "explain --color yes a.s", "explain --certificate a.s", "explain --certificate c --format sarif a.s b.s", "explain - -", "check a.s",
+    "explain --color yes a.s", "explain --certificate a.s", "explain --fix w.s", "explain --fix --in-place -", "explain --fix --in-place -o b.s w.s",
+    "explain --fix -o b.s --format json w.s", "explain --fix -o b.s w.s a.s", "explain --in-place w.s", "explain --certificate c --format sarif a.s b.s", "explain - -", "check a.s",
     "check --least a.s c", "check a.s c d", "check --workers 0 --least a.s", "check --workers 17 --least a.s", "check --least --least a.s",
     "replay --least a.s", "replay --least a.s e --units 0", "replay --least a.s e --units 17", "replay --least a.s e --emit vcd",
     "replay --least --strict --emit trace a.s e", "replay --least --strict --until 4 a.s e", "replay --least --until 0 a.s e", "run a.s",
@@ -363,7 +364,9 @@ def add_words(net):
     for words in ("annotate -o out a.s", "annotate --output=out w.s", "print -oout a.s", "print -o out x.s", "explain --format sarif -o out w.s",
                   "run --least --schedule steps --emit svg -o out a.s", "curve --least --units 2 -o out a.s"):
         net.add("words", words, writes="out")
-    for words in ("annotate --in-place w.s", "annotate --in-place --report w.s", "annotate --in-place x.s", "annotate --in-place a.s"):
+    for words in ("explain --fix -o out a.s", "explain --fix -o out w.s", "explain --fix -o out x.s", "explain --fix -o out --certificate c w.s"):
+        net.add("words", words, writes="out")
+    for words in ("explain --fix --in-place w.s", "explain --fix --in-place x.s", "explain --fix --in-place a.s", "annotate --in-place w.s", "annotate --in-place --report w.s", "annotate --in-place x.s", "annotate --in-place a.s"):
         net.add("words", words, writes=words.split()[-1])
     for words in ON_TERMINALS:
         for terminal in ("stdout", "stderr", "both"):

@@ -1,6 +1,6 @@
--- What the values of a subcommand ask for, and when they have one of the two faults that have a name of their own. What
--- the words of an option stand for is said here of `--predict`, and of `--emit` of `annotate`.
-use Rattle.std.specs.Prelude.{◌≡◌, ◌≢◌, ℕ, Bool, true, false, not, List, [], map, Option, Some, None, ⊤, if◌then◌else◌, codes, option_and_then, unwrap_or}
+-- What words and the values of a subcommand ask for, and when they have one of the two faults that have a name of their
+-- own. What the words of an option stand for is said here of `--predict`, and of `--emit` of `annotate`.
+use Rattle.std.specs.Prelude.{◌≡◌, ◌≢◌, ℕ, Bool, true, false, not, List, [], map, Option, Some, None, ⊤, Contains, if◌then◌else◌, codes, is_some, option_and_then, slice_get, unwrap_or}
 use Rattle.std.specs.String.{string_bytes}
 use Rattle.std.specs.Option.{option_map, option_map_or}
 use Rattle.std.specs.Str.{bytes_eq}
@@ -99,11 +99,19 @@ Names values job paths = (first_of (codes "program") values ≡ Some (string_byt
 abbrev pub but_standard : Text → Option Text
 but_standard name = if bytes_eq name (codes "-") then None else Some name
 
--- the file that takes the result, none for standard output
-abbrev pub destination_in : List Row → Option Text
-destination_in values =
+-- the file that is named for a result, none for standard output
+abbrev pub file_in : List Row → Option Text
+file_in values =
     if is_given (codes "in-place") values then first_of (codes "program") values
     else option_and_then but_standard (first_of (codes "output") values)
+
+-- the file that takes the result, none for standard output, and the one that takes the text with fixes: the file that is
+-- named is one or the other
+abbrev pub destination_in : List Row → Option Text
+destination_in values = if is_given (codes "fix") values then None else file_in values
+
+abbrev pub fixes_in : List Row → Option Text
+fixes_in values = if is_given (codes "fix") values then file_in values else None
 
 -- the programs after the first
 abbrev pub further_in : Job → List Row → List Text
@@ -115,6 +123,8 @@ further_in _ values = []
 abbrev pub IsRequested : Text → List Row → Request → Type 0
 IsRequested name values request = Gives name values request.job × Names values request.job request.paths
     × (option_map string_bytes request.output ≡ destination_in values)
+    × (option_map string_bytes request.fixes ≡ fixes_in values)
+    × (is_some request.fixes ≡ is_given (codes "fix") values)
     × (map string_bytes request.further.items ≡ further_in request.job values)
     × (request.report ≡ is_given (codes "report") values)
     × (request.progress ≡ is_given (codes "progress") values)
@@ -124,6 +134,20 @@ abbrev pub Refuses : Text → List Row → UsageFault → Type 0
 Refuses name values Predict = (name ≡ codes "run") × (predict_in values ≡ None)
 Refuses name values EmitFault = (name ≡ codes "annotate") × (emit_in values ≡ None)
 Refuses name values fault = ⊤
+
+-- the words ask for this: the second names a subcommand, whose values give the request, and one is the program's file
+pub record IsRequestOf (words : List Text) (request : Request) : Type 0 where
+  pub name : Text
+  pub subcommand : slice_get words 1 ≡ Some name
+  pub values : List Row
+  pub requested : IsRequested name values request
+  pub program : Contains words (string_bytes request.paths.program)
+
+-- a fault that the words can have
+abbrev pub IsFaultOf : List Text → UsageFault → Type 0
+IsFaultOf words Predict = slice_get words 1 ≡ Some (codes "run")
+IsFaultOf words EmitFault = slice_get words 1 ≡ Some (codes "annotate")
+IsFaultOf words fault = ⊤
 
 -- a fault of `clap`'s, or memory ran out
 abbrev pub IsFrom : Error → UsageFault → Type 0

@@ -1,7 +1,7 @@
 //! The job that the values of a subcommand ask for, and its files.
-ghost use Rattle.std.specs.Prelude.{◌≡◌, IfOk, IfErr, Some, codes, map, not, option_map};
+ghost use Rattle.std.specs.Prelude.{◌≡◌, IfOk, IfErr, Some, codes, is_some, map, not, option_map};
 ghost use Rattle.std.specs.String.{string_bytes};
-ghost use Rattle.command_line.specs.Asked.{Gives, IsRequested, Names, Refuses, destination_in, emit_in, further_in, is_given, number_at, predict_in, values_in};
+ghost use Rattle.command_line.specs.Asked.{Gives, IsRequested, Names, Refuses, destination_in, emit_in, fixes_in, further_in, is_given, number_at, predict_in, values_in};
 ghost use Rattle.command_line.specs.Words.{emit_of};
 ghost use Rattle.jobs.specs.Files.{HasFilesOf, is_in_file};
 
@@ -75,14 +75,16 @@ pub(crate) fn request_in(values: &Values<'_, '_>) -> Result<Request, UsageFault>
     let job = job_in(values)?;
     let paths = paths_in(values, &job)?;
     let output = output_in(values, &job)?;
+    let fixes = fixes_in(values, &job)?;
     let further = further_in(values, &job)?;
     if !further.is_empty() {
-        expect_alone(values, &job, output.is_some())?;
+        expect_alone(values, &job, output.is_some(), fixes.is_some())?;
     }
     Ok(Request {
         job,
         paths,
         output,
+        fixes,
         further,
         report: values.is_given("report"),
         progress: values.is_given("progress"),
@@ -379,6 +381,9 @@ fn output_in(values: &Values<'_, '_>, job: &Job) -> Result<Option<String>, Usage
     ensures value { IfOk result (λ output. option_map string_bytes output ≡ destination_in (values_in values.now.matches.now)) }
     ensures fault { IfErr result (Refuses values.now.name.now (values_in values.now.matches.now)) }
 {
+    if values.is_given("fix") {
+        return Ok(None);
+    }
     let output = values.text("output");
     if !values.is_given("in-place") {
         return match output {
@@ -387,6 +392,9 @@ fn output_in(values: &Values<'_, '_>, job: &Job) -> Result<Option<String>, Usage
         };
     }
     match job {
+        Job::Explain { .. } => {
+            Err(values.fault(ErrorKind::ArgumentConflict, "--in-place goes with --fix"))
+        }
         Job::Annotate {
             emit: Emit::Text | Emit::Marks,
         } if output.is_none() && values.text("program") != Some("-") => {
@@ -397,6 +405,46 @@ fn output_in(values: &Values<'_, '_>, job: &Job) -> Result<Option<String>, Usage
             "with --in-place PROGRAM is a file, there is no --output, and the value of --emit is marks or text",
         )),
     }
+}
+
+// The file that takes the program's text with fixes, if that is asked for.
+fn fixes_in(values: &Values<'_, '_>, job: &Job) -> Result<Option<String>, UsageFault>
+    ensures value { IfOk result (λ fixes. option_map string_bytes fixes ≡ fixes_in (values_in values.now.matches.now)) }
+    ensures given { IfOk result (λ fixes. is_some fixes ≡ is_given (codes "fix") (values_in values.now.matches.now)) }
+    ensures fault { IfErr result (Refuses values.now.name.now (values_in values.now.matches.now)) }
+{
+    if !values.is_given("fix") {
+        return Ok(None);
+    }
+    if values.text("program") == Some("-") || has_log(job) {
+        return Err(values.fault(
+            ErrorKind::ArgumentConflict,
+            "with --fix PROGRAM is a file, and the value of --format is text",
+        ));
+    }
+    match (values.text("output"), values.is_given("in-place")) {
+        (None | Some("-"), false) => Err(values.fault(
+            ErrorKind::MissingRequiredArgument,
+            "a file is missing: with --fix give --output FILE or --in-place",
+        )),
+        (Some(_), false) => Ok(Some(values.path("output")?)),
+        (None, true) => Ok(Some(values.path("program")?)),
+        (Some(_), true) => Err(values.fault(
+            ErrorKind::ArgumentConflict,
+            "there is a file too many: with --in-place there is no --output",
+        )),
+    }
+}
+
+// Whether a job writes a log for machines.
+fn has_log(job: &Job) -> bool {
+    matches!(
+        job,
+        Job::Explain {
+            format: Format::Sarif | Format::Json,
+            ..
+        }
+    )
 }
 
 // The names of the programs after the first.
@@ -414,11 +462,18 @@ fn further_in(values: &Values<'_, '_>, job: &Job) -> Result<Vec<String>, AllocEr
 }
 
 // Refuses a job that further programs cannot also have: they would share what is of one.
-fn expect_alone(values: &Values<'_, '_>, job: &Job, has_output: bool) -> Result<(), UsageFault>
+fn expect_alone(
+    values: &Values<'_, '_>,
+    job: &Job,
+    has_output: bool,
+    has_fixes: bool,
+) -> Result<(), UsageFault>
     ensures { IfErr result (Refuses values.now.name.now (values_in values.now.matches.now)) }
 {
     let shared = if has_output {
         "--output takes the result of one program"
+    } else if has_fixes {
+        "--fix writes the text of one program"
     } else {
         match job {
             Job::Explain {

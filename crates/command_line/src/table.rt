@@ -124,10 +124,16 @@ colours, which a terminal shows; they have them unasked where they go to a termi
 With `--certificate FILE` it says, too, why that text is no certificate, or that it is none of the program as
 it stands, and how to make it anew; and with `--script FILE` why that text is no script of events.
 
+With `--fix` your text with the fixes that were judged goes to the file of `--output` or, with `--in-place`, takes
+the place of PROGRAM; all else in it stays as it is. Standard error is told how many fixes were made, and what is
+left, and the exit status is that of `explain` of the text that is written:
+  multiscalar: PROGRAM: N fixes applied, all marks are right
+  multiscalar: PROGRAM: N fixes applied, M errors left
+
 Of several programs it says so one after another, and then how many there are:
   4 programs: 2 right, 1 wrong, 1 not judged
 One that cannot be read is not judged; the others are. `--certificate`, `--script`, `--format sarif`,
-`--format json` and `--output` are of one program, and are not allowed beside several.
+`--format json`, `--output` and `--fix` are of one program, and are not allowed beside several.
 
 The exit status is 0 where nothing is wrong, with warnings too, and 1 where something is or a text is
 refused. Where a file cannot be read, it is 2, and standard error is told why:
@@ -136,6 +142,7 @@ refused. Where a file cannot be read, it is 2, and standard error is told why:
 For example:
   ./multiscalar explain examples/five-findings/program.s
   ./multiscalar explain examples/warnings/program.s
+  ./multiscalar explain --fix -o fixed.s examples/five-findings/program.s
   ./multiscalar explain examples/count/program.s examples/five-findings/program.s
   ./multiscalar explain --certificate examples/count/certificate.cert2 examples/count/program.s
   ./multiscalar explain --script examples/count/script.events examples/count/program.s
@@ -337,7 +344,7 @@ For example:
 ];
 
 /// The arguments, in the order of the help. Files stand in the places that this order gives them.
-pub(crate) static ARGUMENTS: [ArgumentRow; 35] = [
+pub(crate) static ARGUMENTS: [ArgumentRow; 36] = [
     (
         "seq print annotate explain check replay run curve demonstrate",
         "program",
@@ -405,6 +412,12 @@ each line)",
         Kind::Word("WHEN", "auto"),
         "Whether the lines for a person have colours: auto (where standard output is a terminal and takes them,
 and the environment variable NO_COLOR is not set or is empty), always or never",
+    ),
+    (
+        "explain",
+        "fix",
+        Kind::Flag,
+        "Writes your text with the fixes that were judged to the file of --output or, with --in-place, to PROGRAM",
     ),
     (
         "check replay run curve",
@@ -559,10 +572,10 @@ of traces) or, with --schedule steps, waits (in how many steps which task waited
         "Writes the result to FILE, whole or not at all; without a result FILE stays as it is",
     ),
     (
-        "annotate",
+        "annotate explain",
         "in-place",
         Kind::Flag,
-        "Writes the text with the proposed marks to PROGRAM itself, whole or not at all",
+        "Writes the text with the proposed marks or the fixes to PROGRAM itself, whole or not at all",
     ),
     (
         "annotate",

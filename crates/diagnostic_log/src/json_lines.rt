@@ -3,7 +3,7 @@
 use crate::json_text::{JsonText, Written};
 use crate::paths::told;
 use crate::results::severity_word;
-use diagnostics::diagnostic::{Diagnostic, Help, Note, Span};
+use diagnostics::diagnostic::{Diagnostic, Help, Note, Severity, Source, Span};
 use diagnostics::files::Files;
 use std::alloc::{AllocError, Global};
 
@@ -68,7 +68,7 @@ fn write_help(out: &mut JsonText, help: &Option<Help>, mends: bool) -> Written {
     out.end()
 }
 
-/// The line of a diagnostic of a file of this name.
+/// The line of a diagnostic of a file of this name. `mends` where what helps say of the marks makes them right.
 fn line_of(
     alloc: Global,
     file: &str,
@@ -88,7 +88,8 @@ fn line_of(
         write_note(&mut out, note)?;
     }
     out.end_list()?;
-    write_help(&mut out, &said.help, mends)?;
+    let is_of_marks = said.source == Source::Program && said.severity == Severity::Error;
+    write_help(&mut out, &said.help, mends && is_of_marks)?;
     out.end()?;
     out.into_line()
 }

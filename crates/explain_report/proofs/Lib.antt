@@ -1,2 +1,3 @@
 mod Silence
 mod Counting
+mod Repairing

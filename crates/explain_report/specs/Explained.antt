@@ -1,6 +1,7 @@
 -- What `explain` says: what is wrong with a program text, or with the marks of its program, what could be better about
 -- them, and what is wrong with a certificate and with an event script that are given beside it.
-use Rattle.std.specs.Prelude.{◌≡◌, ℕ, Bool, true, false, not, ◌&&◌, List, [], ◌∷◌, ◌++◌, Option, Some, None, IfSome, Result, Ok, Err}
+use Rattle.std.specs.Prelude.{◌≡◌, ℕ, Bool, true, false, ◌&&◌, List, [], ◌∷◌, ◌++◌, Option, Some, None, IfSome, Result, Ok, Err}
+use Rattle.std.specs.List.{All}
 use Rattle.task_descriptor.specs.Listing.{Listing}
 use Rattle.annotated_asm.specs.declared.fault.AsmFault.{AsmFault}
 use Rattle.annotated_asm.specs.ProgramText.{parse}
@@ -15,6 +16,9 @@ use Rattle.input_diagnostics.specs.Advice.{IsErrorIn}
 use Rattle.input_diagnostics.specs.MistakenTexts.{mistaken_kind}
 use Rattle.input_diagnostics.specs.ScriptErrors.{AreScriptErrors}
 use Rattle.judged_fixes.specs.Fixed.{AreSameErrors, IsFixed}
+use Rattle.judged_fixes.specs.Further.{IsFixedFurther, IsInWords}
+use Rattle.judged_fixes.specs.Right.{IsSaidOf}
+use Rattle.judged_fixes.specs.declared.judge.Marks.TheVariants.{Unread}
 use Rattle.explain_report.specs.declared.explanation.Explanation.{Explanation}
 use Rattle.explain_report.specs.Beside.{IsCertificateSaid, is_silent}
 use Rattle.explain_report.specs.Order.{in_order}
@@ -51,7 +55,7 @@ pub record IsProgramExplained (cert_file script_file : Option (List ℕ)) (warni
   pub scripted : List Diagnostic
   pub played : IsScriptSaid script_file p script scripted
   pub said : e.said ≡ in_order (told ++ (warned ++ (beside ++ scripted)))
-  pub marked : e.has_wrong_marks ≡ not (is_silent errors)
+  pub marked : IsSaidOf p e.marks
   pub status : e.status ≡ said_status (errors ++ (beside ++ scripted))
 
 -- The diagnostics for a text that spells no program: the fault at which the assembler stops is among them; or only what it
@@ -60,10 +64,18 @@ abbrev pub IsRefusedBy : Option Mistaken → (text : List ℕ) → AsmFault → 
 IsRefusedBy None text fault said = IsTold text fault said
 IsRefusedBy (Some kind) text fault said = (d : Diagnostic) × IsErrorIn Program 1 d × (said ≡ d ∷ [])
 
+-- A fix of the first fault is told where the assembler comes further with it, and the text with it is kept; else what tells
+-- that fault is told in words alone.
 pub record IsRefusedSaid (text : List ℕ) (fault : AsmFault) (e : Explanation) : Type 0 where
   pub errors : List Diagnostic
   pub wrong : IsRefusedBy (mistaken_kind text) text fault errors
-  pub is : e ≡ record { said = in_order errors; has_wrong_marks = false; status = 1; fixed = None }
+  pub told : List Diagnostic
+  pub same : AreSameErrors told errors
+  pub fixed : IfSome e.fixed (IsFixedFurther text fault errors)
+  pub words : e.fixed ≡ None → All (IsInWords text fault) told
+  pub said : e.said ≡ in_order told
+  pub marked : e.marks ≡ Unread
+  pub status : e.status ≡ 1
 
 abbrev pub IsReadExplained : (cert_file script_file : Option (List ℕ)) → (warnings : Bool) → (text certificate script : List ℕ) → Result Listing AsmFault → Explanation → Type 0
 IsReadExplained cert_file script_file warnings text certificate script (Ok p) e =

@@ -1,10 +1,11 @@
 //! What `explain` says, as diagnostics, of which each form is made.
-ghost use Rattle.std.specs.Prelude.{◌≡◌, ◌&&◌, ◌++◌, Ok, Some, not, true, IfOk};
+ghost use Rattle.std.specs.Prelude.{◌≡◌, ◌≢◌, ◌↔◌, ◌&&◌, ◌++◌, [], Ok, Some, true, IfOk};
 ghost use Rattle.std.specs.Option.{option_map};
 ghost use Rattle.std.specs.String.{string_bytes};
 ghost use Rattle.annotated_asm.specs.ProgramText.{parse};
 ghost use Rattle.annotator.specs.Least.{IsLeast};
 ghost use Rattle.input_diagnostics.specs.MistakenTexts.{mistaken_kind};
+ghost use Rattle.judged_fixes.specs.declared.judge.Marks.TheVariants.{Right, Unread};
 ghost use Rattle.explain_report.specs.Beside.{IsCertificateSaid, is_silent};
 ghost use Rattle.explain_report.specs.Explained.{AreWarned, IsExplained, IsProgramExplained, IsRefusedBy, IsRefusedSaid, IsScriptSaid, said_status};
 ghost use Rattle.explain_report.specs.Order.{in_order};
@@ -19,7 +20,10 @@ use diagnostics::diagnostic::Diagnostic;
 use diagnostics::listed::Listed;
 use input_diagnostics::mistaken::{Mistaken, mistaken_error, mistaken_kind};
 use input_diagnostics::script::script_errors;
+use judged_fixes::judge::Marks;
 use judged_fixes::judged::judge_fixes;
+use judged_fixes::proposal::proposal;
+use judged_fixes::refused::judge_refusal;
 use mark_diagnostics::error::mark_errors;
 use mark_diagnostics::warning::mark_warnings;
 use mask_certificate::certificate::Cert;
@@ -93,12 +97,13 @@ fn refusal_explained(alloc: Global, text: &[u8], fault: AsmFault) -> Result<Expl
     ensures { IfOk result (IsRefusedSaid text.now fault) }
 {
     let errors = refused_said(alloc, text, fault)?;
-    let said = in_order(alloc, errors)?;
+    let judged = judge_refusal(alloc, text, fault, errors)?;
+    let said = in_order(alloc, judged.errors)?;
     Ok(Explanation {
         said: Listed::new(said),
-        has_wrong_marks: false,
+        marks: Marks::Unread,
         status: 1,
-        fixed: None,
+        fixed: judged.fixed,
     })
 }
 
@@ -125,13 +130,14 @@ fn program_explained(
     let scripted = script_said(alloc, script_file, program, script)?;
     let beside = both(certified, scripted)?;
     let status = status_of(&errors, &beside);
-    let has_wrong_marks = !is_silent(&errors);
-    let judged = judge_fixes(alloc, text, program, &least, errors)?;
+    let marks = marks_by(&errors);
+    let all = proposal(alloc, text, &errors, None)?;
+    let judged = judge_fixes(alloc, text, program, &least, errors, &all)?;
     let all = both(judged.errors, both(warned, beside)?)?;
     let said = in_order(alloc, all)?;
     Ok(Explanation {
         said: Listed::new(said),
-        has_wrong_marks,
+        marks,
         status,
         fixed: judged.fixed,
     })
@@ -191,6 +197,18 @@ fn is_asked(warnings: bool, errors: &[Diagnostic]) -> bool
     ensures { result ≡ (warnings && is_silent errors.now) }
 {
     warnings && is_silent(errors)
+}
+
+// What a program's marks are of which this is wrong.
+fn marks_by(errors: &[Diagnostic]) -> Marks
+    ensures right { (result ≡ Right) ↔ (errors.now ≡ []) }
+    ensures read { result ≢ Unread }
+{
+    if is_silent(errors) {
+        Marks::Right
+    } else {
+        Marks::Wrong
+    }
 }
 
 // The status of what is wrong with the marks and with the texts beside the program: 0 where it is nothing.

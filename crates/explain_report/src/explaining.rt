@@ -14,6 +14,7 @@ use diagnostics::diagnostic::{Diagnostic, Severity, Source};
 use diagnostics::files::{Files, TextFile};
 use diagnostics::text::text_of;
 use jobs::job::{Colors, Format, Texts};
+use judged_fixes::judge::Marks;
 use judged_fixes::proposal::has_fix;
 use report_texts::report::JobReport;
 use shown_names::shell::shell_word;
@@ -52,8 +53,36 @@ pub fn explain(
         &certificate,
         script,
     )?;
+    let written = written(
+        alloc,
+        format,
+        asked,
+        name,
+        cert_file,
+        script_file,
+        text,
+        &certificate,
+        script,
+        &explained,
+    )?;
+    Ok(JobReport::new(written, explained.status))
+}
+
+/// What is said of these texts, in a format.
+pub(crate) fn written(
+    alloc: Global,
+    format: Format,
+    asked: Colors,
+    name: &str,
+    cert_file: &Option<String>,
+    script_file: &Option<String>,
+    text: &[u8],
+    certificate: &[u8],
+    script: &[u8],
+    explained: &Explanation,
+) -> Result<Vec<u8>, AllocError> {
     let rows = lines_of(alloc, text)?;
-    let beside = file_lines(alloc, cert_file, &certificate)?;
+    let beside = file_lines(alloc, cert_file, certificate)?;
     let events = file_lines(alloc, script_file, script)?;
     let files = Files {
         program: TextFile { name, rows: &rows },
@@ -66,12 +95,11 @@ pub fn explain(
             rows: &events,
         },
     };
-    let written = written(alloc, format, asked, &files, &explained)?;
-    Ok(JobReport::new(written, explained.status))
+    said_in(alloc, format, asked, &files, explained)
 }
 
-// What is said of these texts, in a format.
-fn written(
+// What is said of the texts in these files, in a format.
+fn said_in(
     alloc: Global,
     format: Format,
     asked: Colors,
@@ -90,7 +118,7 @@ fn written(
         Format::Text => {}
     }
     let mut text = text_of(alloc, files, said, colour)?;
-    if explained.has_wrong_marks {
+    if explained.marks == Marks::Wrong {
         let name = shell_word(alloc, files.program.name)?;
         writeln!(
             text,
@@ -103,10 +131,10 @@ fn written(
     Ok(text.into_bytes())
 }
 
-// Whether what is told to write makes the marks right.
+// Whether what is told to write makes wrong marks right.
 fn mends(explained: &Explanation) -> bool {
     match &explained.fixed {
-        Some(fixed) => fixed.is_right,
+        Some(fixed) => fixed.is_right && explained.marks == Marks::Wrong,
         None => false,
     }
 }

@@ -3,16 +3,18 @@
 use diagnostics::diagnostic::Diagnostic;
 use diagnostics::listed::Listed;
 use judged_fixes::fixed::Fixed;
+use judged_fixes::judge::Marks;
 
-/// The diagnostics for the texts of `explain`, whether marks are wrong, and the status of the program.
+/// The diagnostics for the texts of `explain`, what the program's marks are, and the status of the program.
 #[derive(Debug, Drop)]
 pub struct Explanation {
     /// The diagnostics.
     pub said: Listed<Diagnostic>,
-    /// Whether a mark of the program is wrong, so that a run may show its harm.
-    pub has_wrong_marks: bool,
+    /// What the marks of the program text are. Where they are wrong, a run may show their harm.
+    pub marks: Marks,
     /// 1 where something is wrong, else 0.
     pub status: u8,
-    /// The program text with fixes made in it, which were judged; `None` where there is none to make.
+    /// The text with fixes made in it, which were judged: of a refused text with that of its first fault. `None` where there
+    /// is none to make.
     pub fixed: Option<Fixed>,
 }

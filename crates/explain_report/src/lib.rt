@@ -11,3 +11,5 @@ pub mod laws;
 pub mod left;
 pub mod order;
 pub mod proposal;
+pub mod repaired;
+pub mod repairing;

@@ -1,11 +1,15 @@
 -- What is said of a text's marks is what its program's are.
-use Rattle.std.proofs.Common.{◌≡◌, ◌↔◌, ℕ, List, Result, Ok, Err, refl, sym, ◌∙◌, subst}
+use Rattle.std.proofs.Common.{◌≡◌, ◌↔◌, ℕ, Bool, true, false, List, [], ◌∷◌, Option, Some, None, Result, Ok, Err, length, refl, sym, ap, ◌∙◌, subst, arith}
 use Rattle.task_descriptor.specs.Listing.{Listing}
 use Rattle.annotated_asm.specs.declared.fault.AsmFault.{AsmFault}
 use Rattle.annotated_asm.specs.ProgramText.{parse}
 use Rattle.task_graph.specs.Soundness.{Sound}
 use Rattle.judged_fixes.specs.declared.judge.Marks.{Marks}
 use Rattle.judged_fixes.specs.declared.judge.Marks.TheVariants.{Right, Wrong, Unread}
+use Rattle.judged_fixes.specs.declared.edit.Edit.{Edit}
+use Rattle.judged_fixes.specs.declared.fixed.Fixed.{Fixed}
+use Rattle.judged_fixes.specs.Fixed.{IsTakenIfRight, IsRightWith, says_right}
+use Rattle.judged_fixes.specs.Mended.{mended}
 use Rattle.judged_fixes.specs.Right.{IsRight, IsSaidOf, IsUnread}
 
 one_program : (r : Result Listing AsmFault) (p q : Listing) → r ≡ Ok p → r ≡ Ok q → p ≡ q
@@ -31,3 +35,34 @@ right_where_refused text fault refused =
 
 pub unread_where_refused : (text : List ℕ) (fault : AsmFault) → parse text ≡ Err fault → (Unread ≡ Unread) ↔ IsUnread text
 unread_where_refused text fault refused = (λ _. record { fault = fault; refused = refused }, λ _. refl)
+
+-- A text that is taken if its marks are right.
+
+pub nothing_to_take : (text : List ℕ) (edits : List Edit) (from : List ℕ) (fixed : Option Fixed) → length from ≡ 0 → IsTakenIfRight text edits from fixed
+nothing_to_take text edits [] fixed none = tt
+nothing_to_take text edits (place ∷ places) fixed none = absurd (omega arith)
+
+unread_is_not_right : Unread ≡ Right → ⊥
+unread_is_not_right e = cc
+
+pub unread_not_taken : (text new : List ℕ) (edits : List Edit) (from : List ℕ) (marks : Marks) → new ≡ mended text edits
+    → (marks ≡ Right) ↔ IsRight new → marks ≡ Unread → IsTakenIfRight text edits from None
+unread_not_taken text new edits [] marks is right unread = tt
+unread_not_taken text new edits (place ∷ places) marks is right unread = λ sound.
+    unread_is_not_right (sym unread ∙ right.1 (subst IsRight (sym is) sound))
+
+pub made_taken : (text : List ℕ) (edits : List Edit) (from : List ℕ) (marks : Marks) (f : Fixed) → f.text ≡ mended text edits
+    → (marks ≡ Right) ↔ IsRight f.text → (f.is_right ≡ true) ↔ (marks ≡ Right) → IsTakenIfRight text edits from (Some f)
+made_taken text edits [] marks f is right said = tt
+made_taken text edits (place ∷ places) marks f is right said = λ sound.
+    (is, said.1 (right.1 (subst IsRight (sym is) sound)))
+
+-- one that is not said to be right was not taken, so its marks are not right
+not_right : (text : List ℕ) (edits : List Edit) (together : Option Fixed) → IsRightWith text edits together → says_right together ≡ false → ⊥
+not_right text edits None with_it said = with_it
+not_right text edits (Some f) with_it said = absurd (cc (with_it.1, said))
+
+pub another_taken : (text : List ℕ) (edits : List Edit) (from : List ℕ) (together fixed : Option Fixed) → IsTakenIfRight text edits from together
+    → says_right together ≡ false → IsTakenIfRight text edits from fixed
+another_taken text edits [] together fixed h said = tt
+another_taken text edits (place ∷ places) together fixed h said = λ sound. absurd (not_right text edits together (h sound) said)

@@ -1,5 +1,5 @@
 -- A text with the fixes made that were judged, and what is said of errors whose fix is not right.
-use Rattle.std.specs.Prelude.{◌≡◌, ◌↔◌, ℕ, true, List, None, map}
+use Rattle.std.specs.Prelude.{◌≡◌, ◌↔◌, ℕ, Bool, true, false, List, [], ◌∷◌, ⊤, Option, Some, None, map}
 use Rattle.std.specs.List.{All}
 use Rattle.diagnostics.specs.declared.diagnostic.Diagnostic.{Diagnostic}
 use Rattle.judged_fixes.specs.declared.edit.Edit.{Edit}
@@ -15,6 +15,21 @@ pub record IsFixed (text : List ℕ) (said : List Diagnostic) (f : Fixed) : Type
   pub proposed : All (IsProposed text said) edits
   pub written : f.text ≡ mended text edits
   pub right : (f.is_right ≡ true) ↔ IsRight f.text
+
+-- The text with these edits is taken if its marks are right, and it is said that they are. They are from the helps of some
+-- diagnostics, at these places; where they are from none, there is nothing to take.
+abbrev pub IsRightWith : (text : List ℕ) → List Edit → Option Fixed → Type 0
+IsRightWith text edits None = ⊥
+IsRightWith text edits (Some f) = (f.text ≡ mended text edits) × (f.is_right ≡ true)
+
+abbrev pub IsTakenIfRight : (text : List ℕ) → List Edit → (from : List ℕ) → Option Fixed → Type 0
+IsTakenIfRight text edits [] fixed = ⊤
+IsTakenIfRight text edits (place ∷ places) fixed = IsRight (mended text edits) → IsRightWith text edits fixed
+
+-- it is said that the marks of a text with fixes are right
+abbrev pub says_right : Option Fixed → Bool
+says_right None = false
+says_right (Some f) = f.is_right
 
 -- a diagnostic without what is to be done
 abbrev pub besides_help : Diagnostic → Diagnostic

@@ -1,5 +1,5 @@
 -- What helps propose to write, as edits of the text.
-use Rattle.std.specs.Prelude.{◌≡◌, ◌<◌, ◌≤◌, ◌+◌, ◌-◌, ◌==◌, ◌⊎◌, ℕ, List, [], length, take, slice_index, count_by, Option, Some, None}
+use Rattle.std.specs.Prelude.{◌≡◌, ◌<◌, ◌≤◌, ◌+◌, ◌-◌, ◌==◌, ◌⊎◌, ℕ, Bool, not, List, [], length, take, slice_index, count_by, Option, Some, None}
 use Rattle.std.specs.List.{Contains}
 use Rattle.diagnostics.specs.declared.diagnostic.Diagnostic.{Diagnostic}
 use Rattle.diagnostics.specs.declared.diagnostic.Help.{Help}
@@ -29,6 +29,10 @@ pub record IsEditOf (text : List ℕ) (r : Replacement) (e : Edit) : Type 0 wher
 abbrev pub replacements_of : Option Help → List Replacement
 replacements_of None = []
 replacements_of (Some help) = help.replacements
+
+-- the help of a diagnostic proposes to write something
+abbrev pub has_fix : Diagnostic → Bool
+has_fix d = not (length (replacements_of d.help) == 0)
 
 -- an edit that the help of a diagnostic proposes
 pub record IsProposedBy (text : List ℕ) (d : Diagnostic) (e : Edit) : Type 0 where

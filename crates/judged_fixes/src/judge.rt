@@ -53,8 +53,8 @@ pub fn marks_of(alloc: Global, text: &[u8]) -> Result<Marks, AllocError>
     }
 }
 
-// Whether the marks of a program are right.
-fn marks_in(alloc: Global, program: &Program) -> Result<Marks, AllocError>
+/// Whether the marks of a program are right.
+pub(crate) fn marks_in(alloc: Global, program: &Program) -> Result<Marks, AllocError>
     ensures { IfOk result (IsSaidOf program.now) }
 {
     least_decides();

@@ -1,16 +1,16 @@
 //! Fixes for wrong marks, which are made together and judged, or one by one.
 
-ghost use Rattle.std.specs.Prelude.{◌≡◌, Ok, IfOk, IfSome};
+ghost use Rattle.std.specs.Prelude.{◌≡◌, Ok, false, IfOk, IfSome};
 ghost use Rattle.std.specs.List.{All};
 ghost use Rattle.annotator.specs.Least.{IsLeast};
-ghost use Rattle.judged_fixes.specs.Fixed.{AreSameErrors, IsFixed, besides_help};
-ghost use Rattle.judged_fixes.specs.Proposed.{IsProposed};
+ghost use Rattle.judged_fixes.specs.Fixed.{AreSameErrors, IsFixed, IsTakenIfRight, besides_help, says_right};
+ghost use Rattle.judged_fixes.specs.Proposed.{IsProposed, has_fix};
 
 use crate::fixed::Fixed;
 use crate::judge::{Marks, is_gone, marks_of};
 use crate::mended::mended;
 use crate::proposal::{Proposed, has_fix, proposal};
-use diagnostics::diagnostic::{Diagnostic, Help};
+use diagnostics::diagnostic::Diagnostic;
 use diagnostics::helps::in_words;
 use diagnostics::listed::Listed;
 use mark_checker::finding::Finding;
@@ -39,7 +39,8 @@ fn made(
     proposal: &Proposed,
 ) -> Result<Option<Fixed>, AllocError>
     requires { All (IsProposed text.now said.now) proposal.now.edits.items }
-    ensures { IfOk result (λ found. IfSome found (IsFixed text.now said.now)) }
+    ensures fixed { IfOk result (λ found. IfSome found (IsFixed text.now said.now)) }
+    ensures taken { IfOk result (IsTakenIfRight text.now proposal.now.edits.items proposal.now.from.items) }
 {
     if proposal.from.is_empty() {
         return Ok(None);
@@ -89,17 +90,15 @@ fn try_each(
     Ok(Tried { good, bad })
 }
 
-// A help in words alone.
-fn without_replacements(alloc: Global, help: Help) -> Help {
-    in_words(alloc, help.message)
-}
-
-// Leaves of a diagnostic's help its words alone.
-fn tell_in_words(alloc: Global, said: &mut Diagnostic)
-    ensures { besides_help said.new ≡ besides_help said.old }
+/// Leaves of a diagnostic's help its words alone.
+pub(crate) fn tell_in_words(alloc: Global, said: &mut Diagnostic)
+    ensures same { besides_help said.new ≡ besides_help said.old }
+    ensures words { has_fix said.new ≡ false }
 {
-    let help = said.help.take();
-    said.help = help.map(|help| without_replacements(alloc, help));
+    said.help = match said.help.take() {
+        Some(help) => Some(in_words(alloc, help.message)),
+        None => None,
+    };
 }
 
 // Leaves of the helps of the errors at these places their words alone.
@@ -121,23 +120,25 @@ fn left_out(
 ) -> Result<Vec<usize>, AllocError> {
     let mut left = Vec::new(alloc);
     for (place, error) in errors.iter().enumerate() {
-        if has_fix(error) && !from.contains(&place) {
+        if has_fix(error) && from.binary_search(&place).is_err() {
             left.push(place)?;
         }
     }
     Ok(left)
 }
 
-// Whether a text with fixes is right.
-fn is_right(fixed: &Option<Fixed>) -> bool {
+// Whether it is said that the marks of a text with fixes are right.
+fn says_right(fixed: &Option<Fixed>) -> bool
+    ensures { result ≡ says_right fixed.now }
+{
     match fixed {
         Some(fixed) => fixed.is_right,
         None => false,
     }
 }
 
-/// Judges the fixes that the errors of a program's marks propose: all of them together, and where that does not make the
-/// marks right, some of them alone, of which those are made that make their error go.
+/// Judges the fixes that the errors of a program's marks propose: those of a proposal together, which are taken if they make
+/// the marks right; and else some of them alone, of which those are made that make their error go.
 ///
 /// # Errors
 ///
@@ -148,20 +149,22 @@ pub fn judge_fixes(
     program: &Program,
     least: &Cert,
     mut errors: Vec<Diagnostic>,
+    all: &Proposed,
 ) -> Result<Judged, AllocError>
-    requires { IsLeast program.now least.now }
+    requires least { IsLeast program.now least.now }
+    requires proposed { All (IsProposed text.now errors.items) all.now.edits.items }
+    ensures taken { IfOk result (λ judged. IsTakenIfRight text.now all.now.edits.items all.now.from.items judged.fixed) }
     ensures same { IfOk result (λ judged. AreSameErrors judged.errors.items errors.items) }
     ensures fixed { IfOk result (λ judged. IfSome judged.fixed (IsFixed text.now errors.items)) }
 {
-    let all = proposal(alloc, text, &errors, None)?;
     if all.from.is_empty() {
         return Ok(Judged {
             errors,
             fixed: None,
         });
     }
-    let together = made(alloc, text, &errors, &all)?;
-    if is_right(&together) {
+    let together = made(alloc, text, &errors, all)?;
+    if says_right(&together) {
         let left = left_out(alloc, &errors, &all.from)?;
         tell_all_in_words(alloc, &mut errors, &left);
         return Ok(Judged {
@@ -173,7 +176,7 @@ pub fn judge_fixes(
     let tried = try_each(alloc, text, &errors, &findings.0)?;
     let some = proposal(alloc, text, &errors, Some(&tried.good))?;
     let fixed = made(alloc, text, &errors, &some)?;
-    let left = if is_right(&fixed) {
+    let left = if says_right(&fixed) {
         left_out(alloc, &errors, &some.from)?
     } else {
         tried.bad

@@ -9,3 +9,4 @@ pub mod judged;
 pub mod mended;
 mod places;
 pub mod proposal;
+pub mod refused;

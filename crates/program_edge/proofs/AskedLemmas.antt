@@ -14,7 +14,7 @@ use Rattle.program_edge.specs.Asking.{AreWordsOf, IsAskedBy, IsAskedOf, KnownWor
 
 -- memory may run out whatever the words are
 out_of_memory : (words : List Text) → IsAskedBy words (Err OutOfMemory)
-out_of_memory words = record { fault = usage.OutOfMemory; told_so = refl }
+out_of_memory words = record { fault = usage.OutOfMemory; theirs = tt; told_so = refl }
 
 pub unread : (known : KnownWords) (got : Result (Vec (String Global) Global) Fault) (fault : Fault) → got ≡ Err fault → AreWordsOf known got
     → IsAskedOf known (Err fault)

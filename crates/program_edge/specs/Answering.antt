@@ -1,14 +1,19 @@
 -- How the program ends, for what it was asked and what its files hold.
-use Rattle.std.specs.Prelude.{◌≡◌, ◌⊎◌, ◌&&◌, ℕ, Bool, true, false, List, [], ◌∷◌, Option, Some, None, Result, Ok, Err}
+use Rattle.std.specs.Prelude.{◌≡◌, ◌⊎◌, ◌&&◌, ℕ, nat_le, Bool, true, false, List, [], ◌∷◌, length, Option, Some, None, Result, Ok, Err}
 use Rattle.std.specs.Io.KnownBytes.{Appends, Keeps}
+use Rattle.std.specs.Option.{option_map}
 use Rattle.std.specs.String.{string_bytes}
 use Rattle.std.specs.declared.string.String.{String}
 use Rattle.std.specs.declared.alloc.Global.{Global}
 use Rattle.jobs.specs.declared.job.Job.{Job}
+use Rattle.jobs.specs.declared.job.Job.TheVariants.{Explain}
 use Rattle.jobs.specs.declared.job.Texts.{Texts}
 use Rattle.command_line.specs.declared.request.Request.{Request}
 use Rattle.report_texts.specs.OutputTexts.{Report}
+use Rattle.explain_report.specs.declared.repaired.Repaired.{Repaired}
+use Rattle.explain_report.specs.Repairs.{IsRepaired}
 use Rattle.verdict_report.specs.declared.fault.ServeFault.{ServeFault}
+use Rattle.verdict_report.specs.declared.fault.ServeFault.TheVariants as serve
 use Rattle.verdict_report.specs.CurveProgress.{IsProgress, progress_lines}
 use Rattle.verdict_report.specs.Delivering.{is_cut}
 use Rattle.verdict_report.specs.JobTexts.{IsCutOff, IsDone, IsReportOf}
@@ -20,7 +25,7 @@ use Rattle.program_edge.specs.declared.fault.Fault.{Fault}
 use Rattle.program_edge.specs.declared.fault.Fault.TheVariants.{NotWritten, Serve}
 use Rattle.program_edge.specs.declared.unread.Unread.{Unread}
 use Rattle.program_edge.specs.declared.told.Answered.{Answered}
-use Rattle.program_edge.specs.FileTexts.{Known, AreTextsOf}
+use Rattle.program_edge.specs.FileTexts.{Known, AreTextsOf, most_program}
 use Rattle.program_edge.specs.Asking.{KnownWords, IsAskedOf}
 use Rattle.program_edge.specs.Beside.{Audience, IsBeside}
 use Rattle.program_edge.specs.Colouring.{settled_asked}
@@ -84,6 +89,20 @@ pub record IsPut (watched : Bool) (audience : Audience) (job : Job) (path : Stri
   pub told : IsBeside audience job texts.program.items report beside
   pub taken : IsTaken watched (is_refusal job report.status report.bytes) beside path report ending old new
 
+-- a file took the text with fixes of `explain`, and holds nothing else; then standard output took what is said of the text
+-- as it was, and standard error how many fixes there are
+pub record IsKeptFixed (watched : Bool) (path : String Global) (repaired : Repaired) (ending : Answered) (old new : World) : Type 0 where
+  pub kept : watched ≡ true → new.files (string_bytes path) ≡ Some repaired.text
+  pub others : ChangesAt old.files new.files (string_bytes path)
+  pub said : IsShown repaired.line.items (record { bytes = repaired.said.items; status = repaired.status }) ending (record old { files = new.files }) new
+      ⊎ IsBroken (record { bytes = repaired.said.items; status = repaired.status }) ending (record old { files = new.files }) new
+
+-- a program was explained, and a file is to take its text with fixes
+pub record IsRepairDelivered (watched : Bool) (path : String Global) (certificate script : Option (String Global)) (warnings : Bool) (texts : Texts) (ending : Answered) (old new : World) : Type 0 where
+  pub repaired : Repaired
+  pub right : IsRepaired (option_map string_bytes certificate) (option_map string_bytes script) warnings texts.program.items texts.certificate texts.script.items repaired
+  pub kept : IsKeptFixed watched path repaired ending old new ⊎ IsNotKept path ending old new
+
 -- the job was done, with its report where it was asked for
 abbrev pub IsDelivered : (watched : Bool) → Audience → Option (String Global) → Job → Texts → Answered → World → World → Type 0
 IsDelivered watched audience None job texts ending old new = IsJobDone audience job texts ending old new
@@ -116,10 +135,28 @@ IsDeliveredIf false watched audience place job texts ending old new =
     IsDelivered watched audience place job texts ending old new ⊎ IsNotDone job texts ending old new
 IsDeliveredIf true watched audience place job texts ending old new = IsDeliveredTold watched audience place job texts ending old new
 
+-- a program text was read to its end
+abbrev pub is_whole : Texts → Bool
+is_whole texts = nat_le (length texts.program.items) most_program
+
+-- with a file for the text with fixes: a text that was cut when it was read is explained alone
+abbrev pub IsDeliveredFixed : (is_whole watched : Bool) → Audience → (path : String Global) → Job → Texts → Answered → World → World → Type 0
+IsDeliveredFixed true watched audience path (Explain name certificate script warnings format colors) texts ending old new =
+    IsRepairDelivered watched path certificate script warnings texts ending old new ⊎ IsToldAlone (Serve serve.OutOfMemory) ending old new
+IsDeliveredFixed whole watched audience path job texts ending old new =
+    IsDelivered watched audience None job texts ending old new ⊎ IsNotDone job texts ending old new
+
+-- as `IsDeliveredFixed` if a file is to take the text with fixes, else without that
+abbrev pub IsDeliveredOf : (fixes : Option (String Global)) → (progress watched : Bool) → Audience → Option (String Global) → Job → Texts → Answered → World → World → Type 0
+IsDeliveredOf None progress watched audience place job texts ending old new =
+    IsDeliveredIf progress watched audience place job texts ending old new
+IsDeliveredOf (Some path) progress watched audience place job texts ending old new =
+    IsDeliveredFixed (is_whole texts) watched audience path job texts ending old new
+
 -- the hint beside the report names the program's file; `is_terminal` says whether standard error is a terminal
 abbrev pub IsServed : (watched is_terminal : Bool) → Request → Result Texts Unread → Answered → World → World → Type 0
 IsServed watched is_terminal request (Ok texts) ending old new =
-    IsDeliveredIf request.progress watched (record { is_terminal = is_terminal; wants_rest = request.report; name = string_bytes request.paths.program }) request.output request.job texts ending old new
+    IsDeliveredOf request.fixes request.progress watched (record { is_terminal = is_terminal; wants_rest = request.report; name = string_bytes request.paths.program }) request.output request.job texts ending old new
 IsServed watched is_terminal request (Err unread) ending old new = IsToldAlone (unread_fault request.job unread) ending old new
 
 -- the texts of the job were read, and the job served

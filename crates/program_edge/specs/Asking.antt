@@ -8,6 +8,7 @@ use Rattle.std.specs.declared.string.String.{String}
 use Rattle.std.specs.declared.vec.Vec.{Vec}
 use Rattle.clap.specs.Words.{Text}
 use Rattle.jobs.specs.Files.{HasFilesOf}
+use Rattle.command_line.specs.Asked.{IsRequestOf, IsFaultOf as IsFaultOfWords}
 use Rattle.command_line.specs.declared.request.Request.{Request}
 use Rattle.command_line.specs.declared.words.UsageFault.{UsageFault}
 use Rattle.program_edge.specs.declared.fault.Fault.{Fault}
@@ -23,26 +24,27 @@ abbrev pub input_count : Request → ℕ
 input_count request = input_of (string_bytes request.paths.program) + input_of (string_bytes request.paths.certificate)
     + input_of (string_bytes request.paths.script) + sum_by (λ name. input_of (string_bytes name)) request.further.items
 
--- a file that the job does not have has no name
-abbrev pub HasFiles : Request → Type 0
-HasFiles request = HasFilesOf request.job request.paths
+-- the words ask for this
+abbrev pub Ask : List Text → Request → Type 0
+Ask words request = IsRequestOf words request × HasFilesOf request.job request.paths
 
 -- the words ask for a job of which more than one file is standard input
-pub record AskForInputTwice : Type 0 where
+pub record AskForInputTwice (words : List Text) : Type 0 where
   pub request : Request
-  pub asked : HasFiles request
+  pub asked : Ask words request
   pub twice : 1 < input_count request
 
 -- the words ask for no job: the fault that is reported is one that they have
-pub record IsTheirFault (told : Fault) : Type 0 where
+pub record IsTheirFault (words : List Text) (told : Fault) : Type 0 where
   pub fault : UsageFault
+  pub theirs : IsFaultOfWords words fault
   pub told_so : IsFaultOf fault told
 
 -- the result of the words: a job of which at most one file is standard input, or why there is none
 abbrev pub IsAskedBy : List Text → Result Request Fault → Type 0
-IsAskedBy words (Ok asked) = HasFiles asked × (input_count asked ≤ 1)
-IsAskedBy words (Err InputTwice) = AskForInputTwice
-IsAskedBy words (Err told) = IsTheirFault told
+IsAskedBy words (Ok asked) = Ask words asked × (input_count asked ≤ 1)
+IsAskedBy words (Err InputTwice) = AskForInputTwice words
+IsAskedBy words (Err told) = IsTheirFault words told
 
 -- what is known of the words of a process: nothing, that one of them is no text, or which they are
 pub data KnownWords : Type 0 where

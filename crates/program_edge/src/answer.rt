@@ -1,7 +1,7 @@
 //! From what was asked and its files to what is written and the status.
 ghost use Rattle.std.specs.Prelude.{◌≡◌, ◌⊎◌, ◌∷◌, IfOk, false};
 ghost use Rattle.result_files.specs.Files.{Files};
-ghost use Rattle.program_edge.specs.Answering.{IsAnswered, IsAnsweredFor, IsDelivered, IsDeliveredIf, IsDeliveredTold, IsJobDone, IsNotDone, IsPut, IsRead, IsShown, IsTaken, ending_after};
+ghost use Rattle.program_edge.specs.Answering.{IsAnswered, IsAnsweredFor, IsDelivered, IsDeliveredFixed, IsDeliveredIf, IsDeliveredOf, IsDeliveredTold, IsJobDone, IsKeptFixed, IsNotDone, IsNotKept, IsPut, IsRead, IsShown, IsTaken, ending_after, is_whole};
 ghost use Rattle.program_edge.specs.Refusals.{is_refusal};
 ghost use Rattle.program_edge.specs.Several.{IsEach};
 ghost use Rattle.program_edge.specs.Streams.{IsBroken};
@@ -15,10 +15,12 @@ use crate::reader::{Reader, hinted, told_report};
 use crate::refusal::is_refusal;
 use crate::reports::{Written, written_told};
 use crate::streams::{say, write_whole};
-use crate::texts::{NamedTexts, read_texts};
+use crate::texts::{MOST_PROGRAM, NamedTexts, read_texts};
 use crate::told::{Answered, tell};
 use crate::unread::Unread;
 use command_line::request::Request;
+use explain_report::repaired::Repaired;
+use explain_report::repairing::repair;
 use jobs::job::{CertificateSource, Job, Texts};
 use result_files::folder::Folder;
 use result_files::replacing::replace;
@@ -51,8 +53,9 @@ pub fn answer<F: NamedFiles, D: Folder, O: Write, E: Write, R: Threads + Wait + 
 /// `folder` that was asked for, and the status is the report's. A text that is refused gives no result, and so
 /// changes no file. Where `errors` is a terminal, a report that refuses a text, or that is of a run that trapped or
 /// ended as unlisted, gets one line there; and there, or where it is asked for, what `annotate` leaves to mend by
-/// hand is written; and where it is asked for, a line for each run of `curve` when it is done. The first fault ends
-/// it, and is reported. `check` and `run` make threads.
+/// hand is written; and where it is asked for, a line for each run of `curve` when it is done. Of `explain` a file of
+/// `folder` may take the text with fixes beside the report; a line says there how many. The first fault ends it, and is
+/// reported. `check` and `run` make threads.
 pub fn answer_reader<F: NamedFiles, D: Folder, O: Write, E: Write, R: Threads + Wait + Sync>(
     rt: &R,
     alloc: Global,
@@ -132,6 +135,7 @@ fn answer_request<F: NamedFiles, D: Folder, O: Write, E: Write, R: Threads + Wai
         job,
         paths,
         output: place,
+        fixes,
         further: _,
         report: wants_rest,
         progress,
@@ -143,8 +147,8 @@ fn answer_request<F: NamedFiles, D: Folder, O: Write, E: Write, R: Threads + Wai
                 wants_rest,
                 name,
             };
-            deliver_if(
-                progress, rt, alloc, &job, &texts, place, &reader, folder, output, errors,
+            deliver_of(
+                fixes, progress, rt, alloc, &job, &texts, place, &reader, folder, output, errors,
             )
         }
         Err(unread) => tell(&fault_of_file(&job, unread), output, errors),
@@ -169,6 +173,7 @@ fn answer_several<F: NamedFiles, O: Write, E: Write, R: Threads + Wait + Sync>(
         job,
         paths,
         output: _,
+        fixes: _,
         further,
         report: _,
         progress: _,
@@ -211,6 +216,105 @@ fn fault_of_file(job: &Job, unread: Unread) -> Fault
             ..
         } => Fault::NoProgram(unread),
         _ => Fault::File(unread.path),
+    }
+}
+
+// Does a job with its texts; a file may take the program's text with fixes.
+fn deliver_of<D: Folder, O: Write, E: Write, R: Threads + Wait + Sync>(
+    fixes: Option<String>,
+    progress: bool,
+    rt: &R,
+    alloc: Global,
+    job: &Job,
+    texts: &Texts,
+    place: Option<String>,
+    reader: &Reader,
+    folder: &mut D,
+    output: &mut O,
+    errors: &mut E,
+) -> Answered
+    ensures { IsDeliveredOf fixes progress D.is_watched reader.now place job.now texts.now result
+        record { output = O.contents output.old; errors = E.contents errors.old; files = D.known folder.old }
+        record { output = O.contents output.new; errors = E.contents errors.new; files = D.known folder.new } }
+{
+    match fixes {
+        Some(path) => deliver_fixed(rt, alloc, job, texts, path, reader, folder, output, errors),
+        None => deliver_if(
+            progress, rt, alloc, job, texts, place, reader, folder, output, errors,
+        ),
+    }
+}
+
+// Explains a program, and a file takes its text with fixes. A text that was cut when it was read is explained alone, and so
+// would be another job's.
+fn deliver_fixed<D: Folder, O: Write, E: Write, R: Threads + Wait + Sync>(
+    rt: &R,
+    alloc: Global,
+    job: &Job,
+    texts: &Texts,
+    path: String,
+    reader: &Reader,
+    folder: &mut D,
+    output: &mut O,
+    errors: &mut E,
+) -> Answered
+    ensures { IsDeliveredFixed (is_whole texts.now) D.is_watched reader.now path job.now texts.now result
+        record { output = O.contents output.old; errors = E.contents errors.old; files = D.known folder.old }
+        record { output = O.contents output.new; errors = E.contents errors.new; files = D.known folder.new } }
+{
+    if !is_whole(texts) {
+        return deliver(rt, alloc, job, texts, None, reader, folder, output, errors);
+    }
+    match job {
+        Job::Explain {
+            certificate,
+            script,
+            warnings,
+            colors,
+            ..
+        } => {
+            let name = reader.name.as_str();
+            match repair(alloc, name, certificate, script, *warnings, *colors, texts) {
+                Ok(repaired) => keep_fixed(alloc, repaired, path, folder, output, errors),
+                Err(AllocError) => tell(&Fault::Serve(ServeFault::OutOfMemory), output, errors),
+            }
+        }
+        _ => deliver(rt, alloc, job, texts, None, reader, folder, output, errors),
+    }
+}
+
+// Whether a program text was read to its end.
+fn is_whole(texts: &Texts) -> bool
+    ensures { result ≡ is_whole texts.now }
+{
+    texts.program.len() as u64 <= MOST_PROGRAM
+}
+
+// What becomes of a text with fixes that a file is to take, and of what is said.
+fn keep_fixed<D: Folder, O: Write, E: Write>(
+    alloc: Global,
+    repaired: Repaired,
+    path: String,
+    folder: &mut D,
+    output: &mut O,
+    errors: &mut E,
+) -> Answered
+    ensures { IsKeptFixed D.is_watched path repaired result
+        record { output = O.contents output.old; errors = E.contents errors.old; files = D.known folder.old }
+        record { output = O.contents output.new; errors = E.contents errors.new; files = D.known folder.new }
+        ⊎ IsNotKept path result
+        record { output = O.contents output.old; errors = E.contents errors.old; files = D.known folder.old }
+        record { output = O.contents output.new; errors = E.contents errors.new; files = D.known folder.new } }
+{
+    match replace(alloc, folder, path.as_str(), repaired.text.as_slice()) {
+        Ok(()) => {
+            let report = Written {
+                bytes: repaired.said,
+                status: repaired.status,
+            };
+            show(&report, repaired.line.as_slice(), output, errors)
+        }
+        Err(reason) => tell(&Fault::NotWritten(path, reason), output, errors),
     }
 }
 

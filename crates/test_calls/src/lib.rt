@@ -1,30 +1,24 @@
-//! Public calls of the texts, the checker and the diagnostics, each once at concrete values: what no clause says, as
-//! that there is memory. The expected values are the formats' own. They stand in a crate apart from the crates
-//! that they call, since a crate with tests is proved a second time. What a command line prints is a row of
-//! `test_program`.
+//! Tests of public calls: what no clause says, such as that there is memory, and the worked examples that no command line
+//! shows. The expected values follow from the formats', the instructions' and the machine's own rules, worked out by hand.
+//! They stand in a crate apart from the crates that they call, since a crate with tests is proved a second time. What a
+//! command line prints is a row of `test_program`.
 #![tactic(auto)]
 
 #[cfg(test)]
-mod assembler;
-#[cfg(test)]
-mod canonical;
+mod bursts;
 #[cfg(test)]
 mod certificates;
 #[cfg(test)]
 mod checker;
 #[cfg(test)]
-mod descriptors;
-#[cfg(test)]
-mod diagnostic_texts;
-#[cfg(test)]
 mod given;
 #[cfg(test)]
-mod mark_texts;
+mod labels;
 #[cfg(test)]
-mod proposals;
+mod machines;
 #[cfg(test)]
-mod source_maps;
+mod plain_machine;
 #[cfg(test)]
-mod speed_marks;
+mod ports;
 #[cfg(test)]
-mod tokens;
+mod units;

@@ -1,6 +1,6 @@
 //! Results that go to files: whole, or not at all.
 
-use crate::answers::{Bench, words_of};
+use crate::bench::Bench;
 use crate::files::HeldFile;
 use crate::writers::HeldBack;
 use program_edge::answer::answer;
@@ -11,7 +11,7 @@ use result_files::folder::Folder;
 use result_files::unwritten::Unwritten;
 use std::alloc::Global;
 use std::io;
-use test_programs::programs::COUNT;
+use std::process::Abort;
 use text_pieces::serial::FetchFault;
 
 // Each file holds this text.
@@ -58,6 +58,20 @@ struct Shelf {
     taken: u32,
     // How many bytes a file may have.
     most: u64,
+}
+
+impl Shelf {
+    fn new(rt: &impl Abort, alloc: Global, fails: Fails, taken: u32, most: u64) -> Shelf {
+        let old = b"old".as_slice().to_vec(alloc).ok();
+        Shelf {
+            alloc,
+            old: old.expect(rt, "room for a text"),
+            new: None,
+            fails,
+            taken,
+            most,
+        }
+    }
 }
 
 impl Folder for Shelf {
@@ -117,158 +131,135 @@ impl Folder for Shelf {
     }
 }
 
-// Words with a program text, what the shelf does not do, and what comes of that.
-#[derive(Clone, Copy)]
-struct Case<'a> {
-    words: &'a str,
-    text: &'a str,
-    fails: Fails,
-    taken: u32,
-    most: u64,
-    // What stands in `b.s` in the end, where `old` stood.
-    file: &'a str,
-    output: &'a str,
-    errors: &'a str,
-    status: u8,
-}
+/// A program in canonical text.
+const TEXT: &str = ".start A\n.task A create=- targets=-\nA:\nout $0\nhalt\n";
 
-const PRINTED: Case<'static> = Case {
-    words: "print -o b.s a.s",
-    text: COUNT,
-    fails: Fails::Never,
-    taken: 0,
-    most: u64::MAX,
-    file: COUNT,
-    output: "",
-    errors: "",
-    status: 0,
-};
+const LENGTH: u64 = TEXT.len() as u64;
 
-// A refused text changes no file.
-const REFUSED: Case<'static> = Case {
-    text: "foo",
-    file: "old",
-    output: "program refused: 4 Mnemonic line 1\n",
-    status: 1,
-    ..PRINTED
-};
-
-// The old file stays, and there is no new one.
-const FAILED: Case<'static> = Case {
-    file: "old",
-    status: 2,
-    ..PRINTED
-};
-
-const CASES: [Case<'static>; 15] = [
-    PRINTED,
-    // Left-over files of other processes have the first names of a new one, or all that it may have.
-    Case {
-        taken: 63,
-        ..PRINTED
-    },
-    Case {
-        taken: 64,
-        errors: "multiscalar: file b.s: the new file's name is taken\n",
-        ..FAILED
-    },
-    // As long as a file may be, and one byte longer.
-    Case {
-        most: COUNT.len() as u64,
-        ..PRINTED
-    },
-    Case {
-        most: COUNT.len() as u64 - 1,
-        errors: "multiscalar: file b.s: longer than the limit on the size of files (ulimit -f)\n",
-        ..FAILED
-    },
-    // A refused text changes no file, however long one may be.
-    Case { most: 0, ..REFUSED },
-    Case {
-        words: "seq --budget 17 -o b.s a.s",
-        file: "10\nout of budget after 17 instructions\n",
-        status: 3,
-        ..PRINTED
-    },
-    // What `check` reports for a refused text is its result.
-    Case {
-        words: "check --least -o b.s a.s",
-        text: "foo",
-        file: "program refused: 4 Mnemonic line 1\n",
-        status: 1,
-        ..PRINTED
-    },
-    REFUSED,
-    Case {
-        words: "annotate --in-place b.s",
-        ..REFUSED
-    },
-    Case {
-        words: "run --least -o b.s a.s",
-        ..REFUSED
-    },
-    Case {
-        fails: Fails::AtCreate,
-        errors: "multiscalar: file b.s: no permission to write\n",
-        ..FAILED
-    },
-    Case {
-        fails: Fails::AtWrite,
-        errors: "multiscalar: file b.s: no space left\n",
-        ..FAILED
-    },
-    Case {
-        fails: Fails::AtFinish,
-        errors: "multiscalar: file b.s: cannot be written\n",
-        ..FAILED
-    },
-    Case {
-        fails: Fails::AtRename,
-        errors: "multiscalar: file b.s: is no plain file\n",
-        ..FAILED
-    },
+// Words with a program text, how many names are taken, and how many bytes a file may have; what stands in `b.s` in the
+// end, where `old` stood, what is written elsewhere, and the status. Left-over files of other processes may have the
+// first names of a new one. A file may be as long as it may be. A refused text changes no file, however long one may be,
+// but what `check` reports for it is its result.
+const RESULTS: [(&str, &str, u32, u64, &str, &str, u8); 5] = [
+    ("print -o b.s a.s", TEXT, 63, u64::MAX, TEXT, "", 0),
+    ("print -o b.s a.s", TEXT, 0, LENGTH, TEXT, "", 0),
+    ("print -o b.s a.s", "foo", 0, 0, "old", MNEMONIC, 1),
+    ("check --least -o b.s a.s", "foo", 0, 99, MNEMONIC, "", 1),
+    (
+        "seq --budget 1 -o b.s a.s",
+        TEXT,
+        0,
+        99,
+        OUT_OF_BUDGET,
+        "",
+        3,
+    ),
 ];
 
-impl Case<'_> {
-    // Asserts what comes of the words.
-    fn runs(&self, rt: &impl Bench, alloc: Global) {
-        let files = SameText {
-            alloc,
-            text: self.text,
-        };
-        let mut shelf = Shelf {
-            alloc,
-            old: b"old".as_slice().to_vec(alloc).ok().expect(rt, "room"),
-            new: None,
-            fails: self.fails,
-            taken: self.taken,
-            most: self.most,
-        };
-        let mut output = Vec::new(alloc);
-        let mut errors = Vec::new(alloc);
-        let words = words_of(rt, alloc, self.words);
-        let asked = asked_by(alloc, words.as_slice());
-        let ending = answer(
-            rt,
-            alloc,
-            asked,
-            &files,
-            &mut shelf,
-            &mut output,
-            &mut errors,
-        );
-        let line = self.words;
-        assert!(rt; ending.status == self.status, "{line}");
-        assert!(rt; output.as_slice() == self.output.as_bytes(), "{line}");
-        assert!(rt; errors.as_slice() == self.errors.as_bytes(), "{line}");
-        assert!(rt; shelf.old.as_slice() == self.file.as_bytes(), "{line}");
-        assert!(rt; shelf.new.is_none(), "{line}");
-    }
-}
+const MNEMONIC: &str = "program refused: 4 Mnemonic line 1\n";
+
+const OUT_OF_BUDGET: &str = "0\nout of budget after 1 instructions\n";
+
+// What a shelf does not do, how many names are taken, and how many bytes a file may have; the reason that is told. The
+// old file stays, and there is no new one.
+const FAILURES: [(Fails, u32, u64, &str); 6] = [
+    (Fails::Never, 64, LENGTH, "the new file's name is taken"),
+    (
+        Fails::Never,
+        0,
+        LENGTH - 1,
+        "longer than the limit on the size of files (ulimit -f)",
+    ),
+    (Fails::AtCreate, 0, LENGTH, "no permission to write"),
+    (Fails::AtWrite, 0, LENGTH, "no space left"),
+    (Fails::AtFinish, 0, LENGTH, "cannot be written"),
+    (Fails::AtRename, 0, LENGTH, "is no plain file"),
+];
 
 #[test]
 fn keeps_results_whole_or_not_at_all(rt: HostRuntime) {
-    for case in &CASES {
-        case.runs(&rt, rt.alloc());
+    for &(words, text, taken, most, file, output, status) in &RESULTS {
+        let shelf = Shelf::new(&rt, rt.alloc(), Fails::Never, taken, most);
+        expect(
+            &rt,
+            rt.alloc(),
+            words,
+            text,
+            shelf,
+            file,
+            output,
+            "",
+            status,
+        );
     }
+    for &(fails, taken, most, reason) in &FAILURES {
+        let shelf = Shelf::new(&rt, rt.alloc(), fails, taken, most);
+        expect_failed(&rt, rt.alloc(), shelf, reason);
+    }
+}
+
+fn expect_failed(rt: &impl Bench, alloc: Global, shelf: Shelf, reason: &str) {
+    let told = format!(in alloc; "multiscalar: file b.s: {reason}\n").ok();
+    let told = told.expect(rt, "room for a line");
+    expect(
+        rt,
+        alloc,
+        "print -o b.s a.s",
+        TEXT,
+        shelf,
+        "old",
+        "",
+        told.as_str(),
+        2,
+    );
+}
+
+// Asserts what comes of words whose files have this text.
+fn expect(
+    rt: &impl Bench,
+    alloc: Global,
+    words: &str,
+    text: &str,
+    shelf: Shelf,
+    file: &str,
+    output: &str,
+    errors: &str,
+    status: u8,
+) {
+    let mut shelf = shelf;
+    let mut written = Vec::new(alloc);
+    let mut told = Vec::new(alloc);
+    let line = words_of(rt, alloc, words);
+    let asked = asked_by(alloc, line.as_slice());
+    let files = SameText { alloc, text };
+    let ending = answer(
+        rt,
+        alloc,
+        asked,
+        &files,
+        &mut shelf,
+        &mut written,
+        &mut told,
+    );
+    assert!(rt; ending.status == status, "{words}");
+    assert!(rt; written.as_slice() == output.as_bytes(), "{words}");
+    assert!(rt; told.as_slice() == errors.as_bytes(), "{words}");
+    assert!(rt; shelf.old.as_slice() == file.as_bytes(), "{words}");
+    assert!(rt; shelf.new.is_none(), "{words}");
+}
+
+// The words of a command line, split at blanks, with the program's own name first.
+fn words_of(rt: &impl Abort, alloc: Global, line: &str) -> Vec<String> {
+    let mut words = Vec::new(alloc);
+    push_word(rt, alloc, &mut words, "multiscalar");
+    for word in line.split(' ') {
+        push_word(rt, alloc, &mut words, word);
+    }
+    words
+}
+
+fn push_word(rt: &impl Abort, alloc: Global, words: &mut Vec<String>, word: &str) {
+    let word = String::from_str(alloc, word).ok();
+    let word = word.expect(rt, "room for a word");
+    assert!(rt; words.push(word).is_ok());
 }

@@ -1,11 +1,11 @@
 //! A writer that keeps back what is not flushed, and that fails.
 
-use crate::answers::{Bench, job_of, texts_of};
-use jobs::job::Job;
+use crate::bench::Bench;
+use jobs::job::{Job, Texts};
 use std::alloc::Global;
 use std::io;
 use std::io::{ErrorKind, Write};
-use test_programs::programs::COUNT;
+use text_pieces::text::Text;
 use verdict_report::fault::ServeFault;
 use verdict_report::serve::serve;
 
@@ -28,11 +28,6 @@ impl HeldBack {
             arrived: Vec::new(alloc),
             room,
         }
-    }
-
-    /// What was written before the last flush.
-    pub fn arrived(self) -> Vec<u8> {
-        self.arrived
     }
 }
 
@@ -57,30 +52,33 @@ impl Write for HeldBack {
     }
 }
 
-#[test]
-fn flushes_a_report(rt: HostRuntime) {
-    let job = job_of(&rt, rt.alloc(), "seq a.s");
-    let texts = texts_of(&rt, rt.alloc(), COUNT.as_bytes(), b"", b"");
-    let mut writer = HeldBack::new(rt.alloc(), u32::MAX);
-    let status = serve(&rt, rt.alloc(), &job, &texts, &mut writer).ok();
-    assert!(rt; status == Some(0));
-    let report = writer.arrived();
-    assert!(rt; report.as_slice() == b"10\nhalted after 18 instructions\n".as_slice());
-}
-
-// Asserts what `print` of a text with a fault answers where the writer has this room.
-fn expect_written(rt: &impl Bench, alloc: Global, room: u32, expected: Result<u8, ServeFault>) {
-    let texts = texts_of(rt, alloc, b"foo", b"", b"");
+// Asserts what `print` of a text with a fault answers where the writer has this room, and what arrives.
+fn expect_written(
+    rt: &impl Bench,
+    alloc: Global,
+    room: u32,
+    expected: Result<u8, ServeFault>,
+    arrived: &[u8],
+) {
+    let text = b"foo".as_slice().to_vec(alloc).ok();
+    let texts = Texts {
+        name: String::new(alloc),
+        program: text.expect(rt, "room for a text"),
+        certificate: Text::new(alloc, Vec::new(alloc)),
+        script: Vec::new(alloc),
+    };
     let mut writer = HeldBack::new(alloc, room);
     let answer = serve(rt, alloc, &Job::Print, &texts, &mut writer);
     assert!(rt; answer == expected, "room for {room}");
+    assert!(rt; writer.arrived.as_slice() == arrived, "room for {room}");
 }
 
-// `program refused: 4 Mnemonic line 1` and its LF are 35 bytes. A flush follows: what is not flushed may be lost.
+// The report and its LF are 35 bytes. A flush follows: what is not flushed may be lost.
 #[test]
 fn fails_to_write(rt: HostRuntime) {
     for room in 0..36 {
-        expect_written(&rt, rt.alloc(), room, Err(ServeFault::Write));
+        expect_written(&rt, rt.alloc(), room, Err(ServeFault::Write), &[]);
     }
-    expect_written(&rt, rt.alloc(), 36, Ok(1));
+    let report = b"program refused: 4 Mnemonic line 1\n".as_slice();
+    expect_written(&rt, rt.alloc(), 36, Ok(1), report);
 }

@@ -9,6 +9,8 @@ pub enum Line<'a> {
     File(&'a str),
     /// `| TEXT`: the next line of that file.
     Text(&'a str),
+    /// `* COUNT TEXT`: its next lines, so many, each with its number from 0 on in the place of `{}`.
+    Texts(u32, &'a str),
     /// `$ WORDS`: a command line.
     Command(&'a str),
     /// `% WORDS`: a command line where standard error is a terminal.
@@ -35,6 +37,10 @@ pub fn line_of(line: &str) -> Option<Line<'_>> {
         "#" => Some(Line::Remark),
         "@" => Some(Line::File(rest)),
         "|" => Some(Line::Text(rest)),
+        "*" => {
+            let (count, text) = rest.split_once(' ')?;
+            Some(Line::Texts(count.parse().ok()?, text))
+        }
         "$" => Some(Line::Command(rest)),
         "%" => Some(Line::OnTerminal(rest)),
         ">" => Some(Line::Output(rest)),

@@ -75,6 +75,7 @@ impl<'a, R: Runtime> Table<'a, R> {
             Line::Remark => Ok(true),
             Line::File(name) => self.begin(name),
             Line::Text(text) => self.write(text),
+            Line::Texts(count, text) => self.write_numbered(count, text),
             Line::Command(words) => self.add(Command {
                 number,
                 words,
@@ -125,6 +126,18 @@ impl<'a, R> Table<'a, R> {
         let mut line = Vec::new(self.host.alloc());
         push_line(&mut line, text)?;
         file.write_all(line.as_slice())?;
+        Ok(true)
+    }
+
+    // Writes so many lines to the file, each with its number, if there is one and they can stand here.
+    fn write_numbered(&mut self, count: u32, text: &str) -> io::Result<bool> {
+        for number in 0..count {
+            let number = format!(in self.host.alloc(); "{number}")?;
+            let line = text.replace(self.host.alloc(), "{}", number.as_str())?;
+            if !self.write(line.as_str())? {
+                return Ok(false);
+            }
+        }
         Ok(true)
     }
 

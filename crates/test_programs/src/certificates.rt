@@ -36,7 +36,7 @@ task B
 5 00000000
 ";
 
-/// The certificate of `RELEASE`.
+/// The certificate of `RELEASE_CREATES_MORE`.
 pub const RELEASE_CERTIFICATE: &str = "cert 1
 task A
 0 00000300
@@ -56,54 +56,6 @@ task A
 task B
 1 00000200
 task C
-2 00000000
-";
-
-/// The certificate of `PRODUCT`; HI and LO are bits 32 and 33.
-pub const PRODUCT_CERTIFICATE: &str = "cert 2
-task A
-0 0000000300000100
-1 0000000300000000
-task B
-2 0000000000000200
-3 0000000000000200
-4 0000000000000200
-5 0000000000000000
-6 0000000000000000
-";
-
-/// The certificate of `READ_ONLY`.
-pub const READ_ONLY_CERTIFICATE: &str = "cert 1
-task A
-0 00000100
-1 00000000
-task B
-2 00000600
-3 00000600
-4 00000600
-5 00000400
-task C
-6 00000000
-7 00000000
-";
-
-/// The certificate of `WRONG_PATH_LOAD`.
-pub const WRONG_PATH_LOAD_CERTIFICATE: &str = "cert 1
-task A
-0 00000100
-1 00000000
-task B
-2 00000800
-task C
-3 00000000
-4 00000000
-";
-
-/// The certificate of `UNLISTED_JUMP`.
-pub const UNLISTED_JUMP_CERTIFICATE: &str = "cert 1
-task A
-0 80000000
-1 80000000
 2 00000000
 ";
 

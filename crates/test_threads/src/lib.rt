@@ -1,6 +1,8 @@
-//! Tests of what starts threads.
+//! Tests of what starts threads: that the workers share the work, and meet.
 #![tactic(auto)]
 
+#[cfg(test)]
+mod bells;
 #[cfg(test)]
 mod checks;
 #[cfg(test)]
@@ -9,7 +11,5 @@ mod counts;
 mod gates;
 #[cfg(test)]
 mod given;
-#[cfg(test)]
-mod reading;
 #[cfg(test)]
 mod runs;

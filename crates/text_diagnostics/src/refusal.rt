@@ -255,7 +255,7 @@ fn is_of_program(said: &Diagnostic) -> bool
 }
 
 /// Whether a diagnostic is the error that reports a fault, at its token.
-fn tells(fault: AsmFault, token: Option<Span>, said: &Diagnostic) -> bool
+pub fn tells(fault: AsmFault, token: Option<Span>, said: &Diagnostic) -> bool
     ensures { result ≡ tells fault token said.now }
 {
     let (code, line) = told_as(fault);
@@ -316,6 +316,18 @@ fn with_first(
     }
     list.insert(0, plain(alloc, fault, token)?)?;
     Ok(list)
+}
+
+/// The token of a text that is to blame for its first fault, where a line cannot be read.
+///
+/// # Errors
+///
+/// `AllocError` where memory was refused.
+pub fn first_token(alloc: Global, text: &[u8], fault: AsmFault) -> Result<Option<Span>, AllocError>
+    ensures { IfOk result (λ span. span ≡ token_of (lines text.now) fault) }
+{
+    let rows = lines_of(alloc, text)?;
+    token_of(alloc, &rows, fault)
 }
 
 /// All that is wrong with a text whose first fault this is: an error for each of at most `MOST_SHOWN` mistakes in the

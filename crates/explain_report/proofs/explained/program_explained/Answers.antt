@@ -3,6 +3,7 @@ use Rattle.std.proofs.Common.{rules, ◌≡◌, ◌∙◌, ap, sym, subst, Bool}
 use Rattle.std.specs.Prelude.{◌&&◌}
 use Rattle.explain_report.specs.Beside.{is_silent}
 use Rattle.explain_report.specs.Explained.{AreWarned}
+use Rattle.explain_report.proofs.Silence.{told_so}
 use Rattle.explain_report.proofs.explained.program_explained.Goals as goal
 
 pub returns : goal.returns
@@ -21,6 +22,7 @@ returns c =
       scripted = c.in_ok-scripted.scripted.items;
       played = c.in_ok-scripted.ensures;
       said = search rules;
-      marked = search rules;
+      marked = told_so c.args.text.now c.args.program.now c.in_ok-errors.errors.items c.marks_by-marks.result c.requires c.in_ok-errors.ensures
+          (c.marks_by-marks.ensures.right) c.marks_by-marks.ensures.read;
       status = search rules;
     }

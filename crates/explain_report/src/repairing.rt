@@ -1,0 +1,139 @@
+//! `explain --fix`: the author's text with the fixes that were judged, and what is left.
+ghost use Rattle.std.specs.Prelude.{◌≡◌, IfOk};
+ghost use Rattle.std.specs.Option.{option_map};
+ghost use Rattle.std.specs.String.{string_bytes};
+ghost use Rattle.explain_report.specs.Repairs.{IsRepaired};
+
+use crate::explained::explained;
+use crate::explaining::written;
+use crate::explanation::Explanation;
+use crate::inputs::joined;
+use crate::repaired::Repaired;
+use diagnostics::diagnostic::{Diagnostic, Severity, Source};
+use diagnostics::listed::Listed;
+use jobs::job::{Colors, Format, Texts};
+use judged_fixes::judge::Marks;
+use shown_names::name::shown_name;
+use std::alloc::{AllocError, Global};
+
+/// What `explain --fix` writes of a program text, whose file has this name, as `explain` explains it: beside the texts of a
+/// certificate and of an event script, if a file of one is named.
+///
+/// # Errors
+///
+/// `AllocError` where memory was refused.
+pub fn repair(
+    alloc: Global,
+    name: &str,
+    cert_file: &Option<String>,
+    script_file: &Option<String>,
+    warnings: bool,
+    asked: Colors,
+    texts: &Texts,
+) -> Result<Repaired, AllocError>
+    ensures { IfOk result (IsRepaired (option_map string_bytes cert_file.now) (option_map string_bytes script_file.now) warnings
+        texts.now.program.items texts.now.certificate texts.now.script.items) }
+{
+    let text = texts.program.as_slice();
+    let script = texts.script.as_slice();
+    let certificate = joined(alloc, &texts.certificate)?;
+    let before = explained(
+        alloc,
+        cert_file,
+        script_file,
+        warnings,
+        text,
+        &certificate,
+        script,
+    )?;
+    let said = written(
+        alloc,
+        Format::Text,
+        asked,
+        name,
+        cert_file,
+        script_file,
+        text,
+        &certificate,
+        script,
+        &before,
+    )?;
+    match &before.fixed {
+        Some(fixed) => {
+            let new = fixed.text.as_slice();
+            let after = explained(
+                alloc,
+                cert_file,
+                script_file,
+                warnings,
+                new,
+                &certificate,
+                script,
+            )?;
+            repaired_as(alloc, name, said, new, fixed.fixes, &after)
+        }
+        None => repaired_as(alloc, name, said, text, 0, &before),
+    }
+}
+
+// What is written, where this is said of the text as it was, and then of the text with so many fixes.
+fn repaired_as(
+    alloc: Global,
+    name: &str,
+    said: Vec<u8>,
+    text: &[u8],
+    fixes: usize,
+    after: &Explanation,
+) -> Result<Repaired, AllocError>
+    ensures text { IfOk result (λ r. r.text ≡ text.now) }
+    ensures marks { IfOk result (λ r. r.marks ≡ after.now.marks) }
+    ensures status { IfOk result (λ r. r.status ≡ after.now.status) }
+{
+    let line = line_of(alloc, name, fixes, after)?;
+    Ok(Repaired {
+        said,
+        text: Listed::new(text.to_vec(alloc)?),
+        marks: after.marks,
+        status: after.status,
+        line,
+    })
+}
+
+// How many fixes were made, and what is left of the text with them, of which this is said.
+fn line_of(
+    alloc: Global,
+    name: &str,
+    fixes: usize,
+    after: &Explanation,
+) -> Result<Vec<u8>, AllocError> {
+    let name = shown_name(alloc, name)?;
+    let mut line = String::new(alloc);
+    match fixes {
+        0 => write!(line, "multiscalar: {name}: no fix applied, ")?,
+        1 => write!(line, "multiscalar: {name}: 1 fix applied, ")?,
+        _ => write!(line, "multiscalar: {name}: {fixes} fixes applied, ")?,
+    }
+    let said = after.said.as_slice();
+    match (
+        after.marks,
+        said.iter().filter(|one| is_error(*one)).count(),
+    ) {
+        (Marks::Right, _) => writeln!(line, "all marks are right")?,
+        (_, 1) => writeln!(line, "1 error left")?,
+        (_, errors) if said.iter().any(|one| is_rest(one)) => {
+            writeln!(line, "more than {errors} errors left")?
+        }
+        (_, errors) => writeln!(line, "{errors} errors left")?,
+    }
+    Ok(line.into_bytes())
+}
+
+// Whether this is an error of the program.
+fn is_error(said: &Diagnostic) -> bool {
+    said.source == Source::Program && said.severity == Severity::Error
+}
+
+// Whether this says that there are more errors of the program.
+fn is_rest(said: &Diagnostic) -> bool {
+    said.source == Source::Program && said.severity == Severity::Note
+}
