@@ -1,5 +1,5 @@
 #!/usr/bin/env python3
-"""Translates C for MIPS I, by GCC, into annotated program text for multiscalar.
+"""Translates C for MIPS I, by GCC or clang, into annotated program text for multiscalar.
 
     c2ms.py program.c -o program.s             annotated program text
     c2ms.py program.c --run --units 4          translates, marks, checks and runs
