@@ -1,5 +1,6 @@
 -- What is said of a text's marks is what its program's are.
-use Rattle.std.proofs.Common.{◌≡◌, ◌↔◌, ℕ, Bool, true, false, List, [], ◌∷◌, Option, Some, None, Result, Ok, Err, length, refl, sym, ap, ◌∙◌, subst, arith}
+use Rattle.std.proofs.Common.{◌≡◌, ◌↔◌, ℕ, true, false, List, Option, Some, None, Result, Ok, Err, length, refl, sym, ◌∙◌, subst}
+use Rattle.std.proofs.lemmas.List.{nil_from_length}
 use Rattle.task_descriptor.specs.Listing.{Listing}
 use Rattle.annotated_asm.specs.declared.fault.AsmFault.{AsmFault}
 use Rattle.annotated_asm.specs.ProgramText.{parse}
@@ -38,31 +39,31 @@ unread_where_refused text fault refused = (λ _. record { fault = fault; refused
 
 -- A text that is taken if its marks are right.
 
-pub nothing_to_take : (text : List ℕ) (edits : List Edit) (from : List ℕ) (fixed : Option Fixed) → length from ≡ 0 → IsTakenIfRight text edits from fixed
-nothing_to_take text edits [] fixed none = tt
-nothing_to_take text edits (place ∷ places) fixed none = absurd (omega arith)
+pub nothing_to_take : (text : List ℕ) (edits : List Edit) (places : List ℕ) (fixed : Option Fixed) → length places ≡ 0 → IsTakenIfRight text edits places fixed
+nothing_to_take text edits places fixed none = record { taken = λ some _. absurd (some (nil_from_length places none)) }
 
 unread_is_not_right : Unread ≡ Right → ⊥
 unread_is_not_right e = cc
 
-pub unread_not_taken : (text new : List ℕ) (edits : List Edit) (from : List ℕ) (marks : Marks) → new ≡ mended text edits
-    → (marks ≡ Right) ↔ IsRight new → marks ≡ Unread → IsTakenIfRight text edits from None
-unread_not_taken text new edits [] marks is right unread = tt
-unread_not_taken text new edits (place ∷ places) marks is right unread = λ sound.
-    unread_is_not_right (sym unread ∙ right.1 (subst IsRight (sym is) sound))
+pub unread_not_taken : (text new : List ℕ) (edits : List Edit) (places : List ℕ) (marks : Marks) → new ≡ mended text edits
+    → (marks ≡ Right) ↔ IsRight new → marks ≡ Unread → IsTakenIfRight text edits places None
+unread_not_taken text new edits places marks is right unread = record {
+  taken = λ some sound. absurd (unread_is_not_right (sym unread ∙ right.1 (subst IsRight (sym is) sound)));
+}
 
-pub made_taken : (text : List ℕ) (edits : List Edit) (from : List ℕ) (marks : Marks) (f : Fixed) → f.text ≡ mended text edits
-    → (marks ≡ Right) ↔ IsRight f.text → (f.is_right ≡ true) ↔ (marks ≡ Right) → IsTakenIfRight text edits from (Some f)
-made_taken text edits [] marks f is right said = tt
-made_taken text edits (place ∷ places) marks f is right said = λ sound.
-    (is, said.1 (right.1 (subst IsRight (sym is) sound)))
+pub made_taken : (text : List ℕ) (edits : List Edit) (places : List ℕ) (marks : Marks) (f : Fixed) → f.text ≡ mended text edits
+    → (marks ≡ Right) ↔ IsRight f.text → (f.is_right ≡ true) ↔ (marks ≡ Right) → IsTakenIfRight text edits places (Some f)
+made_taken text edits places marks f is right said = record {
+  taken = λ some sound. (is, said.1 (right.1 (subst IsRight (sym is) sound)));
+}
 
 -- one that is not said to be right was not taken, so its marks are not right
 not_right : (text : List ℕ) (edits : List Edit) (together : Option Fixed) → IsRightWith text edits together → says_right together ≡ false → ⊥
 not_right text edits None with_it said = with_it
-not_right text edits (Some f) with_it said = absurd (cc (with_it.1, said))
+not_right text edits (Some f) with_it said = let yes : f.is_right ≡ true = with_it.1 in cc
 
-pub another_taken : (text : List ℕ) (edits : List Edit) (from : List ℕ) (together fixed : Option Fixed) → IsTakenIfRight text edits from together
-    → says_right together ≡ false → IsTakenIfRight text edits from fixed
-another_taken text edits [] together fixed h said = tt
-another_taken text edits (place ∷ places) together fixed h said = λ sound. absurd (not_right text edits together (h sound) said)
+pub another_taken : (text : List ℕ) (edits : List Edit) (places : List ℕ) (together fixed : Option Fixed) → IsTakenIfRight text edits places together
+    → says_right together ≡ false → IsTakenIfRight text edits places fixed
+another_taken text edits places together fixed h said = record {
+  taken = λ some sound. absurd (not_right text edits together (h.taken some sound) said);
+}

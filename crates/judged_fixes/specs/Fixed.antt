@@ -1,5 +1,5 @@
 -- A text with the fixes made that were judged, and what is said of errors whose fix is not right.
-use Rattle.std.specs.Prelude.{◌≡◌, ◌↔◌, ℕ, Bool, true, false, List, [], ◌∷◌, ⊤, Option, Some, None, map}
+use Rattle.std.specs.Prelude.{◌≡◌, ◌≢◌, ◌↔◌, ℕ, Bool, true, false, List, [], Option, Some, None, map}
 use Rattle.std.specs.List.{All}
 use Rattle.diagnostics.specs.declared.diagnostic.Diagnostic.{Diagnostic}
 use Rattle.judged_fixes.specs.declared.edit.Edit.{Edit}
@@ -16,15 +16,15 @@ pub record IsFixed (text : List ℕ) (said : List Diagnostic) (f : Fixed) : Type
   pub written : f.text ≡ mended text edits
   pub right : (f.is_right ≡ true) ↔ IsRight f.text
 
--- The text with these edits is taken if its marks are right, and it is said that they are. They are from the helps of some
--- diagnostics, at these places; where they are from none, there is nothing to take.
+-- it is the text with these edits, and its marks are said to be right
 abbrev pub IsRightWith : (text : List ℕ) → List Edit → Option Fixed → Type 0
 IsRightWith text edits None = ⊥
 IsRightWith text edits (Some f) = (f.text ≡ mended text edits) × (f.is_right ≡ true)
 
-abbrev pub IsTakenIfRight : (text : List ℕ) → List Edit → (from : List ℕ) → Option Fixed → Type 0
-IsTakenIfRight text edits [] fixed = ⊤
-IsTakenIfRight text edits (place ∷ places) fixed = IsRight (mended text edits) → IsRightWith text edits fixed
+-- The text with these edits is taken if its marks are right. They are from the helps of the diagnostics at these places; where
+-- they are from none, there is nothing to take.
+pub record IsTakenIfRight (text : List ℕ) (edits : List Edit) (places : List ℕ) (fixed : Option Fixed) : Type 0 where
+  pub taken : places ≢ [] → IsRight (mended text edits) → IsRightWith text edits fixed
 
 -- it is said that the marks of a text with fixes are right
 abbrev pub says_right : Option Fixed → Bool
