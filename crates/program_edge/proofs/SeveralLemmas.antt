@@ -121,20 +121,6 @@ ends_before t known job name names ending old new ends = record {
   ends = ends;
 }
 
-appends_nothing : (a b : Option (List ℕ)) → Keeps a b → Appends a b []
-appends_nothing None b h = tt
-appends_nothing (Some xs) None h = absurd h
-appends_nothing (Some xs) (Some ys) h = h ∙ sym (append-nil xs)
-
--- what was written, and what of it where it was not written whole
-pub said_whole : (said : List ℕ) (is_told : Bool) (a b : Option (List ℕ)) → is_told ≡ true → IsSaid said is_told a b → Appends a b said
-said_whole [] is_told a b is h = appends_nothing a b h.1
-said_whole (x ∷ said) is_told a b is h = h.0 is
-
-pub said_begun : (said : List ℕ) (is_told : Bool) (a b : Option (List ℕ)) → IsSaid said is_told a b → Begins a b said
-said_begun [] is_told a b h = whole a b [] (appends_nothing a b h.1)
-said_begun (x ∷ said) is_told a b h = h.1
-
 -- one program more had its turn
 pub turn : (t : Bool) (known : List ℕ → Known) (job : Job) (names : List (String Global)) (i : ℕ) (name : String Global) (bytes : List ℕ)
     (tally after : ProgramTally) (judged : ProgramVerdict) (a b c e f g : Option (List ℕ)) (parts : List Part) (part : Part)

@@ -7,14 +7,6 @@ use Rattle.result_files.specs.Writing.{Begins}
 use Rattle.verdict_report.specs.CurveProgress.{IsSaidIf, run_line, run_lines}
 use Rattle.verdict_report.proofs.BeginsLemmas.{whole, kept, first, next}
 
--- nothing has been written yet
-pub said_nothing : (asked : Bool) (a : Option (List ℕ)) → IsSaidIf asked asked [] a a
-said_nothing asked a = record {
-  whole = λ is. (is, Appends-nil a);
-  begun = λ _. whole a a [] (Appends-nil a);
-  silent = λ _. Keeps-refl a;
-}
-
 -- a line more is written, or stays unwritten
 pub said_more : (asked told told' : Bool) (a b c : Option (List ℕ)) (text line : List ℕ)
     → IsSaidIf asked told text a b → IsSaidIf told told' line b c → IsSaidIf asked told' (text ++ line) a c
@@ -53,10 +45,6 @@ begun_longer a b name of some most few h =
     let (rest, is) = lines_more name of some (most - some) in
     let same : some + (most - some) ≡ most = omega arith in
     subst (λ (text : List ℕ). Begins a b text) (sym is ∙ ap (λ n. run_lines name of n) same) (first a b (run_lines name of some) rest h)
-
--- nothing is a beginning of all
-pub begun_with_nothing : (a : Option (List ℕ)) (text : List ℕ) → Begins a a text
-begun_with_nothing a text = first a a [] text (whole a a [] (Appends-nil a))
 
 -- what was written so far is a beginning of all
 pub begun_so_far : (asked is_told : Bool) (a b : Option (List ℕ)) (name : List ℕ) (last most count : ℕ) → last ≡ most → count ≤ last

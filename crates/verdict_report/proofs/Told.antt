@@ -40,17 +40,6 @@ lifted : (P Q : Report → Type 0) (units : ℕ) → ((report : Report) → P re
 lifted P Q units on (Whole report) h = on report h
 lifted P Q units on (Told form accepted events) h = λ report is. on report (h report is)
 
-not_answers : (form : ToldForm) → told_emit form ≡ emit.Answers → ⊥
-not_answers told.Trace e = cc
-not_answers told.Lines e = cc
-
--- in a form of our own any text is right that has the status
-pub any_told : (form : ToldForm) (emitted : ReplayEmit) (units : ℕ) (until : Option ℕ) (p : Listing) (script : Result (List Event) ScriptFault) (events : List Event)
-    → told_emit form ≡ emitted → script ≡ Ok events → (report : Report)
-    → report.status ≡ standing_status (play p units (first_events until events)).state.outcome → IsScriptReport emitted units until p script report
-any_told form emitted units until p script events is read report status =
-    rw read (record { answered = status; written = λ answers. absurd (not_answers form (is ∙ answers)) })
-
 pub all_told : (r : Result Prepared AllocError) (P Q : Report → Type 0) (units : ℕ) → ((report : Report) → P report → Q report)
     → IfOk r (LeadsTo P units) → IfOk r (LeadsTo Q units)
 all_told (Ok prepared) P Q units on h = lifted P Q units on prepared h

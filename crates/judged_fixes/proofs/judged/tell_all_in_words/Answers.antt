@@ -10,4 +10,4 @@ pub loop-place-preserved : goal.loop-place-preserved
 loop-place-preserved c =
     let errors = c.loop-place.errors.items in
     let at = get_or c.args.places.now c.loop-place.place-index 0 in
-    elim c.match-get_mut.branch [ in-Some w ↦ rw w.errors-is (map-set_same besides_help errors at w.tell_in_words.new.said w.in-Some.said.now (w.tell_in_words.ensures ∙ ap besides_help w.in-Some.ensures.value) ∙ c.loop-place.invariant) | in_default w ↦ rw w.errors-is c.loop-place.invariant ]
+    elim c.match-get_mut.branch [ in-Some w ↦ rw w.errors-is (map-set_same besides_help errors at w.tell_in_words.new.said w.in-Some.said.now (w.tell_in_words.ensures.same ∙ ap besides_help w.in-Some.ensures.value) ∙ c.loop-place.invariant) | in_default w ↦ rw w.errors-is c.loop-place.invariant ]
