@@ -2,7 +2,10 @@
 use Rattle.std.proofs.Common.{◌≡◌, ◌∙◌, ap, ap₂, subst, sym, inl, inr, refl, ℕ, Bool, false, true, List, [], ◌∷◌, ◌++◌, ◌⊎◌, ◌==◌, ◌||◌, length}
 use Rattle.std.specs.Prelude.{None, Option, Some}
 use Rattle.std.specs.Io.KnownBytes.{Keeps}
+use Rattle.jobs.specs.declared.job.Colors.{Colors}
+use Rattle.jobs.specs.declared.job.Format.{Format}
 use Rattle.jobs.specs.declared.job.Job.{Job}
+use Rattle.jobs.specs.declared.job.Job.TheVariants.{Seq, Print, Annotate, Explain, Check, Replay, ReplayStrictly, Run, Curve, Demonstrate}
 use Rattle.jobs.specs.declared.job.Texts.{Texts}
 use Rattle.report_texts.specs.OutputTexts.{Report}
 use Rattle.verdict_report.specs.Delivering.{is_cut}
@@ -15,13 +18,14 @@ use Rattle.result_files.specs.declared.unwritten.Unwritten.{Unwritten}
 use Rattle.program_edge.specs.declared.fault.Fault.TheVariants.{NotWritten, Serve}
 use Rattle.program_edge.specs.declared.told.Answered.{Answered}
 use Rattle.program_edge.specs.Telling.{IsTold}
-use Rattle.program_edge.specs.Answering.{IsAnsweredFor, IsDelivered, IsJobDone, IsNotDone, IsPut, IsRead, IsShown, IsTaken}
+use Rattle.program_edge.specs.Answering.{IsAnsweredFor, IsDelivered, IsDeliveredFixed, IsJobDone, IsKeptFixed, IsNotDone, IsNotKept, IsPut, IsRead, IsRepairDelivered, IsShown, IsTaken}
 use Rattle.program_edge.specs.FileTexts.{Known}
 use Rattle.program_edge.specs.Several.{IsEach}
 use Rattle.command_line.specs.declared.request.Request.{Request}
 use Rattle.std.proofs.lemmas.Bool.{eqb-true, false≢true}
 use Rattle.std.proofs.lemmas.List.{nil_from_length}
-use Rattle.program_edge.specs.Streams.{IsBroken, World}
+use Rattle.explain_report.specs.declared.repaired.Repaired.{Repaired}
+use Rattle.program_edge.specs.Streams.{IsBroken, IsToldAlone, World}
 use Rattle.program_edge.specs.Beside.{Audience, IsBeside}
 use Rattle.program_edge.specs.Refusals.{is_refusal}
 use Rattle.verdict_report.specs.declared.fault.ServeFault.{ServeFault}
@@ -37,16 +41,73 @@ in_memory job texts status before after empty done =
     let bytes : done.report.bytes ≡ after = sym (done.written ∙ ap (λ l. l ++ done.report.bytes) empty) in
     subst (IsReportOf job texts) (ap₂ report_of bytes (sym done.answered)) done.right
 
-pub not_kept : (watched : Bool) (hint : List ℕ) (path : String Global) (name : List ℕ) (reason : Unwritten) (report : Report) (ending : Answered) (old new : World)
+pub file_stays : (path : String Global) (name : List ℕ) (reason : Unwritten) (ending : Answered) (old new : World)
     → name ≡ string_bytes path → new.files name ≡ old.files name → ChangesAt old.files new.files name
     → IsTold (NotWritten path reason) ending.status ending.is_told old.output new.output old.errors new.errors
-    → IsTaken watched false hint path report ending old new
-not_kept watched hint path name reason report ending old new is stays others told = inr (record {
+    → IsNotKept path ending old new
+file_stays path name reason ending old new is stays others told = record {
   reason = reason;
   stays = subst (λ n. new.files n ≡ old.files n) is stays;
   others = subst (ChangesAt old.files new.files) is others;
   told = told;
-})
+}
+
+pub not_kept : (watched : Bool) (hint : List ℕ) (path : String Global) (name : List ℕ) (reason : Unwritten) (report : Report) (ending : Answered) (old new : World)
+    → name ≡ string_bytes path → new.files name ≡ old.files name → ChangesAt old.files new.files name
+    → IsTold (NotWritten path reason) ending.status ending.is_told old.output new.output old.errors new.errors
+    → IsTaken watched false hint path report ending old new
+not_kept watched hint path name reason report ending old new is stays others told =
+    inr (file_stays path name reason ending old new is stays others told)
+
+-- The text with fixes.
+
+-- the file took it
+pub kept_fixed : (watched : Bool) (path : String Global) (name bytes line : List ℕ) (repaired : Repaired) (ending : Answered) (old new : World)
+    → name ≡ string_bytes path → bytes ≡ repaired.text → line ≡ repaired.line.items
+    → (watched ≡ true → new.files name ≡ Some bytes) → ChangesAt old.files new.files name
+    → IsShown line (report_of repaired.said.items repaired.status) ending (record old { files = new.files }) new
+    ⊎ IsBroken (report_of repaired.said.items repaired.status) ending (record old { files = new.files }) new
+    → IsKeptFixed watched path repaired ending old new
+kept_fixed watched path name bytes line repaired ending old new is text whole kept others said = record {
+  kept = λ w. subst (λ n. new.files n ≡ Some repaired.text) is (kept w ∙ ap (λ (l : List ℕ). Some l) text);
+  others = subst (ChangesAt old.files new.files) is others;
+  said = subst (λ (l : List ℕ). IsShown l (report_of repaired.said.items repaired.status) ending (record old { files = new.files }) new
+      ⊎ IsBroken (report_of repaired.said.items repaired.status) ending (record old { files = new.files }) new) whole said;
+}
+
+-- a text that was cut is explained alone
+pub cut_alone : (whole watched : Bool) (audience : Audience) (path : String Global) (job : Job) (texts : Texts) (ending : Answered) (old new : World)
+    → whole ≡ false → IsDelivered watched audience None job texts ending old new ⊎ IsNotDone job texts ending old new
+    → IsDeliveredFixed whole watched audience path job texts ending old new
+cut_alone false watched audience path job texts ending old new is h = h
+cut_alone true watched audience path job texts ending old new is h = absurd (cc)
+
+-- a program was explained, and its text with fixes delivered
+pub explained_fixed : (whole watched : Bool) (audience : Audience) (path : String Global) (job : Job) (name : String Global) (certificate script : Option (String Global)) (warnings : Bool) (format : Format) (colors : Colors) (texts : Texts) (ending : Answered) (old new : World)
+    → whole ≡ true → job ≡ Explain name certificate script warnings format colors
+    → IsRepairDelivered watched path certificate script warnings texts ending old new ⊎ IsToldAlone (Serve serve.OutOfMemory) ending old new
+    → IsDeliveredFixed whole watched audience path job texts ending old new
+explained_fixed whole watched audience path job name certificate script warnings format colors texts ending old new is explains h =
+    subst (λ (b : Bool). IsDeliveredFixed b watched audience path job texts ending old new) (sym is)
+    (subst (λ (j : Job). IsDeliveredFixed true watched audience path j texts ending old new) (sym explains) h)
+
+-- another job is done as ever
+pub other_alone : (whole watched : Bool) (audience : Audience) (path : String Global) (job : Job) (texts : Texts) (ending : Answered) (old new : World)
+    → ((name : String Global) (certificate script : Option (String Global)) (warnings : Bool) (format : Format) (colors : Colors) → job ≡ Explain name certificate script warnings format colors → ⊥)
+    → IsDelivered watched audience None job texts ending old new ⊎ IsNotDone job texts ending old new
+    → IsDeliveredFixed whole watched audience path job texts ending old new
+other_alone false watched audience path job texts ending old new other h = h
+other_alone true watched audience path (Explain name certificate script warnings format colors) texts ending old new other h =
+    absurd (other name certificate script warnings format colors refl)
+other_alone true watched audience path (Seq budget) texts ending old new other h = h
+other_alone true watched audience path Print texts ending old new other h = h
+other_alone true watched audience path (Annotate emit) texts ending old new other h = h
+other_alone true watched audience path (Check source workers) texts ending old new other h = h
+other_alone true watched audience path (Replay source units emit until) texts ending old new other h = h
+other_alone true watched audience path (ReplayStrictly source units) texts ending old new other h = h
+other_alone true watched audience path (Run source schedule units workers budget predict emit) texts ending old new other h = h
+other_alone true watched audience path (Curve source units budget predict emit) texts ending old new other h = h
+other_alone true watched audience path (Demonstrate units steps emit) texts ending old new other h = h
 
 -- a report that standard output took is that of a job that was done; one that it did not take, of a job that was not
 pub shown : (audience : Audience) (job : Job) (texts : Texts) (report : Report) (said : List ℕ) (ending : Answered) (old new : World)
