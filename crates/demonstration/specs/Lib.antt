@@ -6,7 +6,5 @@ pub mod Look
 pub mod Laws
 pub mod Judging
 pub mod LastWriter
-pub mod HarmText
-pub mod FindingText
 pub mod DemonstrateText
 pub mod Examples
