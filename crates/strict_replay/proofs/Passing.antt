@@ -1,22 +1,25 @@
 -- What a walk tells of an event decides the line; a line that passes leaves the verdict to those after it.
-use Rattle.std.proofs.Common.{◌≡◌, ℕ, ◌+◌, List, ◌∷◌, length, Option, Some, Result, Ok, Err, refl, sym, ap, ◌∙◌}
+use Rattle.std.proofs.Common.{◌≡◌, ℕ, ◌+◌, true, false, List, ◌∷◌, length, Option, None, Some, Result, Ok, Err, refl, sym, ap, ◌∙◌}
 use Rattle.std.specs.Option.{option_map, option_or}
 use Rattle.std.specs.declared.alloc.Global.{Global}
 use Rattle.std.specs.declared.vec.Vec.{Vec}
+use Rattle.mark_checker.specs.Places.{Checked}
 use Rattle.task_descriptor.specs.Listing.{Listing}
 use Rattle.machine_model.specs.Machine.{State}
 use Rattle.machine_model.specs.declared.event.Event.{Event}
 use Rattle.machine_model.specs.declared.event.Refused.{Refused}
 use Rattle.sequencer.specs.Machines.{MachineView, SameRing, answer_to, state, units_of}
+use Rattle.event_script.specs.EventScript.{event_in}
+use Rattle.event_script.specs.declared.fault.EventFault.{EventFault}
 use Rattle.event_trace.specs.declared.change.Change.{Change}
 use Rattle.event_trace.specs.declared.told.Told.TheVariants as told
 use Rattle.event_trace.specs.Entries.{Tells, count_behind, state_behind}
 use Rattle.event_trace.specs.Following.{GoesOn}
 use Rattle.strict_replay.specs.declared.departure.Departure.{Departure}
-use Rattle.strict_replay.specs.declared.departure.Departure.TheVariants.{NotAllowed}
+use Rattle.strict_replay.specs.declared.departure.Departure.TheVariants.{NoEvent, NotAllowed}
 use Rattle.strict_replay.specs.declared.departure.Departed.{Departed}
-use Rattle.strict_replay.specs.StrictScript.{content}
-use Rattle.strict_replay.specs.StrictReplay.{Departs, Further, Passes, departed, event_departs, first_departed, first_unmet, line_departs}
+use Rattle.strict_replay.specs.StrictScript.{content, event_text, expected_parts, is_silent}
+use Rattle.strict_replay.specs.StrictReplay.{Departs, Further, Passes, departed, departs_from, event_departs, first_departed, first_unmet}
 
 taken_by : (p : Listing) (number n : ℕ) (s : State) (parts : List (List ℕ)) (further : Further) (e : Event) (a : Result (Unit {0}) Refused) (changes : Vec Change Global) →
     Tells p s e a (told.Taken changes) →
@@ -31,44 +34,60 @@ refused_by : (p : Listing) (number n : ℕ) (s : State) (parts : List (List ℕ)
 refused_by p number n s parts further e (Ok done) refusal tells = absurd tells
 refused_by p number n s parts further e (Err why) refusal tells = refl
 
--- an event that was taken, with what is expected of it
-pub taken : (number : ℕ) (m m' : MachineView) (parts : List (List ℕ)) (further : Further) (e : Event) (changes : Vec Change Global) (u : Option Departure) →
-    GoesOn m e m' → Tells m.accepted.program (state m) e (answer_to m e) (told.Taken changes) → u ≡ first_unmet changes.items 1 parts →
-    event_departs m.accepted.program number (length m.history) (state m) parts further e (answer_to m e)
-    ≡ option_or (option_map (departed number) u) (further (length m'.history) (state m'))
-taken number m m' parts further e changes u on tells is =
-    taken_by m.accepted.program number (length m.history) (state m) parts further e (answer_to m e) changes tells
-    ∙ ap (λ (v : Option Departure). option_or (option_map (departed number) v) (further (count_behind (length m.history) (answer_to m e)) (state_behind m.accepted.program (state m) e (answer_to m e)))) (sym is)
-    ∙ ap (λ (k : ℕ). option_or (option_map (departed number) u) (further k (state_behind m.accepted.program (state m) e (answer_to m e)))) (sym on.count)
-    ∙ ap (λ (t : State). option_or (option_map (departed number) u) (further (length m'.history) t)) (sym on.state)
+-- ---- a line
 
--- one that was refused
-pub refused : (number : ℕ) (m : MachineView) (parts : List (List ℕ)) (further : Further) (e : Event) (refusal : Refused) →
-    Tells m.accepted.program (state m) e (answer_to m e) (told.Refused refusal) →
-    event_departs m.accepted.program number (length m.history) (state m) parts further e (answer_to m e) ≡ Some (departed number NotAllowed)
-refused number m parts further e refusal tells =
-    refused_by m.accepted.program number (length m.history) (state m) parts further e (answer_to m e) refusal tells
+pub silent_passes : (names : List (List ℕ)) (m : MachineView) (number : ℕ) (text : List ℕ) → is_silent text ≡ true → Passes names m number text m
+silent_passes names m number text silent = (record { accepted = refl; units = refl }, λ further. rw silent refl)
 
--- a line that passes
+pub unspelled_departs : (names : List (List ℕ)) (m : MachineView) (number : ℕ) (text : List ℕ) (fault : EventFault) →
+    is_silent text ≡ false → event_in names (event_text text) ≡ Err fault → Departs names m number text NoEvent
+unspelled_departs names m number text fault loud spelt = λ further. rw loud (rw spelt refl)
+
+module _ (names : List (List ℕ)) (m : MachineView) (number : ℕ) (text : List ℕ) (e : Event)
+    (loud : is_silent text ≡ false) (spelt : event_in names (event_text text) ≡ Ok e) where
+  spells : (further : Further) → departs_from names m number text further
+      ≡ event_departs m.accepted.program number (length m.history) (state m) (expected_parts text) further e (answer_to m e)
+  spells further = rw loud (rw spelt refl)
+
+  taken : (m' : MachineView) (changes : Vec Change Global) (u : Option Departure) (further : Further) →
+      GoesOn m e m' → Tells m.accepted.program (state m) e (answer_to m e) (told.Taken changes) → u ≡ first_unmet changes.items 1 (expected_parts text) →
+      departs_from names m number text further ≡ option_or (option_map (departed number) u) (further (length m'.history) (state m'))
+  taken m' changes u further on tells is =
+      spells further
+      ∙ taken_by m.accepted.program number (length m.history) (state m) (expected_parts text) further e (answer_to m e) changes tells
+      ∙ ap (λ (v : Option Departure). option_or (option_map (departed number) v) (further (count_behind (length m.history) (answer_to m e)) (state_behind m.accepted.program (state m) e (answer_to m e)))) (sym is)
+      ∙ ap (λ (k : ℕ). option_or (option_map (departed number) u) (further k (state_behind m.accepted.program (state m) e (answer_to m e)))) (sym on.count)
+      ∙ ap (λ (t : State). option_or (option_map (departed number) u) (further (length m'.history) t)) (sym on.state)
+
+  pub taken_passes : (m' : MachineView) (changes : Vec Change Global) → GoesOn m e m' → Tells m.accepted.program (state m) e (answer_to m e) (told.Taken changes) →
+      None ≡ first_unmet changes.items 1 (expected_parts text) → Passes names m number text m'
+  taken_passes m' changes on tells is = (on.kept, λ further. taken m' changes None further on tells is)
+
+  pub taken_departs : (m' : MachineView) (changes : Vec Change Global) (why : Departure) → GoesOn m e m' → Tells m.accepted.program (state m) e (answer_to m e) (told.Taken changes) →
+      Some why ≡ first_unmet changes.items 1 (expected_parts text) → Departs names m number text why
+  taken_departs m' changes why on tells is = λ further. taken m' changes (Some why) further on tells is
+
+  pub refused_departs : (refusal : Refused) → Tells m.accepted.program (state m) e (answer_to m e) (told.Refused refusal) → Departs names m number text NotAllowed
+  refused_departs refusal tells = λ further.
+      spells further ∙ refused_by m.accepted.program number (length m.history) (state m) (expected_parts text) further e (answer_to m e) refusal tells
+
+-- ---- the lines behind it
+
 pub passes_on : (m m' : MachineView) (names : List (List ℕ)) (number : ℕ) (all more : List (List ℕ)) (line : List ℕ) (verdict : Option Departed) →
-    all ≡ line ∷ more →
-    Passes m (line_departs names m.accepted.program (units_of m) number (length m.history) (state m) (content line)) m' →
+    all ≡ line ∷ more → Passes names m number (content line) m' →
     first_departed names m.accepted.program (units_of m) number (length m.history) (state m) all ≡ verdict →
     first_departed names m'.accepted.program (units_of m') (number + 1) (length m'.history) (state m') more ≡ verdict
 passes_on m m' names number all more line verdict begins passes is =
     let further : Further = λ k t. first_departed names m.accepted.program (units_of m) (number + 1) k t more in
-    ap (λ (p : Listing). first_departed names p (units_of m') (number + 1) (length m'.history) (state m') more) (ap (λ a. a.program) passes.0.accepted)
+    ap (λ (a : Checked). first_departed names a.program (units_of m') (number + 1) (length m'.history) (state m') more) passes.0.accepted
     ∙ ap (λ (u : ℕ). first_departed names m.accepted.program u (number + 1) (length m'.history) (state m') more) passes.0.units
     ∙ sym (passes.1 further)
     ∙ ap (λ (ls : List (List ℕ)). first_departed names m.accepted.program (units_of m) number (length m.history) (state m) ls) (sym begins)
     ∙ is
 
--- one that departs
 pub departs_at : (m : MachineView) (names : List (List ℕ)) (number : ℕ) (all more : List (List ℕ)) (line : List ℕ) (verdict : Option Departed) (why : Departure) →
-    all ≡ line ∷ more →
-    Departs number (line_departs names m.accepted.program (units_of m) number (length m.history) (state m) (content line)) why →
-    first_departed names m.accepted.program (units_of m) number (length m.history) (state m) all ≡ verdict →
-    Some (departed number why) ≡ verdict
+    all ≡ line ∷ more → Departs names m number (content line) why →
+    first_departed names m.accepted.program (units_of m) number (length m.history) (state m) all ≡ verdict → Some (departed number why) ≡ verdict
 departs_at m names number all more line verdict why begins departs is =
     sym (departs (λ k t. first_departed names m.accepted.program (units_of m) (number + 1) k t more))
     ∙ ap (λ (ls : List (List ℕ)). first_departed names m.accepted.program (units_of m) number (length m.history) (state m) ls) (sym begins)

@@ -8,7 +8,7 @@ use Rattle.machine_model.specs.Machine.{State, opening}
 use Rattle.machine_model.specs.Answer.{after, answer}
 use Rattle.machine_model.specs.declared.event.Event.{Event}
 use Rattle.machine_model.specs.declared.event.Refused.{Refused}
-use Rattle.sequencer.specs.Machines.{MachineView, SameRing, state as state_of}
+use Rattle.sequencer.specs.Machines.{MachineView, SameRing, state as state_of, units_of}
 use Rattle.event_script.specs.EventScript.{event_in, lines, names_in}
 use Rattle.event_script.specs.declared.fault.EventFault.{EventFault}
 use Rattle.event_trace.specs.Changes.{changes_of}
@@ -96,10 +96,13 @@ IsStrictJudged units script (accepted p) report = report.status ≡ option_map_o
 abbrev pub IsStrictReport : (units : ℕ) → (program certificate script : List ℕ) → Report → Type 0
 IsStrictReport units program certificate script report = IsStrictJudged units script (judgement program certificate) report
 
--- ---- for private functions only: a machine passes a line, or the line departs
+-- ---- for private functions only: a machine passes a line with this content, or the line departs
 
-abbrev pub Passes : MachineView → (first : Further → Option Departed) → MachineView → Type 0
-Passes m first m' = SameRing m m' × ((further : Further) → first further ≡ further (length m'.history) (state_of m'))
+abbrev pub departs_from : (names : List (List ℕ)) → MachineView → (number : ℕ) → (content : List ℕ) → Further → Option Departed
+departs_from names m number content further = line_departs names m.accepted.program (units_of m) number (length m.history) (state_of m) content further
 
-abbrev pub Departs : (number : ℕ) → (first : Further → Option Departed) → Departure → Type 0
-Departs number first why = (further : Further) → first further ≡ Some (departed number why)
+abbrev pub Passes : (names : List (List ℕ)) → MachineView → (number : ℕ) → (content : List ℕ) → MachineView → Type 0
+Passes names m number content m' = SameRing m m' × ((further : Further) → departs_from names m number content further ≡ further (length m'.history) (state_of m'))
+
+abbrev pub Departs : (names : List (List ℕ)) → MachineView → (number : ℕ) → (content : List ℕ) → Departure → Type 0
+Departs names m number content why = (further : Further) → departs_from names m number content further ≡ Some (departed number why)

@@ -59,31 +59,41 @@ word_in text = option_and_then (λ n. if nat_lt n (2 ^ 32) then Some n else None
 abbrev pub trap_in : List ℕ → Option Trap
 trap_in text = find (λ trap. bytes_eq text (trap_text trap)) (Unaligned ∷ OutOfRange ∷ BadPc ∷ ReadOnly ∷ [])
 
+abbrev pub cut_in : List ℕ → Option Standing
+cut_in text =
+    if starts_with nat_eq text (codes "trapped ") then option_map Trapped (trap_in (without_first_spaces (drop 8 text)))
+    else (if starts_with nat_eq text (codes "unlisted ") then option_map Unlisted (word_in (without_first_spaces (drop 9 text)))
+    else None)
+
 abbrev pub standing_in : List ℕ → Option Standing
 standing_in text =
     if bytes_eq text (codes "running") then Some Running
     else (if bytes_eq text (codes "halted") then Some Halted
-    else (if starts_with nat_eq text (codes "trapped ") then option_map Trapped (trap_in (without_first_spaces (drop 8 text)))
-    else (if starts_with nat_eq text (codes "unlisted ") then option_map Unlisted (word_in (without_first_spaces (drop 9 text)))
-    else None)))
+    else cut_in text)
 
--- the address of `[A]`
+-- a word that was loaded from an address, stored there, or brought to a register: `[A]` or `$R`
 abbrev pub address_in : (name : List ℕ) → Option ℕ
 address_in name =
     if nat_lt 1 (length name) && (slice_index name 0 == 91 && slice_index name (length name - 1) == 93)
     then word_in (take (length name - 2) (drop 1 name))
     else None
 
--- a word that was put out, sent by a register, loaded or stored at an address, or brought to a register
+abbrev pub at_place : (name : List ℕ) → (word : ℕ) → Option Expectation
+at_place name word = option_or (option_map (λ address. Memory address word) (address_in name)) (option_map (λ r. Register r word) (register_in name))
+
+-- `out=W`, `sends $R=W`, or a place
 abbrev pub expectation_of : (name : List ℕ) → (word : ℕ) → Option Expectation
 expectation_of name word =
     if bytes_eq name (codes "out") then Some (Output word)
     else (if starts_with nat_eq name (codes "sends ") then option_map (λ r. Sends r word) (register_in (without_first_spaces (drop 6 name)))
-    else option_or (option_map (λ address. Memory address word) (address_in name)) (option_map (λ r. Register r word) (register_in name)))
+    else at_place name word)
 
--- `stops A`, `ends` and how, or `out=W`, `sends $R=W`, `[A]=W`, `$R=W`
+abbrev pub equation_in : (part : List ℕ) → Option Expectation
+equation_in part = option_and_then (λ k. option_and_then (expectation_of (trimmed (take k part))) (word_in (trimmed (drop (k + 1) part)))) (position (λ b. b == 61) part)
+
+-- one of these, `stops A`, or `ends` and how
 abbrev pub expectation_in : (part : List ℕ) → Option Expectation
 expectation_in part =
     if starts_with nat_eq part (codes "stops ") then option_map Stops (word_in (without_first_spaces (drop 6 part)))
     else (if starts_with nat_eq part (codes "ends ") then option_map Ends (standing_in (without_first_spaces (drop 5 part)))
-    else option_and_then (λ k. option_and_then (expectation_of (trimmed (take k part))) (word_in (trimmed (drop (k + 1) part)))) (position (λ b. b == 61) part))
+    else equation_in part)

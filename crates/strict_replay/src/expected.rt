@@ -18,20 +18,19 @@ pub(crate) fn done_by(change: Change) -> Option<Expectation>
     ensures { result ≡ done_by change }
 {
     match change {
-        Change::Wrote { register, word }
-        | Change::Took { register, word }
-        | Change::AtUnit {
-            change: UnitChange::Arrived { register, word },
-            ..
-        } => Some(Expectation::Register { register, word }),
-        Change::Sent { register, word }
-        | Change::AtUnit {
-            change: UnitChange::Drained { register, word },
-            ..
-        } => Some(Expectation::Sends { register, word }),
-        Change::Loaded { address, word } | Change::Stored { address, word, .. } => {
-            Some(Expectation::Memory { address, word })
-        }
+        Change::Wrote { register, word } => Some(Expectation::Register { register, word }),
+        Change::Took { register, word } => Some(Expectation::Register { register, word }),
+        Change::Sent { register, word } => Some(Expectation::Sends { register, word }),
+        Change::AtUnit { change, .. } => match change {
+            UnitChange::Arrived { register, word } => Some(Expectation::Register {
+                register,
+                word,
+            }),
+            UnitChange::Drained { register, word } => Some(Expectation::Sends { register, word }),
+            _ => None,
+        },
+        Change::Loaded { address, word } => Some(Expectation::Memory { address, word }),
+        Change::Stored { address, word, .. } => Some(Expectation::Memory { address, word }),
         Change::PutOut { word } => Some(Expectation::Output { word }),
         Change::StoppedAt { address } => Some(Expectation::Stops { address }),
         Change::Ended { standing } => Some(Expectation::Ends { standing }),
@@ -43,7 +42,9 @@ pub(crate) fn done_by(change: Change) -> Option<Expectation>
 fn is_met(changes: &[Change], expected: Expectation) -> bool
     ensures { result ≡ is_met changes.now expected }
 {
-    changes.iter().any(|change| done_by(*change) == Some(expected))
+    changes
+        .iter()
+        .any(|change| done_by(*change) == Some(expected))
 }
 
 /// How a part departs, if it does.

@@ -39,13 +39,14 @@ struct Referee<'p, 't> {
 }
 
 impl Referee<'_, '_> {
-    ghost use Rattle.std.specs.Prelude.{◌≡◌, ◌≤◌, length, MatchResult, IfOk};
-    ghost use Rattle.event_script.specs.EventScript.{lines};
-    ghost use Rattle.sequencer.specs.Machines.{answer_to, state, units_of};
-    ghost use Rattle.strict_replay.specs.StrictScript.{content, expected_parts};
-    ghost use Rattle.strict_replay.specs.StrictReplay.{Departs, Passes, event_departs, first_departed, line_departs};
+    ghost use Rattle.std.specs.Prelude.{◌≡◌, ◌≤◌, false, length, MatchResult, IfOk};
+    ghost use Rattle.event_script.specs.EventScript.{event_in, lines};
+    ghost use Rattle.sequencer.specs.Machines.{state, units_of};
+    ghost use Rattle.strict_replay.specs.StrictScript.{content, event_text, is_silent};
+    ghost use Rattle.strict_replay.specs.StrictReplay.{Departs, Passes, first_departed};
 
     /// The verdict on a script, whose walk is at its start.
+    #[tactic(auto, using(crate::proofs::Passing::passes_on, crate::proofs::Passing::departs_at))]
     fn judge(&self, mut walk: Walk<'_>, script: &[u8]) -> Result<Verdict, AllocError>
         requires { length self.now.names.now ≤ 1024 }
         ensures { IfOk result (λ verdict. verdict.departed ≡ first_departed self.now.names.now walk.entry.accepted.program (units_of walk.entry) 1 (length walk.entry.history) (state walk.entry) (lines script.now)) }
@@ -68,6 +69,7 @@ impl Referee<'_, '_> {
     }
 
     /// The walk after the line of a number, or how it departs and what is told of it.
+    #[tactic(auto, using(crate::proofs::Passing::silent_passes, crate::proofs::Passing::unspelled_departs))]
     fn take_line<'a>(
         &self,
         walk: Walk<'a>,
@@ -75,9 +77,9 @@ impl Referee<'_, '_> {
         line: &[u8],
     ) -> Result<Result<Walk<'a>, (Departure, String)>, AllocError>
         requires { length self.now.names.now ≤ 1024 }
-        ensures { IfOk result (λ taken.
-            let first = line_departs self.now.names.now walk.entry.accepted.program (units_of walk.entry) number (length walk.entry.history) (state walk.entry) (content line.now) in
-            MatchResult taken (Passes walk.entry first) (λ departs. Departs number first departs.0)) }
+        ensures { IfOk result (λ taken. MatchResult taken
+            (Passes self.now.names.now walk.entry number (content line.now))
+            (λ departs. Departs self.now.names.now walk.entry number (content line.now) departs.0)) }
     {
         let content = content(line);
         if is_silent(content) {
@@ -93,7 +95,8 @@ impl Referee<'_, '_> {
         }
     }
 
-    /// The walk after an event, or how the event departs from what is expected of it and what is told of it.
+    /// The walk after the event of a line, or how it departs from what is expected of it and what is told of it.
+    #[tactic(auto, using(crate::proofs::Passing::taken_passes, crate::proofs::Passing::taken_departs, crate::proofs::Passing::refused_departs))]
     fn take_event<'a>(
         &self,
         walk: Walk<'a>,
@@ -101,9 +104,11 @@ impl Referee<'_, '_> {
         event: Event,
         content: &[u8],
     ) -> Result<Result<Walk<'a>, (Departure, String)>, AllocError>
-        ensures { IfOk result (λ taken.
-            let first = λ further. event_departs walk.entry.accepted.program number (length walk.entry.history) (state walk.entry) (expected_parts content.now) further event (answer_to walk.entry event) in
-            MatchResult taken (Passes walk.entry first) (λ departs. Departs number first departs.0)) }
+        requires loud { is_silent content.now ≡ false }
+        requires spelt { event_in self.now.names.now (event_text content.now) ≡ Ok event }
+        ensures { IfOk result (λ taken. MatchResult taken
+            (Passes self.now.names.now walk.entry number content.now)
+            (λ departs. Departs self.now.names.now walk.entry number content.now departs.0)) }
     {
         let ring = walk.ring();
         let (next, told) = walk.step(self.alloc, &event)?;

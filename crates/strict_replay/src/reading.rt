@@ -1,9 +1,11 @@
 //! Reading the lines of a script with expectations.
 
 ghost use Rattle.std.specs.Prelude.{◌≡◌, ◌==◌, ◌^◌, ◌≤◌, length, min, position};
+ghost use Rattle.std.specs.Char.{is_ascii_digit};
+ghost use Rattle.std.specs.List.{list_all};
 ghost use Rattle.std.specs.Option.{option_map};
 ghost use Rattle.program_tokens.specs.Numbers.{magnitude_of, number_in};
-ghost use Rattle.strict_replay.specs.StrictScript.{address_in, content, event_text, expectation_in, expectation_of, is_silent, standing_in, trap_in, trimmed, without_first_spaces, without_last_spaces, word_in};
+ghost use Rattle.strict_replay.specs.StrictScript.{address_in, at_place, content, cut_in, equation_in, event_text, expectation_in, expectation_of, is_silent, standing_in, trap_in, trimmed, without_first_spaces, without_last_spaces, word_in};
 
 use crate::expectation::Expectation;
 use event_script::reading::register_of;
@@ -63,15 +65,20 @@ pub(crate) fn content(line: &[u8]) -> &[u8]
     }
 }
 
+/// Whether these are decimal digits, or none.
+fn are_digits(text: &[u8]) -> bool
+    ensures { result ≡ list_all is_ascii_digit text.now }
+{
+    text.iter().all(|byte| byte.is_ascii_digit())
+}
+
 /// Whether a line has no event: nothing stands there, or `step` and a number.
 pub(crate) fn is_silent(content: &[u8]) -> bool
     ensures { result ≡ is_silent content.now }
 {
     content.is_empty()
         || content.starts_with(b"step ".as_slice())
-            && without_first_spaces(&content[5..])
-                .iter()
-                .all(|byte| byte.is_ascii_digit())
+            && are_digits(without_first_spaces(&content[5..]))
 }
 
 /// What stands before the colon, where the event is.
@@ -132,6 +139,21 @@ fn trap_in(text: &[u8]) -> Option<Trap>
     }
 }
 
+/// How a run is cut short, as words spell it.
+fn cut_in(text: &[u8]) -> Option<Standing>
+    ensures { result ≡ cut_in text.now }
+{
+    if text.starts_with(b"trapped ".as_slice()) {
+        let trap = trap_in(without_first_spaces(&text[8..]))?;
+        return Some(Standing::Trapped(trap));
+    }
+    if text.starts_with(b"unlisted ".as_slice()) {
+        let address = word_in(without_first_spaces(&text[9..]))?;
+        return Some(Standing::Unlisted(address));
+    }
+    None
+}
+
 /// How a run stands, as words spell it.
 fn standing_in(text: &[u8]) -> Option<Standing>
     ensures { result ≡ standing_in text.now }
@@ -140,12 +162,8 @@ fn standing_in(text: &[u8]) -> Option<Standing>
         Some(Standing::Running)
     } else if text == b"halted".as_slice() {
         Some(Standing::Halted)
-    } else if text.starts_with(b"trapped ".as_slice()) {
-        Some(Standing::Trapped(trap_in(without_first_spaces(&text[8..]))?))
-    } else if text.starts_with(b"unlisted ".as_slice()) {
-        Some(Standing::Unlisted(word_in(without_first_spaces(&text[9..]))?))
     } else {
-        None
+        cut_in(text)
     }
 }
 
@@ -160,7 +178,18 @@ fn address_in(name: &[u8]) -> Option<u32>
     }
 }
 
-/// What is expected of a name and a word: `out`, `sends $R`, `[A]` or `$R`.
+/// That a word came to an address or a register: `[A]` or `$R`.
+fn at_place(name: &[u8], word: u32) -> Option<Expectation>
+    ensures { result ≡ at_place name.now word }
+{
+    if let Some(address) = address_in(name) {
+        return Some(Expectation::Memory { address, word });
+    }
+    let register = register_of(name)?;
+    Some(Expectation::Register { register, word })
+}
+
+/// What is expected of a name and a word: `out`, `sends $R`, or a place.
 fn expectation_of(name: &[u8], word: u32) -> Option<Expectation>
     ensures { result ≡ expectation_of name.now word }
 {
@@ -171,11 +200,16 @@ fn expectation_of(name: &[u8], word: u32) -> Option<Expectation>
         let register = register_of(without_first_spaces(&name[6..]))?;
         return Some(Expectation::Sends { register, word });
     }
-    if let Some(address) = address_in(name) {
-        return Some(Expectation::Memory { address, word });
-    }
-    let register = register_of(name)?;
-    Some(Expectation::Register { register, word })
+    at_place(name, word)
+}
+
+/// The expectation that a name, an equals sign and a word spell.
+fn equation_in(part: &[u8]) -> Option<Expectation>
+    ensures { result ≡ equation_in part.now }
+{
+    let end = place_of(b'=', part)?;
+    let word = word_in(trimmed(&part[end + 1..]))?;
+    expectation_of(trimmed(&part[..end]), word)
 }
 
 /// The expectation that a part spells: `stops A`, `ends` and how the run ends, or an equation.
@@ -190,7 +224,5 @@ pub(crate) fn expectation_in(part: &[u8]) -> Option<Expectation>
         let standing = standing_in(without_first_spaces(&part[5..]))?;
         return Some(Expectation::Ends { standing });
     }
-    let end = place_of(b'=', part)?;
-    let word = word_in(trimmed(&part[end + 1..]))?;
-    expectation_of(trimmed(&part[..end]), word)
+    equation_in(part)
 }
