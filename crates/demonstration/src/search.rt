@@ -66,7 +66,7 @@ pub fn demonstrate(
 
 /// A wrong read or end, on 2 units, on 3, and so on, with these guesses. Where a unit was free each time that a task was to
 /// begin, the run is the same on more units.
-#[tactic(auto, using(crate::proofs::Searching::right_on_more))]
+#[tactic(auto, using(crate::proofs::Searching::right_on_more, crate::proofs::Searching::right_below, crate::proofs::Searching::right_from))]
 fn shown_on_any(
     alloc: Global,
     program: &Program,
@@ -247,16 +247,11 @@ fn without_rest(
     ensures shown { IfOk result (λ d. IsDemonstration program.now d) }
 {
     let few = until_harm(alloc, program, &found)?;
-    let is_enough = shows_word_alone(&found);
+    let is_enough = is_held(found.evidence.harm);
     match of_events(alloc, program, found.units, few, is_enough)? {
         Some(shorter) => Ok(shorter),
         None => Ok(found),
     }
-}
-
-/// Whether a demonstration shows only a wrong word that no instruction has read.
-fn shows_word_alone(found: &Demonstration) -> bool {
-    is_held(found.evidence.harm)
 }
 
 /// Whether a harm is a wrong word that no instruction has read.
@@ -285,7 +280,7 @@ fn without_each(
     }
     for done in 0..groups + 1 {
         let few = without(alloc, &found.events, (groups - done) * size, size)?;
-        let is_enough = shows_word_alone(&found);
+        let is_enough = is_held(found.evidence.harm);
         if let Some(shorter) = of_events(alloc, program, found.units, few, is_enough)? {
             found = shorter;
         }

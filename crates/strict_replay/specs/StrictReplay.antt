@@ -39,7 +39,7 @@ done_by (StoppedAt at) = Some (Stops at)
 done_by (Ended standing) = Some (Ends standing)
 done_by other = None
 
--- one of the changes is what was expected
+-- one of the changes is what was expected, by the `==` that is derived for expectations
 abbrev pub is_met : List Change → Expectation → Bool
 is_met changes expected = list_any (λ change. option_eq eq-value.it (done_by change) (Some expected)) changes
 
