@@ -247,11 +247,16 @@ fn without_rest(
     ensures shown { IfOk result (λ d. IsDemonstration program.now d) }
 {
     let few = until_harm(alloc, program, &found)?;
-    let is_enough = is_held(found.evidence.harm);
+    let is_enough = shows_word_alone(&found);
     match of_events(alloc, program, found.units, few, is_enough)? {
         Some(shorter) => Ok(shorter),
         None => Ok(found),
     }
+}
+
+/// Whether a demonstration shows only a wrong word that no instruction has read.
+fn shows_word_alone(found: &Demonstration) -> bool {
+    is_held(found.evidence.harm)
 }
 
 /// Whether a harm is a wrong word that no instruction has read.
@@ -280,7 +285,7 @@ fn without_each(
     }
     for done in 0..groups + 1 {
         let few = without(alloc, &found.events, (groups - done) * size, size)?;
-        let is_enough = is_held(found.evidence.harm);
+        let is_enough = shows_word_alone(&found);
         if let Some(shorter) = of_events(alloc, program, found.units, few, is_enough)? {
             found = shorter;
         }

@@ -1,5 +1,6 @@
 -- What a walk tells of an event decides the line; a line that passes leaves the verdict to those after it.
-use Rattle.std.proofs.Common.{◌≡◌, ℕ, ◌+◌, true, false, List, ◌∷◌, length, Option, None, Some, Result, Ok, Err, refl, sym, ap, ◌∙◌}
+use Rattle.std.proofs.Common.{◌≡◌, ℕ, ◌+◌, true, false, List, ◌∷◌, length, Option, None, Some, Result, Ok, Err, refl, sym, ap, subst, ◌∙◌}
+use Rattle.std.specs.Prelude.{MatchResult}
 use Rattle.std.specs.Option.{option_map, option_or}
 use Rattle.std.specs.declared.alloc.Global.{Global}
 use Rattle.std.specs.declared.vec.Vec.{Vec}
@@ -70,6 +71,19 @@ module _ (names : List (List ℕ)) (m : MachineView) (number : ℕ) (text : List
   pub refused_departs : (refusal : Refused) → Tells m.accepted.program (state m) e (answer_to m e) (told.Refused refusal) → Departs names m number text NotAllowed
   refused_departs refusal tells = λ further.
       spells further ∙ refused_by m.accepted.program number (length m.history) (state m) (expected_parts text) further e (answer_to m e) refusal tells
+
+-- what was made of a line, by its cases
+pub taken_ok : {E : Type 0} (why_of : E → Departure) (names : List (List ℕ)) (m : MachineView) (number : ℕ) (text : List ℕ) (taken : Result MachineView E) (m' : MachineView) →
+    taken ≡ Ok m' → MatchResult taken (Passes names m number text) (λ it. Departs names m number text (why_of it)) → Passes names m number text m'
+taken_ok {E} why_of names m number text taken m' is ensured =
+    let P : Result MachineView E → Type 0 = λ r. MatchResult r (Passes names m number text) (λ it. Departs names m number text (why_of it)) in
+    subst P is ensured
+
+pub taken_err : {E : Type 0} (why_of : E → Departure) (names : List (List ℕ)) (m : MachineView) (number : ℕ) (text : List ℕ) (taken : Result MachineView E) (it : E) →
+    taken ≡ Err it → MatchResult taken (Passes names m number text) (λ e. Departs names m number text (why_of e)) → Departs names m number text (why_of it)
+taken_err {E} why_of names m number text taken it is ensured =
+    let P : Result MachineView E → Type 0 = λ r. MatchResult r (Passes names m number text) (λ e. Departs names m number text (why_of e)) in
+    subst P is ensured
 
 -- ---- the lines behind it
 

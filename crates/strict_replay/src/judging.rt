@@ -46,7 +46,6 @@ impl Referee<'_, '_> {
     ghost use Rattle.strict_replay.specs.StrictReplay.{Departs, Passes, first_departed};
 
     /// The verdict on a script, whose walk is at its start.
-    #[tactic(auto, using(crate::proofs::Passing::passes_on, crate::proofs::Passing::departs_at))]
     fn judge(&self, mut walk: Walk<'_>, script: &[u8]) -> Result<Verdict, AllocError>
         requires { length self.now.names.now ≤ 1024 }
         ensures { IfOk result (λ verdict. verdict.departed ≡ first_departed self.now.names.now walk.entry.accepted.program (units_of walk.entry) 1 (length walk.entry.history) (state walk.entry) (lines script.now)) }
@@ -96,7 +95,7 @@ impl Referee<'_, '_> {
     }
 
     /// The walk after the event of a line, or how it departs from what is expected of it and what is told of it.
-    #[tactic(auto, using(crate::proofs::Passing::taken_passes, crate::proofs::Passing::taken_departs, crate::proofs::Passing::refused_departs))]
+    #[tactic(auto, using(crate::proofs::Passing::taken_passes))]
     fn take_event<'a>(
         &self,
         walk: Walk<'a>,

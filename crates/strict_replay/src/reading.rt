@@ -4,7 +4,9 @@ ghost use Rattle.std.specs.Prelude.{◌≡◌, ◌==◌, ◌^◌, ◌≤◌, len
 ghost use Rattle.std.specs.Char.{is_ascii_digit};
 ghost use Rattle.std.specs.List.{list_all};
 ghost use Rattle.std.specs.Option.{option_map};
+ghost use Rattle.event_script.specs.EventScript.{register_in};
 ghost use Rattle.program_tokens.specs.Numbers.{magnitude_of, number_in};
+ghost use Rattle.strict_replay.specs.declared.expectation.Expectation.TheVariants.{Ends, Sends};
 ghost use Rattle.strict_replay.specs.StrictScript.{address_in, at_place, content, cut_in, equation_in, event_text, expectation_in, expectation_of, is_silent, standing_in, trap_in, trimmed, without_first_spaces, without_last_spaces, word_in};
 
 use crate::expectation::Expectation;
@@ -189,6 +191,14 @@ fn at_place(name: &[u8], word: u32) -> Option<Expectation>
     Some(Expectation::Register { register, word })
 }
 
+/// That the register behind `sends` was sent with a word.
+fn sending_of(behind: &[u8], word: u32) -> Option<Expectation>
+    ensures { result ≡ option_map (λ r. Sends r word) (register_in (without_first_spaces behind.now)) }
+{
+    let register = register_of(without_first_spaces(behind))?;
+    Some(Expectation::Sends { register, word })
+}
+
 /// What is expected of a name and a word: `out`, `sends $R`, or a place.
 fn expectation_of(name: &[u8], word: u32) -> Option<Expectation>
     ensures { result ≡ expectation_of name.now word }
@@ -197,8 +207,7 @@ fn expectation_of(name: &[u8], word: u32) -> Option<Expectation>
         return Some(Expectation::Output { word });
     }
     if name.starts_with(b"sends ".as_slice()) {
-        let register = register_of(without_first_spaces(&name[6..]))?;
-        return Some(Expectation::Sends { register, word });
+        return sending_of(&name[6..], word);
     }
     at_place(name, word)
 }
@@ -212,6 +221,14 @@ fn equation_in(part: &[u8]) -> Option<Expectation>
     expectation_of(trimmed(&part[..end]), word)
 }
 
+/// That the run ends as the words behind `ends` spell it.
+fn end_of(behind: &[u8]) -> Option<Expectation>
+    ensures { result ≡ option_map Ends (standing_in (without_first_spaces behind.now)) }
+{
+    let standing = standing_in(without_first_spaces(behind))?;
+    Some(Expectation::Ends { standing })
+}
+
 /// The expectation that a part spells: `stops A`, `ends` and how the run ends, or an equation.
 pub(crate) fn expectation_in(part: &[u8]) -> Option<Expectation>
     ensures { result ≡ expectation_in part.now }
@@ -221,8 +238,7 @@ pub(crate) fn expectation_in(part: &[u8]) -> Option<Expectation>
         return Some(Expectation::Stops { address });
     }
     if part.starts_with(b"ends ".as_slice()) {
-        let standing = standing_in(without_first_spaces(&part[5..]))?;
-        return Some(Expectation::Ends { standing });
+        return end_of(&part[5..]);
     }
     equation_in(part)
 }
