@@ -66,7 +66,6 @@ pub fn demonstrate(
 
 /// A wrong read or end, on 2 units, on 3, and so on, with these guesses. Where a unit was free each time that a task was to
 /// begin, the run is the same on more units.
-#[tactic(auto, using(crate::proofs::Searching::right_on_more, crate::proofs::Searching::right_below, crate::proofs::Searching::right_from))]
 fn shown_on_any(
     alloc: Global,
     program: &Program,

@@ -81,11 +81,15 @@ address_in name =
 abbrev pub at_place : (name : List ℕ) → (word : ℕ) → Option Expectation
 at_place name word = option_or (option_map (λ address. Memory address word) (address_in name)) (option_map (λ r. Register r word) (register_in name))
 
+-- a register that was sent: what stands behind `sends`
+abbrev pub sending_in : (behind : List ℕ) → (word : ℕ) → Option Expectation
+sending_in behind word = option_map (λ r. Sends r word) (register_in (without_first_spaces behind))
+
 -- `out=W`, `sends $R=W`, or a place
 abbrev pub expectation_of : (name : List ℕ) → (word : ℕ) → Option Expectation
 expectation_of name word =
     if bytes_eq name (codes "out") then Some (Output word)
-    else (if starts_with nat_eq name (codes "sends ") then option_map (λ r. Sends r word) (register_in (without_first_spaces (drop 6 name)))
+    else (if starts_with nat_eq name (codes "sends ") then sending_in (drop 6 name) word
     else at_place name word)
 
 abbrev pub equation_in : (part : List ℕ) → Option Expectation

@@ -4,10 +4,9 @@ ghost use Rattle.std.specs.Prelude.{◌≡◌, ◌==◌, ◌^◌, ◌≤◌, len
 ghost use Rattle.std.specs.Char.{is_ascii_digit};
 ghost use Rattle.std.specs.List.{list_all};
 ghost use Rattle.std.specs.Option.{option_map};
-ghost use Rattle.event_script.specs.EventScript.{register_in};
 ghost use Rattle.program_tokens.specs.Numbers.{magnitude_of, number_in};
-ghost use Rattle.strict_replay.specs.declared.expectation.Expectation.TheVariants.{Ends, Sends};
-ghost use Rattle.strict_replay.specs.StrictScript.{address_in, at_place, content, cut_in, equation_in, event_text, expectation_in, expectation_of, is_silent, standing_in, trap_in, trimmed, without_first_spaces, without_last_spaces, word_in};
+ghost use Rattle.strict_replay.specs.declared.expectation.Expectation.TheVariants.{Ends};
+ghost use Rattle.strict_replay.specs.StrictScript.{address_in, at_place, content, cut_in, equation_in, event_text, expectation_in, expectation_of, is_silent, sending_in, standing_in, trap_in, trimmed, without_first_spaces, without_last_spaces, word_in};
 
 use crate::expectation::Expectation;
 use event_script::reading::register_of;
@@ -192,8 +191,8 @@ fn at_place(name: &[u8], word: u32) -> Option<Expectation>
 }
 
 /// That the register behind `sends` was sent with a word.
-fn sending_of(behind: &[u8], word: u32) -> Option<Expectation>
-    ensures { result ≡ option_map (λ r. Sends r word) (register_in (without_first_spaces behind.now)) }
+fn sending_in(behind: &[u8], word: u32) -> Option<Expectation>
+    ensures { result ≡ sending_in behind.now word }
 {
     let register = register_of(without_first_spaces(behind))?;
     Some(Expectation::Sends { register, word })
@@ -207,7 +206,7 @@ fn expectation_of(name: &[u8], word: u32) -> Option<Expectation>
         return Some(Expectation::Output { word });
     }
     if name.starts_with(b"sends ".as_slice()) {
-        return sending_of(&name[6..], word);
+        return sending_in(&name[6..], word);
     }
     at_place(name, word)
 }
