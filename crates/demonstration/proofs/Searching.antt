@@ -85,6 +85,10 @@ shown_of p d units events it program many same replays shows = record {
 
 -- the runs on more and more units
 
+pub if_none : {X : Type 0} (P : Type 0) (o : Option X) → ((x : X) → o ≡ Some x → ⊥) → IfNone o P → P
+if_none P None never is = is
+if_none P (Some x) never is = absurd (never x refl)
+
 pub right_on_more : (p : Listing) (guesses : List ℕ) (units steps : ℕ) → ReadsRight p (state_after p (run_of p units guesses steps)) → ((more : ℕ) → units ≤ more → run_of p more guesses steps ≡ run_of p units guesses steps) → (more : ℕ) → units ≤ more → ReadsRight p (state_after p (run_of p more guesses steps))
 right_on_more p guesses units steps right same more few =
     subst (λ (run : List Event). ReadsRight p (state_after p run)) (sym (same more few)) right
