@@ -9,7 +9,7 @@ use Rattle.task_descriptor.specs.Listing.{Listing}
 use Rattle.machine_model.specs.Machine.{State}
 use Rattle.machine_model.specs.declared.event.Event.{Event}
 use Rattle.machine_model.specs.declared.event.Refused.{Refused}
-use Rattle.sequencer.specs.Machines.{MachineView, SameRing, answer_to, state, units_of}
+use Rattle.sequencer.specs.Machines.{MachineView, answer_to, state, units_of}
 use Rattle.event_script.specs.EventScript.{event_in}
 use Rattle.event_script.specs.declared.fault.EventFault.{EventFault}
 use Rattle.event_trace.specs.declared.change.Change.{Change}

@@ -1,7 +1,7 @@
 -- The verdict on the lines that are left is that on the script.
 use Rattle.std.proofs.Common.{◌≡◌, ◌+◌, ◌≤◌, length}
 use Rattle.event_script.specs.EventScript.{lines}
-use Rattle.sequencer.specs.Machines.{MachineView, state, units_of}
+use Rattle.sequencer.specs.Machines.{state, units_of}
 use Rattle.strict_replay.specs.StrictReplay.{first_departed}
 use Rattle.strict_replay.proofs.judging.Referee.judge.Given as goal
 

@@ -1,5 +1,5 @@
 -- An event that does not what is expected, or is not allowed, departs.
-use Rattle.std.proofs.Common.{List, ℕ, ◌∙◌, ap, subst}
+use Rattle.std.proofs.Common.{List, ◌∙◌, ap, subst}
 use Rattle.event_trace.specs.declared.change.Change.{Change}
 use Rattle.event_trace.specs.Entries.{Tells}
 use Rattle.sequencer.specs.Machines.{answer_to, state}
