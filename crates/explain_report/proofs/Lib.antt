@@ -1,3 +1,3 @@
 mod Silence
 mod Counting
-mod Repairing
+mod RepairLemmas

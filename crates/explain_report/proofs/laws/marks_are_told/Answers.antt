@@ -1,4 +1,4 @@
-use Rattle.explain_report.proofs.Repairing.{right_told, unread_told}
+use Rattle.explain_report.proofs.RepairLemmas.{right_told, unread_told}
 use Rattle.explain_report.proofs.laws.marks_are_told.Goals as goal
 
 pub returns-clause-right : goal.returns-clause-right

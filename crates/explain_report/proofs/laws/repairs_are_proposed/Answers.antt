@@ -1,4 +1,4 @@
-use Rattle.explain_report.proofs.Repairing.{authors, right_repaired}
+use Rattle.explain_report.proofs.RepairLemmas.{authors, right_repaired}
 use Rattle.explain_report.proofs.laws.repairs_are_proposed.Goals as goal
 
 pub returns-clause-authors : goal.returns-clause-authors
