@@ -130,7 +130,7 @@ fn program_explained(
     let scripted = script_said(alloc, script_file, program, script)?;
     let beside = both(certified, scripted)?;
     let status = status_of(&errors, &beside);
-    let marks = marks_by(&errors);
+    let marks = marks_by(errors.as_slice());
     let all = proposal(alloc, text, &errors, None)?;
     let judged = judge_fixes(alloc, text, program, &least, errors, &all)?;
     let all = both(judged.errors, both(warned, beside)?)?;

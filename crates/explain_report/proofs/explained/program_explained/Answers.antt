@@ -1,5 +1,7 @@
 -- Each part is what its call says.
-use Rattle.std.proofs.Common.{rules, ◌≡◌, ◌∙◌, ap, sym, subst, Bool}
+use Rattle.std.proofs.Common.{rules, ◌≡◌, ◌↔◌, ◌∙◌, ap, sym, subst, Bool, List, []}
+use Rattle.diagnostics.specs.declared.diagnostic.Diagnostic.{Diagnostic}
+use Rattle.judged_fixes.specs.declared.judge.Marks.TheVariants.{Right}
 use Rattle.std.specs.Prelude.{◌&&◌}
 use Rattle.explain_report.specs.Beside.{is_silent}
 use Rattle.explain_report.specs.Explained.{AreWarned}
@@ -23,6 +25,7 @@ returns c =
       played = c.in_ok-scripted.ensures;
       said = search rules;
       marked = told_so c.args.text.now c.args.program.now c.in_ok-errors.errors.items c.marks_by-marks.result c.requires c.in_ok-errors.ensures
-          (c.marks_by-marks.ensures.right) c.marks_by-marks.ensures.read;
+          (subst (λ (ds : List Diagnostic). (c.marks_by-marks.result ≡ Right) ↔ (ds ≡ [])) c.as_slice.ensures.value c.marks_by-marks.ensures.right)
+          c.marks_by-marks.ensures.read;
       status = search rules;
     }
