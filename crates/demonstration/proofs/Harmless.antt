@@ -1,5 +1,5 @@
 -- Where nothing is found the state shows no departure.
-use Rattle.std.specs.Prelude.{◌≡◌, ◌≢◌, ℕ, suc, ◌+◌, ◌<◌, ◌≤◌, Bool, true, false, nat_eq, if◌then◌else◌, Option, Some, None, List, length, slice_get}
+use Rattle.std.specs.Prelude.{◌≡◌, ℕ, suc, ◌+◌, ◌<◌, Bool, true, false, nat_eq, if◌then◌else◌, Option, Some, None, List, length, slice_get}
 use Rattle.std.proofs.Common.{refl, sym, ap, ◌∙◌, subst, arith, inl, inr, eqb-true}
 use Rattle.std.proofs.lemmas.Bool.{eq-eqb, cases_lt, false≢true}
 use Rattle.mips_plain.specs.PlainMachine.{State as PlainState}
@@ -11,7 +11,7 @@ use Rattle.machine_model.specs.Claims.{plain_of}
 use Rattle.machine_model.specs.declared.event.Standing.{Standing}
 use Rattle.machine_model.specs.declared.event.Standing.TheVariants as standing
 use Rattle.demonstration.specs.Judging.{wrong_word}
-use Rattle.demonstration.specs.Shown.{AreRight, DoesNoHarm, HasWrongWord, HoldsWrong, IsCutAt, NamesItsPlace, ReadsRight, seen}
+use Rattle.demonstration.specs.Shown.{AreRight, DoesNoHarm, HoldsWrong, IsCutAt, NamesItsPlace, ReadsRight, seen}
 
 -- a word beside the right one
 

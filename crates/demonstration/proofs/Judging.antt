@@ -28,7 +28,7 @@ use Rattle.demonstration.specs.declared.judge.Harm.{Harm}
 use Rattle.demonstration.specs.declared.judge.Harm.TheVariants as harm
 use Rattle.demonstration.specs.declared.judge.WrongWord.{WrongWord}
 use Rattle.demonstration.specs.declared.judge.Judgement.TheVariants as judged
-use Rattle.demonstration.specs.Shown.{DoesHarm, DoesNoHarm, IsShown, ReadsRight, Shows, harmed_task, plain_read, seen}
+use Rattle.demonstration.specs.Shown.{DoesHarm, DoesNoHarm, IsShown, ReadsRight, Shows, harmed_task, plain_read}
 use Rattle.demonstration.specs.Judging.{IsRefusedAt, IsRight, reads_agree}
 use Rattle.demonstration.proofs.PlainReads.{reads_next}
 

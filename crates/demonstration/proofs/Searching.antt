@@ -1,18 +1,17 @@
 -- What the search finds, and what it has seen where it finds nothing.
-use Rattle.std.specs.Prelude.{◌≡◌, ℕ, ◌+◌, ◌^◌, ◌<◌, ◌≤◌, min, Bool, true, false, is_some, Option, Some, None, List, [], length, take, slice_get, Result, Ok, Err, IfOk, IfSome, IfNone}
+use Rattle.std.specs.Prelude.{◌≡◌, ℕ, ◌+◌, ◌^◌, ◌<◌, ◌≤◌, min, true, false, is_some, Option, Some, None, List, [], length, take, Result, Ok, Err, IfOk, IfSome, IfNone}
 use Rattle.std.proofs.Common.{refl, sym, ap, ◌∙◌, subst, arith, inl, inr}
 use Rattle.std.proofs.lemmas.Bool.{cases_lt}
-use Rattle.mips_plain.specs.PlainMachine.{Input, State as PlainState, reads}
+use Rattle.mips_plain.specs.PlainMachine.{Input, State as PlainState}
 use Rattle.mips_plain.specs.PlainView.{PlainView, IsAfter, Makes}
 use Rattle.mips_plain.specs.declared.outcome.OutOfMemory.{OutOfMemory}
-use Rattle.task_descriptor.specs.Listing.{Listing, input}
+use Rattle.task_descriptor.specs.Listing.{Listing}
 use Rattle.machine_model.specs.Machine.{State, opening}
-use Rattle.machine_model.specs.Answer.{most_events}
 use Rattle.machine_model.specs.Claims.{plain_of}
 use Rattle.machine_model.specs.Replay.{Replays}
 use Rattle.machine_model.specs.declared.event.Event.{Event}
 use Rattle.demonstration.specs.Driven.{DrivenView}
-use Rattle.demonstration.specs.Found.{IsDemonstration, IsNoneFound, IsRightAlone, IsSearched}
+use Rattle.demonstration.specs.Found.{IsDemonstration, IsRightAlone, IsSearched}
 use Rattle.demonstration.specs.Rounds.{each_tried, known_tasks, run_of, state_after}
 use Rattle.demonstration.specs.Shown.{HasWrongWord, HoldsWrong, IsShown, ReadsRight, Shows, WordsRight, seen}
 use Rattle.demonstration.specs.declared.judge.Evidence.{Evidence}
@@ -84,6 +83,10 @@ shown_of p d units events it program many same replays shows = record {
 }
 
 -- the runs on more and more units
+
+pub if_none : {X : Type 0} (P : Type 0) (o : Option X) → ((x : X) → o ≡ Some x → ⊥) → IfNone o P → P
+if_none P None never is = is
+if_none P (Some x) never is = absurd (never x refl)
 
 pub right_on_more : (p : Listing) (guesses : List ℕ) (units steps : ℕ) → ReadsRight p (state_after p (run_of p units guesses steps)) → ((more : ℕ) → units ≤ more → run_of p more guesses steps ≡ run_of p units guesses steps) → (more : ℕ) → units ≤ more → ReadsRight p (state_after p (run_of p more guesses steps))
 right_on_more p guesses units steps right same more few =

@@ -1,6 +1,7 @@
 -- Who wrote a register last after one more step, and that its word is of this writer.
-use Rattle.std.specs.Prelude.{◌≡◌, ℕ, zero, suc, ◌+◌, Bool, true, false, not, ◌&&◌, if◌then◌else◌, unwrap_or, Option, Some, None}
-use Rattle.std.proofs.Common.{refl, sym, ap, ◌∙◌, subst, add-one, arith}
+use Rattle.std.specs.Prelude.{◌≡◌, ◌<◌, ℕ, suc, Bool, true, false, not, ◌&&◌, if◌then◌else◌, unwrap_or, Option, Some, None}
+use Rattle.std.proofs.Common.{refl, ap, ◌∙◌, inl, inr, arith}
+use Rattle.std.proofs.lemmas.Bool.{cases_lt}
 use Rattle.mips_instructions.specs.InstructionTable.{Action, NoAction, Loads, Stores, Outputs, Halts, load_size, row}
 use Rattle.mips_instructions.specs.Instruction.{computed, dests, does_nothing, reg_a, reg_b}
 use Rattle.mips_instructions.specs.declared.instruction.LoadKind.{LoadKind}
@@ -12,18 +13,7 @@ use Rattle.mips_plain.specs.declared.outcome.Outcome.{Outcome}
 use Rattle.mips_plain.specs.declared.outcome.Outcome.TheVariants.{Running, Halted, Trapped}
 use Rattle.task_descriptor.specs.Listing.{Listing, input}
 use Rattle.machine_model.specs.Claims.{plain_of}
-use Rattle.demonstration.specs.LastWriter.{HasWordFrom, is_trapped, is_written_by, last_writer, writes_in_step}
-
-pub no_writer : (p : Listing) (r : ℕ) → last_writer p r 0 ≡ None
-unfolding last_writer
-no_writer p r = refl
-
-after_next : (p : Listing) (r n : ℕ) → last_writer p r (suc n) ≡ if writes_in_step p r n then Some (plain_of p n).pc else last_writer p r n
-unfolding last_writer
-after_next p r n = refl
-
-pub one_more_step : (p : Listing) (r n : ℕ) → last_writer p r (n + 1) ≡ if is_written_by (fetch (input p).code (plain_of p n).pc) r && not (is_trapped (plain_of p (n + 1)).outcome) then Some (plain_of p n).pc else last_writer p r n
-one_more_step p r n = rw (add-one n) (after_next p r n)
+use Rattle.demonstration.specs.LastWriter.{HasWordFrom, is_trapped, is_written_by, writes_in_step}
 
 -- an instruction that is no writer leaves the word
 
@@ -65,22 +55,35 @@ at_start : (p : Listing) (r : ℕ) → (plain_of p 0).regs r ≡ 0
 unfolding plain
 at_start p r = refl
 
-still_from : (p : Listing) (r n : ℕ) (writer : Option ℕ) → (plain_of p (suc n)).regs r ≡ (plain_of p n).regs r → HasWordFrom p r n writer → HasWordFrom p r (suc n) writer
-still_from p r n None same before = same ∙ before
-still_from p r n (Some at) same before = record {
+pub unwritten : (p : Listing) (r : ℕ) → HasWordFrom p r 0 None
+unwritten p r = record { never = λ step below. absurd (omega arith); zero = at_start p r }
+
+never_more : (p : Listing) (r from n : ℕ) → writes_in_step p r n ≡ false → ((step : ℕ) → from < step → step < n → writes_in_step p r step ≡ false)
+    → (step : ℕ) → from < step → step < suc n → writes_in_step p r step ≡ false
+never_more p r from n now before = λ step above below. elim (cases_lt step n) [
+  | inl less ↦ before step above less
+  | inr past ↦ (let same : step ≡ n = omega arith in ap (writes_in_step p r) same ∙ now)
+]
+
+still_from : (p : Listing) (r n : ℕ) (writer : Option ℕ) → writes_in_step p r n ≡ false → HasWordFrom p r n writer → HasWordFrom p r (suc n) writer
+still_from p r n None now before = record {
+  never = λ step below. elim (cases_lt step n) [
+    | inl less ↦ before.never step less
+    | inr past ↦ (let same : step ≡ n = omega arith in ap (writes_in_step p r) same ∙ now)
+  ];
+  zero = keeps p r n now ∙ before.zero;
+}
+still_from p r n (Some at) now before = record {
   step = before.step;
   earlier = let earlier = before.earlier in omega arith;
   is_there = before.is_there;
   writes = before.writes;
-  kept = same ∙ before.kept;
+  last = never_more p r before.step n now before.last;
+  kept = keeps p r n now ∙ before.kept;
 }
 
-after_step : (p : Listing) (r n : ℕ) (writes : Bool) → writes_in_step p r n ≡ writes → HasWordFrom p r n (last_writer p r n) → HasWordFrom p r (suc n) (if writes then Some (plain_of p n).pc else last_writer p r n)
-after_step p r n true e before = record { step = n; earlier = omega arith; is_there = refl; writes = e; kept = refl }
-after_step p r n false e before = still_from p r n (last_writer p r n) (keeps p r n e) before
-
-pub word_of_writer : (p : Listing) (r steps : ℕ) → HasWordFrom p r steps (last_writer p r steps)
-word_of_writer p r zero = subst (HasWordFrom p r 0) (sym (no_writer p r)) (at_start p r)
-word_of_writer p r (suc n) =
-    subst (HasWordFrom p r (suc n)) (sym (after_next p r n))
-    (after_step p r n (writes_in_step p r n) refl (word_of_writer p r n))
+-- one step more
+pub after_step : (p : Listing) (r n : ℕ) (writes : Bool) (writer : Option ℕ) → writes_in_step p r n ≡ writes → HasWordFrom p r n writer
+    → HasWordFrom p r (suc n) (if writes then Some (plain_of p n).pc else writer)
+after_step p r n true writer e before = record { step = n; earlier = omega arith; is_there = refl; writes = e; last = λ later above below. absurd (omega arith); kept = refl }
+after_step p r n false writer e before = still_from p r n writer e before

@@ -1,5 +1,5 @@
 -- Which instruction of the sequential program wrote a register last.
-use Rattle.std.specs.Prelude.{◌≡◌, ◌<◌, ℕ, zero, suc, Bool, true, false, not, ◌&&◌, if◌then◌else◌, Option, Some, None}
+use Rattle.std.specs.Prelude.{◌≡◌, ◌<◌, ℕ, suc, Bool, true, false, not, ◌&&◌, Option, Some, None}
 use Rattle.mips_instructions.specs.Instruction.{dests}
 use Rattle.mips_instructions.specs.declared.instruction.Op.{Op}
 use Rattle.mips_plain.specs.PlainMachine.{fetch}
@@ -23,23 +23,21 @@ abbrev pub writes_in_step : Listing → (r number : ℕ) → Bool
 writes_in_step p r number =
     is_written_by (fetch (input p).code (plain_of p number).pc) r && not (is_trapped (plain_of p (suc number)).outcome)
 
--- the address of the instruction that wrote a register last in the plain machine's first steps; none where none did
-unfoldable pub last_writer : Listing → (r steps : ℕ) → Option ℕ
-last_writer p r zero = None
-last_writer p r (suc n) = if writes_in_step p r n then Some (plain_of p n).pc else last_writer p r n
-
--- the word that a register has after `steps` steps was written in one of them, by the instruction at this address
+-- a register is written for the last time in the plain machine's first `steps` steps by the instruction at this address, and
+-- keeps its word
 pub record IsFrom (p : Listing) (r steps at : ℕ) : Type 0 where
   pub step : ℕ
   pub earlier : step < steps
   pub is_there : (plain_of p step).pc ≡ at
   pub writes : writes_in_step p r step ≡ true
+  pub last : (later : ℕ) → step < later → later < steps → writes_in_step p r later ≡ false
   pub kept : (plain_of p steps).regs r ≡ (plain_of p (suc step)).regs r
 
--- where no instruction wrote it, it is 0
-abbrev pub HasWordFrom : Listing → (r steps : ℕ) → (writer : Option ℕ) → Type 0
-HasWordFrom p r steps None = (plain_of p steps).regs r ≡ 0
-HasWordFrom p r steps (Some at) = IsFrom p r steps at
+-- it is never written in them, and is 0
+pub record IsUnwritten (p : Listing) (r steps : ℕ) : Type 0 where
+  pub never : (step : ℕ) → step < steps → writes_in_step p r step ≡ false
+  pub zero : (plain_of p steps).regs r ≡ 0
 
-abbrev pub WordsAreOfLastWriters : Type 0
-WordsAreOfLastWriters = (p : Listing) (r steps : ℕ) → HasWordFrom p r steps (last_writer p r steps)
+abbrev pub HasWordFrom : Listing → (r steps : ℕ) → (writer : Option ℕ) → Type 0
+HasWordFrom p r steps None = IsUnwritten p r steps
+HasWordFrom p r steps (Some at) = IsFrom p r steps at

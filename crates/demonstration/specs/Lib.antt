@@ -2,11 +2,7 @@ pub mod Shown
 pub mod Rounds
 pub mod Driven
 pub mod Found
-pub mod Look
 pub mod Laws
 pub mod Judging
 pub mod LastWriter
-pub mod HarmText
-pub mod FindingText
 pub mod DemonstrateText
-pub mod Examples

@@ -3,7 +3,7 @@
 ghost use Rattle.std.specs.Prelude.{◌≡◌, ◌&&◌, not, if◌then◌else◌, Some, IfOk};
 ghost use Rattle.mips_plain.specs.PlainMachine.{fetch};
 ghost use Rattle.task_descriptor.specs.Listing.{input};
-ghost use Rattle.demonstration.specs.LastWriter.{is_trapped, is_written_by, last_writer as last_writer_of};
+ghost use Rattle.demonstration.specs.LastWriter.{HasWordFrom, is_trapped, is_written_by};
 
 use mips_instructions::number::Reg;
 use mips_plain::outcome::{OutOfMemory, Outcome};
@@ -37,7 +37,7 @@ pub(crate) fn last_writer(
     register: Reg,
     steps: usize,
 ) -> Result<Option<u32>, OutOfMemory>
-    ensures { IfOk result (λ writer. writer ≡ last_writer_of program.now register steps) }
+    ensures { IfOk result (HasWordFrom program.now register steps) }
 {
     let mut plain = program.plain(alloc)?;
     let mut writer = None;

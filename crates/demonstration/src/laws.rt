@@ -1,8 +1,7 @@
-//! What no list of events can show, and whose word a register has.
+//! What no list of events can show.
 
 ghost use Rattle.task_descriptor.specs.Listing.{IsWellFormed};
 ghost use Rattle.task_graph.specs.Soundness.{Sound};
-ghost use Rattle.demonstration.specs.LastWriter.{WordsAreOfLastWriters};
 ghost use Rattle.demonstration.specs.Laws.{SoundMarksShowNothing, ShowsNothing};
 
 use mark_checker::accept::Accepted;
@@ -10,11 +9,6 @@ use mark_checker::accept::Accepted;
 /// Where the marks are sound, no list of events shows what the sequential program never does.
 pub fn sound_marks_show_nothing()
     ensures { SoundMarksShowNothing }
-{}
-
-/// The word of a register is the one that its last writer wrote, and 0 where it has none.
-pub fn words_are_of_last_writers()
-    ensures { WordsAreOfLastWriters }
 {}
 
 /// What an `Accepted` keeps.

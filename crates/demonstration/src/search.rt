@@ -6,7 +6,6 @@ ghost use Rattle.mips_plain.specs.PlainView.{IsAfter};
 ghost use Rattle.task_descriptor.specs.Listing.{input};
 ghost use Rattle.open_machine.specs.Machines.{state};
 ghost use Rattle.demonstration.specs.Found.{IsDemonstration, IsRightAlone, IsSearched};
-ghost use Rattle.demonstration.specs.Look.{IsLook};
 ghost use Rattle.demonstration.specs.Rounds.{each_tried, run_of, state_after};
 ghost use Rattle.demonstration.specs.Shown.{DoesNoHarm, HasWrongWord, ReadsRight, Shows, WordsRight, seen};
 
@@ -29,17 +28,6 @@ pub struct Demonstration {
     pub events: Vec<Event>,
     /// What they show.
     pub evidence: Evidence,
-}
-
-/// What the run on so many units with guesses shows.
-#[derive(Drop)]
-enum Look {
-    /// A wrong read or end.
-    Shown(Demonstration),
-    /// Neither, nor on more units, where it is the same run.
-    RightFrom,
-    /// Neither.
-    Right,
 }
 
 /// At most so many groups of events of one size are left out one after another, which takes a run for each.
@@ -76,7 +64,8 @@ pub fn demonstrate(
     }
 }
 
-/// A wrong read or end, on 2 units, on 3, and so on, with these guesses.
+/// A wrong read or end, on 2 units, on 3, and so on, with these guesses. Where a unit was free each time that a task was to
+/// begin, the run is the same on more units.
 fn shown_on_any(
     alloc: Global,
     program: &Program,
@@ -91,35 +80,16 @@ fn shown_on_any(
         → ReadsRight program.now (state_after program.now (run_of program.now units guesses.now steps)))) }
 {
     for units in most_units.min(2)..most_units + 1 {
-        match shown_on(alloc, program, units, guesses, steps)? {
-            Look::Shown(found) => return Ok(Some(found)),
-            Look::RightFrom => return Ok(None),
-            Look::Right => {}
+        let course = drive(alloc, program, units, guesses, steps)?;
+        let is_free = course.is_free;
+        if let Some(found) = read_shown(alloc, program, course.driven)? {
+            return Ok(Some(found));
+        }
+        if is_free {
+            return Ok(None);
         }
     }
     Ok(None)
-}
-
-/// What the run on `units` units with these guesses shows.
-#[tactic(auto, using(crate::proofs::Searching::right_on_more))]
-fn shown_on(
-    alloc: Global,
-    program: &Program,
-    units: u32,
-    guesses: &[u32],
-    steps: u32,
-) -> Result<Look, OutOfMemory>
-    requires some { 0 < units }
-    requires few { units ≤ 16 }
-    ensures { IfOk result (IsLook program.now guesses.now units steps) }
-{
-    let course = drive(alloc, program, units, guesses, steps)?;
-    let is_free = course.is_free;
-    match read_shown(alloc, program, course.driven)? {
-        Some(found) => Ok(Look::Shown(found)),
-        None if is_free => Ok(Look::RightFrom),
-        None => Ok(Look::Right),
-    }
 }
 
 /// A wrong read or end that a run shows.

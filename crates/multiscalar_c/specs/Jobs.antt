@@ -10,7 +10,7 @@ use Rattle.report_texts.specs.CertificateTexts.{OfCertificate}
 use Rattle.report_texts.specs.CheckText.{check_text}
 use Rattle.explain_report.specs.ExplainText.{IsExplainReport}
 use Rattle.verdict_report.specs.CurveText.{IsCurveText}
-use Rattle.strict_replay.specs.StrictReplay.{strict_text}
+use Rattle.strict_replay.specs.StrictReplay.{IsStrictReport}
 use Rattle.verdict_report.specs.ReplayText.{IsReplayText}
 use Rattle.verdict_report.specs.RunText.{IsRunText}
 use Rattle.multiscalar_c.specs.Codes.{curve_emits, emits, formats, prediction_of, replay_emits, run_emits, source_of}
@@ -53,7 +53,7 @@ IsReplayed is_least units emit program certificate script report =
 -- what `replay --strict` writes
 abbrev pub IsReplayedStrictly : (is_least : Bool) → (units : ℕ) → (program certificate script : List ℕ) → Report → Type 0
 IsReplayedStrictly is_least units program certificate script report =
-    OfCertificate (source_of is_least) program certificate (λ certificate. report ≡ strict_text units program certificate script)
+    OfCertificate (source_of is_least) program certificate (λ certificate. IsStrictReport units program certificate script report)
 
 -- what a run takes that may write one of these
 pub record RunTakes {Emit : Type 0} (emits : List Emit) (units budget predict : ℕ) (list : List ℕ) (emit : ℕ) : Type 0 where

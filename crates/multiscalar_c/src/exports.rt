@@ -4,7 +4,6 @@ ghost use Rattle.multiscalar_c.specs.Answers.{Answers, Made};
 ghost use Rattle.multiscalar_c.specs.Codes.{curve_emits, emits, run_emits};
 ghost use Rattle.multiscalar_c.specs.Jobs.{ExplainTakes, IsAnnotated, IsChecked, IsCurve, IsExplained, IsReplayed, IsReplayedStrictly, IsRun, ReplayTakes, RunTakes, file_of};
 ghost use Rattle.demonstration.specs.DemonstrateText.{IsDemonstrateReport};
-ghost use Rattle.jobs.specs.declared.job.DemonstrateEmit.TheVariants.{Events};
 ghost use Rattle.limits.specs.Limits.{IsBudget, IsUnits};
 ghost use Rattle.report_texts.specs.PrintText.{print_text};
 ghost use Rattle.report_texts.specs.SeqText.{seq_text};
@@ -376,13 +375,13 @@ pub extern "C" fn multiscalar_c_demonstrate(
     out: &mut [u8],
     len: &mut usize,
 ) -> u32
-    ensures { Answers (IsUnits units × IsBudget steps) (IsDemonstrateReport units steps Events program.now) result out.old out.new len.new }
+    ensures { Answers (IsUnits units × IsBudget steps) (IsDemonstrateReport units steps program.now) result out.old out.new len.new }
 {
     hand_out(demonstrate_of(alloc, units, steps, program), out, len)
 }
 
 fn demonstrate_of(alloc: Global, units: u32, steps: u32, program: &[u8]) -> Result<JobReport, Fault>
-    ensures { Made (IsUnits units × IsBudget steps) (IsDemonstrateReport units steps Events program.now) result }
+    ensures { Made (IsUnits units × IsBudget steps) (IsDemonstrateReport units steps program.now) result }
 {
     let units = Units::new(units).ok_or(Fault::Range)?;
     let steps = Budget::new(steps).ok_or(Fault::Range)?;

@@ -1,5 +1,2 @@
 mod Capped
-pub mod Departures
-pub mod Holding
-pub mod Parts
-mod UnitsTold
+mod Passing

@@ -1,8 +1,8 @@
 //! The job `replay --strict`.
 
-ghost use Rattle.std.specs.Prelude.{◌≡◌, IfOk};
+ghost use Rattle.std.specs.Prelude.{IfOk};
 ghost use Rattle.report_texts.specs.CertificateTexts.{OfCertificate};
-ghost use Rattle.strict_replay.specs.StrictReplay.{strict_text};
+ghost use Rattle.strict_replay.specs.StrictReplay.{IsStrictReport};
 
 use crate::judging::judge as judge_script;
 use jobs::job::{CertificateSource, Texts};
@@ -24,13 +24,15 @@ pub fn replay_strictly(
     texts: &Texts,
 ) -> Result<JobReport, AllocError>
     ensures { IfOk result (λ report. OfCertificate source texts.now.program.items texts.now.certificate (λ certificate.
-        report ≡ strict_text units texts.now.program.items certificate texts.now.script.items)) }
+        IsStrictReport units texts.now.program.items certificate texts.now.script.items report)) }
 {
     match judge(alloc, source, texts)? {
         Judged::Refused(report) => Ok(report),
         Judged::Accepted(accepted) => {
             let text = texts.program.as_slice();
-            judge_script(alloc, &accepted, units.get(), text, &texts.script)
+            let verdict = judge_script(alloc, &accepted, units.get(), text, &texts.script)?;
+            let status = if verdict.departed.is_some() { 1 } else { 0 };
+            Ok(JobReport::new(verdict.text.into_bytes(), status))
         }
     }
 }

@@ -1,11 +1,5 @@
 //! How the units of a machine stand.
 
-ghost use Rattle.std.specs.Prelude.{◌≡◌, IfOk};
-ghost use Rattle.std.specs.String.{string_bytes};
-ghost use Rattle.sequencer.specs.Machines.{state};
-ghost use Rattle.event_trace.specs.Entries.{places_of};
-ghost use Rattle.strict_replay.specs.StandText.{stand_text};
-
 use crate::text::write_stand;
 use event_trace::places::places;
 use event_trace::ring::Ring;
@@ -22,10 +16,7 @@ pub fn stand(
     program_text: &[u8],
     ring: &Ring,
     machine: &Machine<'_>,
-) -> Result<String, AllocError>
-    ensures { IfOk result (λ text. string_bytes text
-        ≡ stand_text program.now (places_of program_text.now) ring.now (state machine.now)) }
-{
+) -> Result<String, AllocError> {
     let places = places(alloc, program_text)?;
     let mut text = String::new(alloc);
     write_stand(alloc, &mut text, program, &places, ring, machine)?;

@@ -1,21 +1,19 @@
 //! Writing a script with expectations: events with what each of them did.
 
-ghost use Rattle.std.specs.Prelude.{◌≡◌, ◌++◌, ◌<◌, ◌≤◌, true, OnOk, IfOk};
-ghost use Rattle.std.specs.String.{string_bytes};
-ghost use Rattle.strict_replay.specs.ValuedScript.{brought, ending_words, expectation_of_change, part_written, parts_written, valued_script, written};
+ghost use Rattle.std.specs.Prelude.{◌<◌, ◌≤◌};
 
 use crate::expectation::Expectation;
+use crate::expected::done_by;
 use event_script::writing::write_event;
 use event_trace::change::Change;
-use event_trace::ring::Ring;
-use event_trace::telling::{Telling, entries};
-use event_trace::unit_change::UnitChange;
-use machine_model::event::{Event, Refused, Standing};
+use event_trace::told::Told;
+use event_trace::walk::Walk;
+use machine_model::event::{Event, Standing};
 use mark_checker::accept::Accepted;
 use std::alloc::{AllocError, Global};
-use task_descriptor::program::Program;
 
-/// Events on a machine of `units` units at the start of an accepted program, each with what it did, one on a line.
+/// Events on a machine of `units` units at the start of an accepted program, each with what it did, one on a line. One
+/// that is refused changes nothing, and is a comment.
 ///
 /// # Errors
 ///
@@ -28,100 +26,42 @@ pub fn write_valued(
 ) -> Result<Vec<u8>, AllocError>
     requires some { 0 < units }
     requires few { units ≤ 16 }
-    ensures { IfOk result (λ bytes. bytes.items ≡ valued_script accepted.now.program units events.now) }
 {
-    let valued = Valued {
-        program: accepted.program(),
-    };
-    let (text, _) = entries(alloc, accepted, units, events, &valued)?;
+    let mut text = String::new(alloc);
+    let mut walk = Walk::new(alloc, accepted, units)?;
+    for event in events {
+        let (next, told) = walk.step(alloc, event)?;
+        walk = next;
+        if matches!(told, Told::Refused(_)) {
+            write!(text, "# refused: ")?;
+        }
+        write_event(&mut text, accepted.program(), *event)?;
+        if let Told::Taken(changes) = &told {
+            write_done(&mut text, changes)?;
+        }
+        writeln!(text, "")?;
+    }
     Ok(text.into_bytes())
 }
 
-/// The words of a script, with what each event did.
-#[derive(Drop)]
-struct Valued<'p> {
-    program: &'p Program,
-}
-
-impl Telling for Valued<'_> {
-    ghost use Rattle.strict_replay.specs.ValuedScript.{refused_line, valued_line};
-
-    ghost taken = { λ valued. valued_line valued.program.now };
-
-    ghost refused = { λ valued. refused_line valued.program.now };
-
-    fn write_taken(
-        &self,
-        text: &mut String,
-        _number: usize,
-        _ring: &Ring,
-        event: Event,
-        changes: &[Change],
-    ) -> Result<(), AllocError> {
-        write_event(text, self.program, event)?;
-        write_parts(text, changes)?;
-        writeln!(text, "")
-    }
-
-    fn write_refused(
-        &self,
-        text: &mut String,
-        _number: usize,
-        _ring: &Ring,
-        event: Event,
-        _refusal: Refused,
-    ) -> Result<(), AllocError> {
-        write!(text, "# refused: ")?;
-        write_event(text, self.program, event)?;
-        writeln!(text, "")
-    }
-}
-
-/// What is expected of a change at a unit.
-fn brought(change: UnitChange) -> Option<Expectation>
-    ensures { result ≡ brought change }
-{
-    match change {
-        UnitChange::Arrived { register, word } => Some(Expectation::Register { register, word }),
-        UnitChange::Drained { register, word } => Some(Expectation::Sends { register, word }),
-        _ => None,
-    }
-}
-
-/// What is expected of a change.
-fn expectation_of_change(change: Change) -> Option<Expectation>
-    ensures { result ≡ expectation_of_change change }
-{
-    match change {
-        Change::AtUnit { change, .. } => brought(change),
-        Change::Wrote { register, word } => Some(Expectation::Register { register, word }),
-        Change::Sent { register, word } => Some(Expectation::Sends { register, word }),
-        Change::Loaded { address, word } | Change::Stored { address, word, .. } => {
-            Some(Expectation::Memory { address, word })
+// Adds what changes did: the first after a colon, each other after a comma. That a register was taken over from the unit
+// before is not said.
+fn write_done(text: &mut String, changes: &[Change]) -> Result<(), AllocError> {
+    let mut before = " : ";
+    for change in changes {
+        if matches!(change, Change::Took { .. }) {
+            continue;
         }
-        Change::PutOut { word } => Some(Expectation::Output { word }),
-        Change::StoppedAt { address } => Some(Expectation::Stops { address }),
-        Change::Ended { standing } => Some(Expectation::Ends { standing }),
-        _ => None,
+        if let Some(done) = done_by(*change) {
+            text.push_str(before)?;
+            write_expectation(text, done)?;
+            before = ", ";
+        }
     }
+    Ok(())
 }
 
-/// Adds how a run stands, as a script has it.
-fn write_ending_words(text: &mut String, standing: Standing) -> Result<(), AllocError>
-    ensures { OnOk result (string_bytes text.new ≡ string_bytes text.old ++ ending_words standing) }
-{
-    match standing {
-        Standing::Running => write!(text, "running"),
-        Standing::Halted => write!(text, "halted"),
-        Standing::Trapped(trap) => write!(text, "trapped {trap}"),
-        Standing::Unlisted(address) => write!(text, "unlisted 0x{address:x}"),
-    }
-}
-
-/// Adds an expectation, as a script has it.
-fn write_expectation(text: &mut String, expected: Expectation) -> Result<(), AllocError>
-    ensures { OnOk result (string_bytes text.new ≡ string_bytes text.old ++ written expected) }
-{
+fn write_expectation(text: &mut String, expected: Expectation) -> Result<(), AllocError> {
     match expected {
         Expectation::Register { register, word } => {
             let number = register.get();
@@ -136,37 +76,16 @@ fn write_expectation(text: &mut String, expected: Expectation) -> Result<(), All
         Expectation::Stops { address } => write!(text, "stops 0x{address:x}"),
         Expectation::Ends { standing } => {
             write!(text, "ends ")?;
-            write_ending_words(text, standing)
+            write_standing(text, standing)
         }
     }
 }
 
-/// Adds an expectation after a colon, or after a comma, if it is not the first.
-fn write_part(
-    text: &mut String,
-    first: bool,
-    expected: Option<Expectation>,
-) -> Result<(), AllocError>
-    ensures { OnOk result (string_bytes text.new ≡ string_bytes text.old ++ part_written first expected) }
-{
-    match expected {
-        None => Ok(()),
-        Some(expected) => {
-            write!(text, "{}", if first { " : " } else { ", " })?;
-            write_expectation(text, expected)
-        }
+fn write_standing(text: &mut String, standing: Standing) -> Result<(), AllocError> {
+    match standing {
+        Standing::Running => write!(text, "running"),
+        Standing::Halted => write!(text, "halted"),
+        Standing::Trapped(trap) => write!(text, "trapped {trap}"),
+        Standing::Unlisted(address) => write!(text, "unlisted 0x{address:x}"),
     }
-}
-
-/// Adds what changes did.
-fn write_parts(text: &mut String, changes: &[Change]) -> Result<(), AllocError>
-    ensures { OnOk result (string_bytes text.new ≡ string_bytes text.old ++ parts_written true changes.now) }
-{
-    let mut first = true;
-    for change in changes {
-        let expected = expectation_of_change(*change);
-        write_part(text, first, expected)?;
-        first = first && expected.is_none();
-    }
-    Ok(())
 }

@@ -14,7 +14,7 @@ use Rattle.report_texts.specs.AnnotateText.{IsAnnotateReport}
 use Rattle.report_texts.specs.CertificateTexts.{OfCertificate}
 use Rattle.demonstration.specs.DemonstrateText.{IsDemonstrateReport}
 use Rattle.explain_report.specs.ExplainText.{IsExplainReport}
-use Rattle.strict_replay.specs.StrictReplay.{strict_text}
+use Rattle.strict_replay.specs.StrictReplay.{IsStrictReport}
 use Rattle.jobs.specs.declared.job.Job.{Job}
 use Rattle.jobs.specs.declared.job.Job.TheVariants.{Seq, Print, Annotate, Explain, Check, Replay, ReplayStrictly, Run, Curve, Demonstrate}
 use Rattle.jobs.specs.declared.job.Texts.{Texts}
@@ -33,14 +33,14 @@ IsReportOf (Check source workers) texts report =
 IsReportOf (Replay source units emit until) texts report =
     OfCertificate source texts.program.items texts.certificate (λ certificate. IsReplayText emit units until texts.program.items certificate texts.script.items report)
 IsReportOf (ReplayStrictly source units) texts report =
-    OfCertificate source texts.program.items texts.certificate (λ certificate. report ≡ strict_text units texts.program.items certificate texts.script.items)
+    OfCertificate source texts.program.items texts.certificate (λ certificate. IsStrictReport units texts.program.items certificate texts.script.items report)
 IsReportOf (Run source schedule units workers budget predict emit) texts report =
     OfCertificate source texts.program.items texts.certificate (λ certificate.
     IsRunText schedule units budget predict emit texts.program.items certificate report)
 IsReportOf (Curve source units budget predict emit) texts report =
     OfCertificate source texts.program.items texts.certificate (λ certificate.
     IsCurveText units budget predict texts.program.items certificate report)
-IsReportOf (Demonstrate units steps emit) texts report = IsDemonstrateReport units steps emit texts.program.items report
+IsReportOf (Demonstrate units steps emit) texts report = IsDemonstrateReport units steps texts.program.items report
 
 -- a job is done: a report of it was added to what the writer holds, and the status is its
 abbrev pub IsDone : Job → Texts → (status : ℕ) → (old new : Option (List ℕ)) → Type 0

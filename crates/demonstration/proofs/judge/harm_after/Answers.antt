@@ -1,5 +1,5 @@
 -- The run is not cut off, and the head has no wrong word.
-use Rattle.std.proofs.Common.{ℕ, sym, subst}
+use Rattle.std.proofs.Common.{sym, subst}
 use Rattle.mips_plain.specs.PlainView.{machine_state}
 use Rattle.machine_model.specs.declared.event.Standing.{Standing}
 use Rattle.open_machine.specs.Machines.{state}

@@ -1,5 +1,5 @@
 -- no register so far has a wrong word
-use Rattle.std.specs.Prelude.{◌≡◌, ◌<◌, ℕ}
+use Rattle.std.specs.Prelude.{◌<◌, ℕ}
 use Rattle.mips_plain.specs.PlainView.{machine_state}
 use Rattle.open_machine.specs.Machines.{state}
 use Rattle.demonstration.specs.Shown.{HoldsWrong}

@@ -1,12 +1,11 @@
 -- the plain machine after the steps so far, and who wrote the register last in them
-use Rattle.std.proofs.Common.{◌≡◌}
 use Rattle.mips_plain.specs.PlainView.{IsAfter}
 use Rattle.task_descriptor.specs.Listing.{input}
-use Rattle.demonstration.specs.LastWriter.{last_writer}
+use Rattle.demonstration.specs.LastWriter.{HasWordFrom}
 use Rattle.demonstration.proofs.last_writer.last_writer.Given as goal
 
 abbrev pub invariant-loop-made : goal.invariant-loop-made
 invariant-loop-made l = record {
   plain : IsAfter (input l.program) l.made l.plain;
-  writer : l.writer ≡ last_writer l.program l.register l.made;
+  writer : HasWordFrom l.program l.register l.made l.writer;
 }

@@ -1,15 +1,23 @@
 -- The run on this many units is right, too, or the runs on this many and more.
 use Rattle.std.proofs.Common.{min, subst}
-use Rattle.demonstration.specs.Look.{IsLook}
-use Rattle.demonstration.proofs.Searching.{right_below, right_from}
+use Rattle.demonstration.specs.Driven.{DrivenView}
+use Rattle.demonstration.specs.Rounds.{run_of, state_after}
+use Rattle.demonstration.specs.Shown.{ReadsRight}
+use Rattle.demonstration.proofs.Searching.{if_none, right_below, right_from, right_on_more}
 use Rattle.demonstration.proofs.search.shown_on_any.Goals as goal
 
-pub returns-in-RightFrom-clause-none : goal.returns-in-RightFrom-clause-none
-returns-in-RightFrom-clause-none c =
-    right_from c.args.program.now c.args.guesses.now c.args.steps (min c.args.most_units 2) c.loop-units.units c.args.most_units c.loop-units.invariant
-    (subst (IsLook c.args.program.now c.args.guesses.now c.loop-units.units c.args.steps) c.in-RightFrom.is c.in_ok-found.ensures)
+pub returns-then-is_free-clause-none : goal.returns-then-is_free-clause-none
+returns-then-is_free-clause-none c =
+    let p = c.args.program.now in
+    let guesses = c.args.guesses.now in
+    let units = c.loop-units.units in
+    let right : ReadsRight p (state_after p (run_of p units guesses c.args.steps)) =
+    subst (λ (d : DrivenView). ReadsRight p (state_after p d.run)) c.in_ok-course.ensures.run (if_none _ c.in_ok-found.field-0 c.in_default.not-Some c.in_ok-found.ensures.none) in
+    right_from p guesses c.args.steps (min c.args.most_units 2) units c.args.most_units c.loop-units.invariant
+    (right_on_more p guesses units c.args.steps right (c.in_ok-course.ensures.free c.if-is_free.true))
 
 pub loop-units-preserved : goal.loop-units-preserved
 loop-units-preserved c =
-    right_below c.args.program.now c.args.guesses.now c.args.steps (min c.args.most_units 2) c.loop-units.units c.loop-units.invariant
-    (subst (IsLook c.args.program.now c.args.guesses.now c.loop-units.units c.args.steps) c.in-Right.is c.in_ok-found.ensures)
+    let p = c.args.program.now in
+    right_below p c.args.guesses.now c.args.steps (min c.args.most_units 2) c.loop-units.units c.loop-units.invariant
+    (subst (λ (d : DrivenView). ReadsRight p (state_after p d.run)) c.in_ok-course.ensures.run (if_none _ c.in_ok-found.field-0 c.in_default.not-Some c.in_ok-found.ensures.none))

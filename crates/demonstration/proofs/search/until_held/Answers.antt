@@ -1,6 +1,5 @@
 -- The machine has tried one event more, and the plain machine has made as many steps.
-use Rattle.std.proofs.Common.{◌≡◌, ◌+◌, ◌<◌, ℕ, List, [], take, length, sym, subst, ap, ◌∙◌, arith}
-use Rattle.std.specs.Prelude.{is_some, true, false, get_or}
+use Rattle.std.proofs.Common.{◌≡◌, ◌+◌, ◌<◌, List, [], take, length, sym, subst, ap, ◌∙◌, arith}
 use Rattle.mips_plain.specs.PlainView.{machine_state}
 use Rattle.task_descriptor.specs.Listing.{Listing}
 use Rattle.machine_model.specs.Machine.{State}

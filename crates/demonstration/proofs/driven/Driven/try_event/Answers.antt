@@ -1,6 +1,5 @@
 -- The event is the next of the run exactly where the machine allows it.
-use Rattle.std.proofs.Common.{◌≡◌, List, [], ◌∷◌, ◌++◌, ap, ◌∙◌}
-use Rattle.machine_model.specs.declared.event.Event.{Event}
+use Rattle.std.proofs.Common.{◌≡◌, [], ◌∷◌, ◌++◌, ap, ◌∙◌}
 use Rattle.demonstration.specs.Driven.{DrivenView, driven_of}
 use Rattle.demonstration.specs.Rounds.{tried}
 use Rattle.demonstration.proofs.Driving.{allowed_run, refused_run, stays_driven}
