@@ -34,9 +34,13 @@ file_name name = codes "multiscalar: " ++ (shown name ++ codes ": ")
 abbrev pub named_line : (name line : List ℕ) → List ℕ
 named_line name line = file_name name ++ without_end line
 
+-- the command that says more of the file that a shell knows by this word
+abbrev pub command_of : (word : List ℕ) → List ℕ
+command_of word = codes "; multiscalar explain " ++ (word ++ (codes " says more" ++ 10 ∷ []))
+
 -- the command that says more, as a shell takes it
 abbrev pub command_words : (name : List ℕ) → List ℕ
-command_words name = codes "; multiscalar explain " ++ (shell_word name ++ (codes " says more" ++ 10 ∷ []))
+command_words name = command_of (shell_word name)
 
 -- one line for a result that ends with this line, or none
 abbrev pub line_hint : (name line : List ℕ) → List ℕ

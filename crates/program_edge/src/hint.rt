@@ -1,6 +1,6 @@
 //! The hint on standard error beside a result, where that is a terminal.
 ghost use Rattle.std.specs.Prelude.{◌≡◌, ◌++◌, IfOk, OnOk};
-ghost use Rattle.program_edge.specs.Hints.{command_words, explains, file_name, has_more, hint_for, hint_of, line_hint, named_line, says_all, without_end};
+ghost use Rattle.program_edge.specs.Hints.{command_of, command_words, explains, file_name, has_more, hint_for, hint_of, line_hint, named_line, says_all, without_end};
 
 use crate::refusal::last_line;
 use jobs::job::Job;
@@ -96,8 +96,15 @@ fn add_command(alloc: Global, name: &str, hint: &mut Vec<u8>) -> Result<(), Allo
     ensures { OnOk result (hint.new.items ≡ hint.old.items ++ command_words name.now) }
 {
     let word = shell_word(alloc, name)?;
+    add_command_of(word.as_str(), hint)
+}
+
+// Adds the command that says more of the file that a shell knows by this word.
+fn add_command_of(word: &str, hint: &mut Vec<u8>) -> Result<(), AllocError>
+    ensures { OnOk result (hint.new.items ≡ hint.old.items ++ command_of word.now) }
+{
     add("; multiscalar explain ", hint)?;
-    add(word.as_str(), hint)?;
+    add(word, hint)?;
     add(" says more\n", hint)
 }
 

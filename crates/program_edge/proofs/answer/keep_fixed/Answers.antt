@@ -4,8 +4,8 @@ use Rattle.program_edge.proofs.ReportLemmas.{file_stays, kept_fixed}
 use Rattle.program_edge.proofs.answer.keep_fixed.Goals as goal
 
 pub returns-in-Ok : goal.returns-in-Ok
-returns-in-Ok g c = inl (kept_fixed g.D.Folder.is_watched c.args.path c.as_str.result.now c.as_slice.result.now c.as_slice-2.result.now c.args.repaired c.show.result _ _
-    c.as_str.ensures.value c.as_slice.ensures c.as_slice-2.ensures.value c.in-Ok.ensures.ok c.replace.ensures.others
+returns-in-Ok g c = inl (kept_fixed g.D.Folder.is_watched c.args.path c.as_str.result.now c.as_slice.result.now c.as_slice-in-Ok.result.now c.args.repaired c.show.result _ _
+    c.as_str.ensures.value c.as_slice.ensures c.as_slice-in-Ok.ensures.value c.in-Ok.ensures.ok c.replace.ensures.others
     (c.show.ensures (g.D.Folder.known c.replace.new.folder)))
 
 pub returns-in-Err : goal.returns-in-Err
