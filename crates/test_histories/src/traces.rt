@@ -1,10 +1,9 @@
 //! The trace of some events, as text and as lines of JSON.
 
 use crate::given::accepted;
-use event_json::last_line::LastLine;
-use event_json::lines::lines;
-use event_json::source::EventSource;
-use event_trace::trace::trace;
+use event_trace::source::EventSource;
+use event_trace::streaming::trace;
+use event_trace::telling::TraceForm;
 use machine_model::event::Event;
 use test_programs::certificates::PAIR_CERTIFICATE;
 use test_programs::programs::PAIR;
@@ -36,9 +35,10 @@ at the end: the run goes on
 #[test]
 fn is_traced(rt: HostRuntime) {
     let accepted = accepted(&rt, rt.alloc(), PAIR, PAIR_CERTIFICATE);
-    let text = trace(rt.alloc(), &accepted, 4, PAIR.as_bytes(), &EVENTS);
-    let text = text.ok().expect(&rt, "room for a trace");
-    assert!(rt; text.as_str() == TRACE);
+    let form = TraceForm::Words;
+    let traced = trace(rt.alloc(), &accepted, 4, PAIR.as_bytes(), &EVENTS, form);
+    let (text, _) = traced.ok().expect(&rt, "room for a trace");
+    assert!(rt; text.as_slice() == TRACE.as_bytes());
 }
 
 // Line 5 is the second instruction, so the exit of B leads to the third, at 4194304 + 8.
@@ -54,16 +54,12 @@ const LINES: &str = "{\"format\":\"multiscalar-trace\",\"version\":1,\"units\":4
 #[test]
 fn has_lines_of_json(rt: HostRuntime) {
     let accepted = accepted(&rt, rt.alloc(), PAIR, PAIR_CERTIFICATE);
-    let text = lines(
-        rt.alloc(),
-        &accepted,
-        "",
-        EventSource::Script,
-        4,
-        PAIR.as_bytes(),
-        &EVENTS,
-        LastLine::AsItStands,
-    );
-    let text = text.ok().expect(&rt, "room for lines");
-    assert!(rt; text.as_str() == LINES);
+    let form = TraceForm::Json {
+        name: "",
+        source: EventSource::Script,
+        is_out_of_budget: false,
+    };
+    let traced = trace(rt.alloc(), &accepted, 4, PAIR.as_bytes(), &EVENTS, form);
+    let (text, _) = traced.ok().expect(&rt, "room for lines");
+    assert!(rt; text.as_slice() == LINES.as_bytes());
 }
