@@ -32,7 +32,7 @@ use task_descriptor::program::Program;
 use task_lives::laws::histories_fit;
 use threaded_runner::report::How;
 use unit_waits::waveform::waveform;
-use wait_table::table::table;
+use wait_table::text::table;
 
 /// What `run` writes for a program text, the name of the program and the text of its certificate. Of the forms that no
 /// clause names only the status is known.
