@@ -1,6 +1,6 @@
 //! The end of a trace: how the run stands, and what registers and memory hold.
 
-ghost use Rattle.std.specs.Prelude.{◌≡◌, ◌++◌, ◌*◌, ◌<◌, ◌^◌, length, slice_index, IfOk, OnOk};
+ghost use Rattle.std.specs.Prelude.{◌≡◌, ◌++◌, ◌*◌, ◌<◌, ◌^◌, Some, length, slice_index, IfOk, OnOk};
 ghost use Rattle.mips_plain.specs.MemoryMap.{byte_of, number_at};
 ghost use Rattle.sequencer.specs.Machines.{state};
 ghost use Rattle.event_trace.specs.Ending.{IsEndOf, changed, changed_words, head_value, head_words, held};
@@ -73,9 +73,16 @@ fn add_held(
     let Some(register) = Reg::new(number) else {
         unreachable!();
     };
-    let Some(word) = machine.value(0, register) else {
-        return Ok(());
-    };
+    match machine.value(0, register) {
+        Some(word) => add_word(words, register, word),
+        None => Ok(()),
+    }
+}
+
+/// Adds a register with its word, if that is not 0.
+fn add_word(words: &mut Vec<RegisterWord>, register: Reg, word: u32) -> Result<(), AllocError>
+    ensures { OnOk result (words.new.items ≡ words.old.items ++ held register (Some word)) }
+{
     if word == 0 {
         return Ok(());
     }

@@ -45,11 +45,16 @@ pub fn table_of(
     ensures { IfOk result (IsTableOf accepted.now.program units history.now) }
 {
     let counts = count_waits(alloc, accepted, units, history)?;
+    let unsent = waits_of(Kind::Unsent, &counts);
+    let sent = waits_of(Kind::Sent, &counts);
+    let head = waits_of(Kind::Head, &counts);
+    let all = waits_of(Kind::Any, &counts);
+    let ordered = most_first(alloc, &counts)?;
     Ok(WaitTable {
-        counts: most_first(alloc, &counts)?,
-        unsent: waits_of(Kind::Unsent, &counts),
-        sent: waits_of(Kind::Sent, &counts),
-        head: waits_of(Kind::Head, &counts),
-        all: waits_of(Kind::Any, &counts),
+        counts: ordered,
+        unsent,
+        sent,
+        head,
+        all,
     })
 }
