@@ -2,7 +2,7 @@
 
 ghost use Rattle.std.specs.Prelude.{◌≡◌, ◌≤◌};
 ghost use Rattle.unit_waits.specs.Counts.{all_waits as all_waits_of};
-ghost use Rattle.wait_table.specs.Kinds.{is_of as is_of_kind, part, waits_of as waits_of_kind};
+ghost use Rattle.wait_table.specs.Kinds.{is_for_head as is_for_head_of, is_for_sent as is_for_sent_of, is_for_unsent as is_for_unsent_of, is_of as is_of_kind, part, waits_of as waits_of_kind};
 
 use unit_waits::count::Count;
 use unit_waits::waiting::Reason;
@@ -21,28 +21,61 @@ pub enum Kind {
 }
 
 /// Whether a reason is of a kind.
-fn is_of(reason: Reason, kind: Kind) -> bool
-    ensures { result ≡ is_of_kind kind reason }
+fn is_of(reason: &Reason, kind: Kind) -> bool
+    ensures { result ≡ is_of_kind kind reason.now }
 {
     match kind {
-        Kind::Unsent => match reason {
-            Reason::NeedsRegister(_, owed) | Reason::HasToPass(_, owed) => !owed.is_sent,
-            _ => false,
-        },
-        Kind::Sent => match reason {
-            Reason::NeedsRegister(_, owed) | Reason::HasToPass(_, owed) => owed.is_sent,
-            _ => false,
-        },
-        Kind::Head => matches!(reason, Reason::NeedsHead | Reason::HasFinished),
+        Kind::Unsent => is_for_unsent(reason),
+        Kind::Sent => is_for_sent(reason),
+        Kind::Head => is_for_head(reason),
         Kind::Any => true,
     }
 }
 
-/// How many waits of a count are of a kind: all, or none.
-fn part_of(kind: Kind, count: Count) -> u32
-    ensures { result ≡ part kind count }
+/// Whether it is a register that was not sent.
+fn is_for_unsent(reason: &Reason) -> bool
+    ensures { result ≡ is_for_unsent_of reason.now }
 {
-    if is_of(count.first.reason, kind) {
+    match reason {
+        Reason::NeedsRegister(_, owed) => !owed.is_sent,
+        Reason::HasToPass(_, owed) => !owed.is_sent,
+        Reason::NeedsHead => false,
+        Reason::HasFinished => false,
+        Reason::CouldGoOn => false,
+    }
+}
+
+/// Whether it is a register on its way.
+fn is_for_sent(reason: &Reason) -> bool
+    ensures { result ≡ is_for_sent_of reason.now }
+{
+    match reason {
+        Reason::NeedsRegister(_, owed) => owed.is_sent,
+        Reason::HasToPass(_, owed) => owed.is_sent,
+        Reason::NeedsHead => false,
+        Reason::HasFinished => false,
+        Reason::CouldGoOn => false,
+    }
+}
+
+/// Whether it is the turn to be the head.
+fn is_for_head(reason: &Reason) -> bool
+    ensures { result ≡ is_for_head_of reason.now }
+{
+    match reason {
+        Reason::NeedsHead => true,
+        Reason::HasFinished => true,
+        Reason::NeedsRegister(_, _) => false,
+        Reason::HasToPass(_, _) => false,
+        Reason::CouldGoOn => false,
+    }
+}
+
+/// How many waits of a count are of a kind: all, or none.
+fn part_of(kind: Kind, count: &Count) -> u32
+    ensures { result ≡ part kind count.now }
+{
+    if is_of(&count.first.reason, kind) {
         count.waits
     } else {
         0
@@ -56,7 +89,7 @@ pub(crate) fn waits_of(kind: Kind, counts: &[Count]) -> u32
 {
     let mut waits = 0;
     for count in counts {
-        waits += part_of(kind, *count);
+        waits += part_of(kind, count);
     }
     waits
 }
