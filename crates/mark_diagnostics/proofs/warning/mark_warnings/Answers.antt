@@ -34,5 +34,7 @@ returns c =
       costly = c.in_ok-list.ensures;
       first = c.in_ok-said.said.items;
       warned = subst (λ (rs : List Remark). AllZip (Warns s) rs c.in_ok-said.said.items) first c.in_ok-said.ensures;
-      is = c.in_ok-add_more.ensures ∙ ap (λ n. c.in_ok-said.said.items ++ more_note n (codes "warning") (codes "warnings")) more;
+      jumps = c.in_ok-jumps.jumps.items;
+      jumping = c.in_ok-jumps.ensures;
+      is = c.in_ok-add_more.ensures ∙ ap (λ n. (c.in_ok-said.said.items ++ c.in_ok-jumps.jumps.items) ++ more_note n (codes "warning") (codes "warnings")) more;
     }
