@@ -36,7 +36,7 @@ pub(crate) fn sum(one: Held, other: Held) -> Held {
 /// The first less the second.
 pub(crate) fn difference(one: Held, other: Held) -> Held {
     match other {
-        Held::Word(word) => one.plus(word.wrapping_neg()),
+        Held::Word(word) => one.plus(0u32.wrapping_sub(word)),
         _ => Held::Any,
     }
 }

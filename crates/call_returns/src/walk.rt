@@ -1,6 +1,8 @@
 //! The walk over the calls: function by function, through tasks and tail calls. A function is walked again when one that it
 //! calls is seen to keep fewer registers.
 
+ghost use Rattle.std.specs.Prelude.{◌<◌};
+
 use crate::function::{Call, End, Function};
 use crate::held::Held;
 use crate::state::{State, saved_by_convention};

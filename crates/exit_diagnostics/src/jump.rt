@@ -7,7 +7,7 @@ ghost use Rattle.exit_diagnostics.specs.Jumps.{IsOfJump, code_of_jump};
 use crate::advice::{Names, Row};
 use crate::call::back;
 use crate::exit::is_taken;
-use crate::going::going_on;
+use crate::going::{Going, going_on};
 use crate::stop::never_runs;
 use call_returns::returns::Jump;
 use diagnostics::code::Code;
@@ -71,7 +71,7 @@ pub fn name_at(subject: &Subject, index: u32) -> &'static str {
 }
 
 /// A jump, as a task reaches it.
-pub fn jump_of(subject: &Subject, task: u32, index: u32) -> Option<&Jump> {
+pub fn jump_of<'a>(subject: &'a Subject, task: u32, index: u32) -> Option<&'a Jump> {
     let jumps = subject.returns().jumps();
     jumps
         .iter()
@@ -79,14 +79,14 @@ pub fn jump_of(subject: &Subject, task: u32, index: u32) -> Option<&Jump> {
 }
 
 /// The first jump that is seen to lead to a place which its task does not list.
-pub fn missing_at(subject: &Subject, place: u32) -> Option<&Jump> {
+pub fn missing_at<'a>(subject: &'a Subject, place: u32) -> Option<&'a Jump> {
     let jumps = subject.returns().jumps();
     jumps.iter().find(|jump| jump.places.contains(&place)
         && !is_among(subject.targets(jump.task), place))
 }
 
 /// The first jump by which a task leaves that lists no target, where it is not seen where that leads.
-pub fn leading_nowhere(subject: &Subject) -> Option<&Jump> {
+pub fn leading_nowhere<'a>(subject: &'a Subject) -> Option<&'a Jump> {
     let jumps = subject.returns().jumps();
     jumps.iter().find(|jump| subject.targets(jump.task).is_empty() && !jump.is_whole)
 }
@@ -169,9 +169,9 @@ fn missing_said(subject: &Subject, jump: &Jump, missing: &[u32]) -> Made<JumpSai
     names.put("back", back_words(subject, jump, missing)?)?;
     names.put("tasks", tasks_words(subject, missing)?)?;
     let help = match going_on(subject, jump.task, missing)? {
-        Some(going) => {
-            names.put("fix", going.targets)?;
-            names.help(NOT_LISTED.help, going.changes)?
+        Some(Going { targets, changes }) => {
+            names.put("fix", targets)?;
+            names.help(NOT_LISTED.help, changes)?
         }
         None => names.advice(BEYOND_LISTS)?,
     };
@@ -288,7 +288,7 @@ fn jump_said(subject: &Subject, first: &Jump) -> Made<Option<JumpSaid>> {
 }
 
 /// The first jump of a task that is seen to lead to a place which the task does not list.
-fn missing_of_first(subject: &Subject, task: u32) -> Option<&Jump> {
+fn missing_of_first<'a>(subject: &'a Subject, task: u32) -> Option<&'a Jump> {
     let jumps = subject.returns().jumps();
     jumps.iter().find(|jump| jump.task == task
         && jump
@@ -311,17 +311,25 @@ fn code_of_jump(kind: JumpKind) -> Code
 fn jump_warning(subject: &Subject, first: &Jump) -> Made<Option<Diagnostic>>
     ensures { IfOk result (λ said. IfSome said IsOfJump) }
 {
-    let Some(said) = jump_said(subject, first)? else {
+    let Some(
+        JumpSaid {
+            kind,
+            span,
+            message,
+            help,
+        },
+    ) = jump_said(subject, first)?
+    else {
         return Ok(None);
     };
     Ok(Some(Diagnostic {
         severity: Severity::Warning,
-        code: code_of_jump(said.kind),
+        code: code_of_jump(kind),
         source: Source::Program,
-        span: Some(said.span),
-        message: said.message,
+        span: Some(span),
+        message,
         notes: Listed::new(Vec::new(subject.alloc())),
-        help: Some(said.help),
+        help: Some(help),
     }))
 }
 
@@ -343,7 +351,7 @@ pub fn jump_warnings(subject: &Subject) -> Made<Vec<Diagnostic>>
     let mut list = Vec::new(subject.alloc());
     let mut before = None;
     for jump in subject.returns().jumps() {
-        if before != Some(jump.task) {
+        if !is_end(before, jump.task) {
             add_warning(subject, jump, &mut list)?;
         }
         before = Some(jump.task);

@@ -118,18 +118,28 @@ fn parts_of<'a>(alloc: Global, line: &'a [u8]) -> Result<Vec<Part<'a>>, AllocErr
     Ok(parts)
 }
 
+/// The value of a digit.
+fn digit_of(byte: u8, is_hexadecimal: bool) -> Option<u32> {
+    if is_hexadecimal {
+        char::from(byte).to_digit(16)
+    } else {
+        char::from(byte).to_digit(10)
+    }
+}
+
 /// The number that digits spell, in decimal or behind `0x`, if it has 32 bits at most.
 fn number_of(text: &[u8]) -> Option<u32> {
-    let (base, digits) = match text {
-        [b'0', b'x', digits @ ..] => (16, digits),
-        _ => (10, text),
+    let (is_hexadecimal, digits) = match text {
+        [b'0', b'x', digits @ ..] => (true, digits),
+        _ => (false, text),
     };
     if digits.is_empty() {
         return None;
     }
+    let base = if is_hexadecimal { 16 } else { 10 };
     let mut value: u32 = 0;
     for byte in digits {
-        let digit = char::from(*byte).to_digit(base)?;
+        let digit = digit_of(*byte, is_hexadecimal)?;
         value = value.checked_mul(base)?.checked_add(digit)?;
     }
     Some(value)
@@ -153,7 +163,7 @@ fn word_said(alloc: Global, part: Part<'_>) -> Said {
         [b'0', b'X', ..] => Ok(Some((part.within(0, 2).slip(CAPITAL), Words::of(alloc, "")?))),
         [b'-', digits @ ..] => match number_of(digits) {
             Some(number) => {
-                let number = number.wrapping_neg();
+                let number = 0u32.wrapping_sub(number);
                 Ok(Some((part.slip(NEGATIVE), words!(in alloc; "0x{number:08x}")?)))
             }
             None => quoting(alloc, part, NO_WORD),
@@ -221,7 +231,7 @@ fn part_said(alloc: Global, program: &Program, part: Part<'_>) -> Said {
         return quoting(alloc, part, FORM);
     };
     let behind = equals.saturating_add(1);
-    if part.text.get(behind) == Some(&b'=') {
+    if matches!(part.text.get(behind), Some(b'=')) {
         let both = part.within(equals, behind.saturating_add(1));
         return Ok(Some((both.slip(TWICE), Words::of(alloc, "")?)));
     }

@@ -24,7 +24,7 @@ use diagnostics::words::Words;
 use exit_diagnostics::advice::{Names, Row};
 use exit_diagnostics::call::back;
 use exit_diagnostics::exit::is_taken;
-use exit_diagnostics::going::going_on;
+use exit_diagnostics::going::{Going, going_on};
 use exit_diagnostics::jump::{jump_warnings, leading_nowhere, missing_at, missing_of, name_at};
 use exit_diagnostics::remark::{Remark, StopRemark};
 use exit_diagnostics::returning::{coming_back, step_into};
@@ -297,8 +297,14 @@ fn unreached_advice(subject: &Subject, index: u32) -> Made<(Words, Help)> {
     let rest = if is_end(back(subject, before), index) {
         let seen = missing_at(subject, index).map(|jump| jump.task);
         if let Some(task) = seen {
-            if let Some(going) = going_on(subject, task, &[index])? {
-                changes = going.changes;
+            if let Some(
+                Going {
+                    targets: _,
+                    changes: more,
+                },
+            ) = going_on(subject, task, &[index])?
+            {
+                changes = more;
             }
         }
         let coming = match seen.or(coming_back(subject, before)) {
@@ -374,11 +380,11 @@ fn jumped_to(
 ) -> Made<(Words, Help)> {
     let row = if is_behind { RETURNED_TO } else { JUMPED_TO };
     let missing = missing_of(subject, jump.task)?;
-    let Some(going) = going_on(subject, jump.task, &missing)? else {
-        return names.said(LISTS_NONE, Vec::new(subject.alloc()));
+    let Some(Going { targets, changes }) = going_on(subject, jump.task, &missing)? else {
+        return names.said(MAY_RETURN, Vec::new(subject.alloc()));
     };
-    names.put("fix", going.targets)?;
-    names.said(row, going.changes)
+    names.put("fix", targets)?;
+    names.said(row, changes)
 }
 
 /// Where a task goes on into a target, and may end before it: the first instruction that does so, and the target.

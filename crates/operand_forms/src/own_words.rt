@@ -391,33 +391,48 @@ const OF_OTHERS: [((&str, &str), &str); 103] = [
     (("mulou", "$,$"), "write multu B,D and mflo B!"),
 ];
 
-/// The number that a word spells, if it has 32 bits and a sign at most.
-fn number_of(word: &[u8]) -> Option<i64> {
-    let (is_negative, digits) = match word {
-        [b'-', digits @ ..] => (true, digits),
-        _ => (false, word),
-    };
-    let (base, digits) = match digits {
-        [b'0', b'x', hexadecimal @ ..] => (16, hexadecimal),
-        _ => (10, digits),
-    };
+/// The value of a digit.
+fn digit_of(byte: u8, is_hexadecimal: bool) -> Option<u32> {
+    if is_hexadecimal {
+        char::from(byte).to_digit(16)
+    } else {
+        char::from(byte).to_digit(10)
+    }
+}
+
+/// The number that digits spell, if it has 32 bits at most.
+fn magnitude_of(digits: &[u8], is_hexadecimal: bool) -> Option<u32> {
+    let base = if is_hexadecimal { 16 } else { 10 };
     let mut value: u32 = 0;
     for byte in digits {
-        let digit = char::from(*byte).to_digit(base)?;
+        let digit = digit_of(*byte, is_hexadecimal)?;
         value = value.checked_mul(base)?.checked_add(digit)?;
     }
+    Some(value)
+}
+
+/// The number that a word spells, if it has 32 bits and a sign at most.
+fn number_of(word: &[u8]) -> Option<i64> {
+    let value = match word {
+        [b'-', b'0', b'x', digits @ ..] | [b'0', b'x', digits @ ..] => magnitude_of(digits, true)?,
+        [b'-', digits @ ..] => magnitude_of(digits, false)?,
+        _ => magnitude_of(word, false)?,
+    };
     let value = i64::from(value);
-    Some(if is_negative { -value } else { value })
+    Some(match word {
+        [b'-', ..] => -value,
+        _ => value,
+    })
 }
 
 /// The sign of a number: of some that are out of a range one of their own, where that is asked for.
 fn number_sign(word: &[u8], first: u8, is_wide: bool) -> u8 {
-    let sign = if first == b'-' { b'-' } else { b'0' };
     match number_of(word) {
-        Some(32_768..=65_535) if is_wide => b'6',
-        Some(65_536..) if is_wide => b'9',
-        Some(..-32_768) if is_wide => b'<',
-        _ => sign,
+        Some(number) if is_wide && number > 65_535 => b'9',
+        Some(number) if is_wide && number > 32_767 => b'6',
+        Some(number) if is_wide && number < -32_768 => b'<',
+        _ if first == b'-' => b'-',
+        _ => b'0',
     }
 }
 
@@ -462,7 +477,7 @@ fn reckoned(line: &[u8], places: &[TokenSpan], sign: u8, at: usize) -> Option<i6
     let number = number_of(bytes_at(line, span_at(places, at)))?;
     match sign {
         b'^' if number < 32_767 => number.checked_add(1),
-        b'~' => number.checked_neg(),
+        b'~' => 0i64.checked_sub(number),
         b'|' => number.checked_sub(65_536),
         b'*' => {
             let other = number_of(bytes_at(line, span_at(places, at.saturating_add(2))))?;

@@ -6,6 +6,7 @@ use diagnostics::code::Code;
 use diagnostics::diagnostic::{Diagnostic, Severity, Source};
 use diagnostics::listed::Listed;
 use diagnostics::words::Words;
+use operand_forms::rows::line_at;
 use operand_forms::slices::{after, first};
 use program_tokens::span::TokenSpan as Place;
 use std::alloc::Global;
@@ -57,24 +58,36 @@ fn is_compiled(row: &[u8]) -> bool {
         .any(|directive| directive.as_bytes() == word)
 }
 
+/// The numbers of the lines that a compiler wrote.
+fn compiled_lines(alloc: Global, rows: &[&[u8]]) -> Made<Vec<u32>> {
+    let mut lines = Vec::new(alloc);
+    let mut number: u32 = 0;
+    for row in rows {
+        number = number.saturating_add(1);
+        if is_compiled(row) {
+            lines.push(number)?;
+        }
+    }
+    Ok(lines)
+}
+
 /// That a compiler wrote the text of these lines, if it did.
 pub(crate) fn compiled_note(alloc: Global, rows: &[&[u8]]) -> Made<Option<Diagnostic>> {
-    let count = rows.iter().filter(|row| is_compiled(row)).count();
-    let Some(line) = rows.iter().position(|row| is_compiled(row)) else {
+    let lines = compiled_lines(alloc, rows)?;
+    let Some(first) = lines.first() else {
         return Ok(None);
     };
-    if count <= MOST_BY_HAND {
+    if lines.len() <= MOST_BY_HAND {
         return Ok(None);
     }
-    let (place, _) = first_word(rows.get(line).copied().unwrap_or(&[]));
-    let number = u32::try_from(line.saturating_add(1)).unwrap_or(u32::MAX);
+    let (place, _) = first_word(line_at(rows, *first));
     let message =
         "this is a compiler's output: compiler/c2ms.py FILE.s -o NEW.s makes a program with marks of it";
     Ok(Some(Diagnostic {
         severity: Severity::Note,
         code: Code::More,
         source: Source::Program,
-        span: Some(span_in(number, place)),
+        span: Some(span_in(*first, place)),
         message: Words::of(alloc, message)?,
         notes: Listed::new(Vec::new(alloc)),
         help: None,

@@ -136,10 +136,12 @@ pub(crate) fn dotted_fix(wrong: &FaultyLine<'_>) -> Made<Option<(Place, Words)>>
         line,
         ..
     } = *wrong;
-    if mends(alloc, kind, section, line, place, words.as_str().as_bytes())? {
-        return Ok(Some((place, words)));
+    let text = words.as_str().as_bytes();
+    if mends(alloc, kind, section, line, place, text)? {
+        Ok(Some((place, words)))
+    } else {
+        Ok(None)
     }
-    Ok(None)
 }
 
 /// What is to stand from a line's place on to its end: operands with all their commas, marks without commas, or lists without
