@@ -3,7 +3,7 @@
 
 Takes random programs, changes marks that cost speed (a register more in a create mask, a forward bit left out,
 a release, code that no task reaches), and compares the log of `explain` of right marks with the model; of wrong marks
-it must have no warning. Then it makes the changes of each fix alone: that warning must be gone, and the marks must
+it must have no warning. Warnings about where jumps to addresses in registers lead are proposals, which it passes over. Then it makes the changes of each fix alone: that warning must be gone, and the marks must
 still be right. PROGRAM is the built `multiscalar`; with `--model` the changes are the model's, and no program is needed.
 """
 import argparse
@@ -73,6 +73,8 @@ def warnings(program):
     return found
 
 
+# What is proposed of jumps to addresses in registers.
+PROPOSED = ("warning-JumpNotListed", "warning-NoReturn")
 OF_TASKS = ("runs", "untaken", "never", "stop", "step")
 CODES = {"runs": "Unreached", "untaken": "TargetNotTaken", "stop": "NoExit", "step": "GoesIntoTask", "never": "NeverProduced", "last": "NotForwarded", "sent": "SentBefore", "unreached": "Unreached"}
 
@@ -297,6 +299,7 @@ def wrong(bench, text, counts):
     if not bench:
         return wrong_by_model(text, counts)
     results, status = bench.results(text)
+    results = [it for it in results if it["ruleId"] not in PROPOSED]
     without, _ = bench.results(text, "--no-warnings")
     if verdict(program, certify(program)):
         counts["wrong"] += 1

@@ -112,12 +112,20 @@ pub fn missing_of(subject: &Subject, task: u32) -> Made<Vec<u32>> {
     Ok(missing)
 }
 
-/// Whether it is said of the task that begins at a place that it never runs, since this one does not list it.
+/// Whether a task reaches an instruction.
+fn is_reached(subject: &Subject, index: u32) -> bool {
+    let program = subject.program();
+    (0..program.tasks().len() as u32).any(|task| subject.mask(task, index).is_some())
+}
+
+/// Whether it is said of a place that no task comes to it: of the task that begins there, which never runs, or of the code behind
+/// a call; and so that this task does not list it.
 fn is_told(subject: &Subject, task: u32, place: u32) -> bool {
-    subject
-        .task_at(place)
-        .is_some_and(|other| never_runs(subject, other))
-        && missing_at(subject, place).is_some_and(|jump| jump.task == task)
+    let is_lost = match subject.task_at(place) {
+        Some(other) => never_runs(subject, other),
+        None => !is_reached(subject, place),
+    };
+    is_lost && missing_at(subject, place).is_some_and(|jump| jump.task == task)
 }
 
 /// The calls that return to some places, in words.

@@ -98,7 +98,7 @@ const ONWARD_OR_ALL_OUT: &str =
 
 const NEVER_RUNS: Row = Row {
     says: "task {task} never runs: no other task has it as a target, and the program starts at {start}",
-    help: "make it a target of another task; or write .start {task}, in place of another .start, if the program begins there",
+    help: "write .start {task}, in place of another .start, or make it a target of another task",
     fix: "",
 };
 
