@@ -7,7 +7,7 @@ use crate::mistake::{Kind, Limit, Mistake, UsedAs};
 use crate::names::{near_label, start_name};
 use crate::place::{Seen, item_span, span_in};
 use diagnostics::code::Code;
-use diagnostics::diagnostic::{Diagnostic, Note, Severity, Source, Span};
+use diagnostics::diagnostic::{Diagnostic, Help, Note, Severity, Source, Span};
 use diagnostics::listed::Listed;
 use diagnostics::quotation::quoted;
 use diagnostics::words::Words;
