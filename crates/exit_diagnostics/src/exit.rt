@@ -260,7 +260,7 @@ pub fn target_help(subject: &Subject, task: u32) -> Made<Help> {
         let message = task_to_begin(subject, place, "")?;
         let mut changes = Vec::new(alloc);
         if let Some(label) = subject.label(place) {
-            changes.push(task_line(subject, label)?)?;
+            changes.push(task_line(subject, label.as_str())?)?;
         }
         return Ok(Help {
             message,

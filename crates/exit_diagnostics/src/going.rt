@@ -5,10 +5,8 @@ use diagnostics::diagnostic::{Replacement, Span};
 use diagnostics::words;
 use diagnostics::words::Words;
 use mark_subjects::mark_place::line_in;
-use mark_subjects::parts::targets_words;
 use mark_subjects::subject::{Made, Subject, column_after};
 use mark_subjects::targets::targets_with;
-use task_descriptor::name::Name;
 use task_descriptor::program::MOST_TARGETS;
 
 /// What lets a task go on to some places.
@@ -31,10 +29,9 @@ fn last_task_line(subject: &Subject) -> u32 {
 }
 
 /// A line that lets a task begin at a label, behind those that are there.
-pub(crate) fn task_line(subject: &Subject, label: Name) -> Made<Replacement> {
+pub(crate) fn task_line(subject: &Subject, label: &str) -> Made<Replacement> {
     let line = last_task_line(subject);
     let width = line_in(subject.rows(), line).len();
-    let label = label.as_str();
     Ok(Replacement {
         span: Span {
             line,
@@ -45,20 +42,67 @@ pub(crate) fn task_line(subject: &Subject, label: Name) -> Made<Replacement> {
     })
 }
 
-/// Adds the line that lets a task begin at a place, if none does; whether that can be written, since it has a label.
+/// The name of a place in a list of targets; of one without a label, that of the label that it gets.
+fn name_of(subject: &Subject, place: u32) -> Made<Words> {
+    let alloc = subject.alloc();
+    if let Some(task) = subject.task_at(place) {
+        return Words::of(alloc, subject.task(task));
+    }
+    match subject.label(place) {
+        Some(label) => Words::of(alloc, label.as_str()),
+        None => words!(in alloc; "T{}", subject.span(place).line),
+    }
+}
+
+/// Whether an instruction stands alone in its line, so that a label before it is its own.
+fn stands_alone(subject: &Subject, index: u32) -> bool {
+    (index as usize) < subject.code().len()
+        && (index == 0 || subject.span(index).line != subject.span(index.saturating_sub(1)).line)
+}
+
+/// A label for an instruction that has none.
+fn label_put(subject: &Subject, index: u32) -> Made<Replacement> {
+    let name = name_of(subject, index)?;
+    let span = subject.span(index);
+    Ok(Replacement {
+        span: Span {
+            line: span.line,
+            column: span.column,
+            width: 0,
+        },
+        text: words!(in subject.alloc(); "{name}: ")?,
+    })
+}
+
+/// Adds the line that lets a task begin at a place, if none does, and a label, if it has none; whether that can be written.
 fn add_line(subject: &Subject, changes: &mut Vec<Replacement>, place: u32) -> Made<bool> {
     if subject.is_entry(place) {
         return Ok(true);
     }
-    let Some(label) = subject.label(place) else {
-        return Ok(false);
-    };
-    changes.push(task_line(subject, label)?)?;
+    if subject.label(place).is_none() {
+        if !stands_alone(subject, place) {
+            return Ok(false);
+        }
+        changes.push(label_put(subject, place)?)?;
+    }
+    let name = name_of(subject, place)?;
+    changes.push(task_line(subject, name.as_str())?)?;
     Ok(true)
 }
 
+/// `targets=` with the names of some places.
+fn targets_named(subject: &Subject, places: &[u32]) -> Made<Words> {
+    let mut text = String::new(subject.alloc());
+    for place in places {
+        let name = name_of(subject, *place)?;
+        let sign = if text.is_empty() { "targets=" } else { "," };
+        write!(text, "{sign}{name}")?;
+    }
+    Ok(Words::new(text))
+}
+
 /// What lets a task go on to some places that are no targets of it; `None` where there would be too many, or where a task has
-/// to begin at a place without a label.
+/// to begin at a place that can have no label.
 pub fn going_on(subject: &Subject, task: u32, places: &[u32]) -> Made<Option<Going>> {
     let list = targets_with(subject, task, places)?;
     if list.len() > MOST_TARGETS {
@@ -70,7 +114,7 @@ pub fn going_on(subject: &Subject, task: u32, places: &[u32]) -> Made<Option<Goi
             return Ok(None);
         }
     }
-    let targets = targets_words(subject, &list)?;
+    let targets = targets_named(subject, &list)?;
     let text = Words::of(subject.alloc(), targets.as_str())?;
     let span = subject.targets_span(task);
     changes.push(Replacement { span, text })?;
