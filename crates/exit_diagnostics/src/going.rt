@@ -43,14 +43,14 @@ pub(crate) fn task_line(subject: &Subject, label: &str) -> Made<Replacement> {
 }
 
 /// The name of a place in a list of targets; of one without a label, that of the label that it gets.
-fn name_of(subject: &Subject, place: u32) -> Made<Words> {
+pub(crate) fn name_of(subject: &Subject, place: u32) -> Made<Words> {
     let alloc = subject.alloc();
     if let Some(task) = subject.task_at(place) {
         return Words::of(alloc, subject.task(task));
     }
     match subject.label(place) {
         Some(label) => Words::of(alloc, label.as_str()),
-        None => words!(in alloc; "T{}", subject.span(place).line),
+        None => words!(in alloc; "begin_{}", subject.span(place).line),
     }
 }
 

@@ -7,7 +7,7 @@ ghost use Rattle.exit_diagnostics.specs.Jumps.{IsOfJump, code_of_jump};
 use crate::advice::{Names, Row};
 use crate::call::back;
 use crate::exit::is_taken;
-use crate::going::{Going, going_on};
+use crate::going::{Going, going_on, name_of};
 use crate::stop::never_runs;
 use call_returns::returns::Jump;
 use diagnostics::code::Code;
@@ -15,7 +15,7 @@ use diagnostics::diagnostic::{Diagnostic, Help, Replacement, Severity, Source, S
 use diagnostics::listed::Listed;
 use diagnostics::words;
 use diagnostics::words::Words;
-use mark_subjects::parts::{place_words, places_words};
+use mark_subjects::parts::places_words;
 use mark_subjects::subject::{Made, Subject, is_end};
 use mark_subjects::targets::{entries_listed, is_among};
 
@@ -163,7 +163,7 @@ fn tasks_words(subject: &Subject, places: &[u32]) -> Made<Words> {
     let mut text = String::new(alloc);
     for place in places {
         if !subject.is_entry(*place) {
-            let name = place_words(subject, *place)?;
+            let name = name_of(subject, *place)?;
             write!(text, ", and add a line .task {name} create=- targets=-")?;
         }
     }
