@@ -568,6 +568,14 @@ fn all_remarks(alloc: Global, stops: &[StopRemark], list: &[CostlyMark]) -> Made
     Ok(remarks)
 }
 
+/// Both lists, one after the other.
+fn joined(mut first: Vec<Diagnostic>, mut second: Vec<Diagnostic>) -> Made<Vec<Diagnostic>>
+    ensures { IfOk result (λ all. all.items ≡ first.items ++ second.items) }
+{
+    first.append(&mut second)?;
+    Ok(first)
+}
+
 /// What could be better about the marks of the program that a text spells: where a stop or a way to a task may be
 /// forgotten, and which marks cost speed, of one create mask or one release all at once; of the first `MOST_SHOWN`,
 /// and how many more there are; before that, where jumps to addresses in registers lead that is not listed. `least` is the program's least certificate.
@@ -590,9 +598,9 @@ pub fn mark_warnings(
     let stops = stop_remarks(&subject)?;
     let remarks = all_remarks(alloc, &stops, &list)?;
     let shown = first_of(&remarks, MOST_SHOWN);
-    let mut said = warnings(&subject, shown)?;
-    let mut jumps = jump_warnings(&subject)?;
-    said.append(&mut jumps)?;
+    let warned = warnings(&subject, shown)?;
+    let jumps = jump_warnings(&subject)?;
+    let mut said = joined(warned, jumps)?;
     let count = remarks.len();
     let more = count.saturating_sub(MOST_SHOWN);
     add_more(alloc, &mut said, more, "warning", "warnings")?;
