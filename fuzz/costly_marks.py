@@ -211,7 +211,8 @@ def proposals(program, text):
     first = {}
     for (t, _), (places, _, _) in seen.items():
         for j in unlisted(t, places):
-            first.setdefault(j, t)
+            if j not in first or t == coming_back(program, j - 1):
+                first[j] = t
     for t in dict.fromkeys(t for t, _ in seen):
         own = [it for (task, _), it in seen.items() if task == t]
         targets, places = program.tasks[t][3], set().union(*(it[0] for it in own))
@@ -226,6 +227,17 @@ def proposals(program, text):
             said = any(j in begins and j not in taken and not may_lead(j) for j in targets) and "NoReturn"
         if said:
             yield f"warning-{said}", places_of_task(text, t)
+
+
+def coming_back(program, call):
+    """The task that comes back from a call, if it is known: the one that it enters where it ends its task, else the first with it inside."""
+    op, _, stop = program.code[call] if call >= 0 else (("nop",), None, None)
+    jumps = lambda t: any(program.code[i][0][0] == "jr" and program.code[i][2] == "s" for i in walk(program, [program.tasks[t][1]]))
+    if op[0] not in ("jal", "jalr"):
+        return None
+    if stop == "s":
+        return next((t for t, it in enumerate(program.tasks) if op[0] == "jal" and it[1] == op[1] and jumps(t)), None)
+    return next((t for t, it in enumerate(program.tasks) if call in walk(program, [it[1]]) and jumps(t)), None)
 
 
 def places_of_task(text, t):

@@ -78,8 +78,8 @@ class Walk:
         return at // 4 if at % 4 == 0 and at // 4 < len(self.program.code) else None
 
     def leads(self, i, held):
-        if held and held[0] == "word":
-            return {self.index(held[1])} - {None}
+        if held and held[0] == "word" and self.index(held[1]) is not None:
+            return {self.index(held[1])}
         return self.listed(i)
 
     def is_return(self, entry, held):
@@ -154,10 +154,10 @@ def jumps(program, lists=None):
             if op[0] not in ("jr", "jalr"):
                 continue
             places, ways, uncalled = set(), [], False
-            for entry, ends in walk.ends.items():
-                if i not in ends:
+            for entry, found in walk.ends.items():
+                if i not in found:
                     continue
-                held = ends[i]
+                held = found[i]
                 if held and held[0] == "word":
                     place = walk.index(held[1])
                     ways.append(place is not None)
@@ -167,8 +167,10 @@ def jumps(program, lists=None):
                     calls = [c for c, link, _ in walk.calls[entry] if link == held[1]]
                     nobody = not calls and entry == program.start and held[1] == 31 and inside
                     uncalled |= nobody
-                    ways.append(bool(calls) or nobody)
-                    places |= {c + 1 for c in calls if inside or (c in reached and program.code[c][2] != "s")}
+                    ends = lambda c: program.code[c][2] == "s"
+                    sure = {c for c in calls if inside and (program.tasks[t][1] != entry or ends(c)) or (c in reached and not ends(c))}
+                    ways.append((bool(calls) or nobody) and (not inside or sure == set(calls)))
+                    places |= {c + 1 for c in sure}
                 else:
                     ways.append(False)
             seen[t, i] = places, bool(ways) and all(ways), uncalled and not places

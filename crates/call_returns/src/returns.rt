@@ -177,11 +177,21 @@ struct Seen<'a> {
 }
 
 impl<'a> Seen<'a> {
+    /// Whether a call ends its task.
+    fn ends_task(&self, call: u32) -> bool {
+        let marked = self.program.code().get(call as usize);
+        marked.is_some_and(|marked| matches!(marked.stop, Stop::Always))
+    }
+
     /// Whether a call stands in a task, and does not end it.
     fn is_within(&self, task: u32, call: u32) -> bool {
-        let marked = self.program.code().get(call as usize);
-        self.least.mask(task, call).is_some()
-            && marked.is_some_and(|marked| !matches!(marked.stop, Stop::Always))
+        self.least.mask(task, call).is_some() && !self.ends_task(call)
+    }
+
+    /// Whether a task begins where a function does.
+    fn begins(&self, task: u32, function: &Function) -> bool {
+        let descriptor = self.program.tasks().get(task as usize);
+        descriptor.is_some_and(|descriptor| descriptor.entry.get() == function.entry)
     }
 
     /// Adds where a jump leads by a way.
@@ -204,7 +214,8 @@ impl<'a> Seen<'a> {
         }
     }
 
-    /// Adds to where the calls of a function come back: where the task begins inside of the function, all; else those in
+    /// Adds to where the calls of a function come back. Where the task begins inside of the function, those are all; where it
+    /// begins with the function, those that end their tasks, and of the others it is not seen whether they do; else those in
     /// the task.
     fn add_returns(&self, jump: &mut Jump, number: usize, register: u8) -> Result<(), AllocError> {
         let Some(function) = self.functions.get(number) else {
@@ -216,9 +227,16 @@ impl<'a> Seen<'a> {
             jump.is_uncalled = jump.is_uncalled || is_uncalled;
             jump.is_whole = jump.is_whole && is_uncalled;
         }
+        let begins = self.begins(jump.task, function);
         for call in &function.calls {
-            if call.link == register && (is_inside || self.is_within(jump.task, call.index)) {
+            let is_sure = is_inside && (!begins || self.ends_task(call.index));
+            if call.link != register {
+                continue;
+            }
+            if is_sure || self.is_within(jump.task, call.index) {
                 jump.add(call.index.saturating_add(1))?;
+            } else if is_inside {
+                jump.is_whole = false;
             }
         }
         Ok(())

@@ -299,14 +299,14 @@ impl<'a> Walk<'a> {
                 .any(|call| call.link == register))
     }
 
-    /// Where a jump to an address in a register may lead: where that is not seen, to each target that is listed.
+    /// Where a jump to an address in a register may lead: where no instruction is seen, to each target that is listed.
     fn leads(&self, index: u32, held: Held) -> Result<Vec<u32>, AllocError> {
         let mut places = Vec::new(self.alloc);
         if let Held::Word(address) = held {
             if let Some(place) = index_at(self.program, address) {
                 places.push(place)?;
+                return Ok(places);
             }
-            return Ok(places);
         }
         if let Some(owners) = self.owners.get(index as usize) {
             for task in owners {

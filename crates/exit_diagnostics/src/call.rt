@@ -17,7 +17,7 @@ const LISTED: &str = "add !s: it leads to {places}{calls}";
 const TO_LIST: &str = "add !s and write {targets}: it leads to {places}{calls}";
 
 const TO_BEGIN: &str =
-    "add !s, and let a task begin at each of {places}, where it leads, as a target of task {task}{calls}";
+    "add !s, and let a task begin where it leads, at {places}, as a target of task {task}{calls}";
 
 const UNSEEN: &str =
     "add !s, and let a task begin where the jump leads, as a target of task {task}{calls}";

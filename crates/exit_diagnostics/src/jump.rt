@@ -8,6 +8,7 @@ use crate::advice::{Names, Row};
 use crate::call::back;
 use crate::exit::is_taken;
 use crate::going::{Going, going_on, name_of};
+use crate::returning::coming_back;
 use crate::stop::never_runs;
 use call_returns::returns::Jump;
 use diagnostics::code::Code;
@@ -78,11 +79,26 @@ pub fn jump_of<'a>(subject: &'a Subject, task: u32, index: u32) -> Option<&'a Ju
         .find(|jump| jump.task == task && jump.index == index)
 }
 
-/// The first jump that is seen to lead to a place which its task does not list.
+/// Whether a jump is seen to lead to a place which its task does not list.
+fn lacks(subject: &Subject, jump: &Jump, place: u32) -> bool {
+    jump.places.contains(&place) && !is_among(subject.targets(jump.task), place)
+}
+
+/// The jump that is seen to lead to a place which its task does not list: behind a call, first that of the task which comes
+/// back from it.
 pub fn missing_at<'a>(subject: &'a Subject, place: u32) -> Option<&'a Jump> {
     let jumps = subject.returns().jumps();
-    jumps.iter().find(|jump| jump.places.contains(&place)
-        && !is_among(subject.targets(jump.task), place))
+    let call = place.saturating_sub(1);
+    let coming = if is_end(back(subject, call), place) {
+        coming_back(subject, call)
+    } else {
+        None
+    };
+    let first = jumps.iter().find(|jump| lacks(subject, jump, place) && is_end(coming, jump.task));
+    match first {
+        Some(jump) => Some(jump),
+        None => jumps.iter().find(|jump| lacks(subject, jump, place)),
+    }
 }
 
 /// The first jump by which a task leaves that lists no target, where it is not seen where that leads.
