@@ -55,8 +55,8 @@ class Bench:
 
 # ---------------------------------------------------------------- changes
 def is_code(line):
-    words = line.split("#")[0].strip()
-    return bool(words) and not words.startswith(".") and not re.fullmatch(r"\w+:", words)
+    words = re.sub(r"^\s*(\w+:)?\s*", "", line.split("#")[0])
+    return bool(words) and not words.startswith(".")
 
 
 def parts_of(line):

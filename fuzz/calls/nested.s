@@ -6,7 +6,8 @@
 .task SQUARES create=$8,$16,$17,$29,$31 targets=TIMES
 .task ROUND  create=$16,$17,$4,$5,$31 targets=TIMES,DONE
 .task DONE   create=$2,$16,$17,$29,$31 targets=SHOWN
-.task TIMES  create=$2,$8,$9,$10 targets=ROUND,OUTER
+.task NEXT   create=- targets=ROUND
+.task TIMES  create=$2,$8,$9,$10 targets=ROUND,NEXT,OUTER
 .task TWICE  create=$4,$5,$15,$31 targets=TIMES
 .task OUTER  create=$4,$31 targets=PRINT
 .task PRINT  create=- targets=END
@@ -34,6 +35,7 @@ ROUND:  addu  $17, $17, $2 !f
         move  $5, $16 !f
         beq   $16, $0, DONE !st
         jal   TIMES !f !s
+NEXT:   j     ROUND !s
 DONE:   move  $2, $17 !f
         lw    $31, 0($29) !f
         lw    $16, 4($29) !f

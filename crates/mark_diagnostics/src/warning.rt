@@ -257,7 +257,7 @@ fn is_still_released(subject: &Subject, index: u32, gone: &[u8], number: u8) -> 
 }
 
 /// The registers of a release without some.
-fn still_released(subject: &Subject, index: u32, gone: &[u8]) -> Made<Vec<u8>>
+pub(crate) fn still_released(subject: &Subject, index: u32, gone: &[u8]) -> Made<Vec<u8>>
     ensures { IfOk result (λ list. list.items ≡ still_released subject.now index gone.now) }
 {
     registers_where(
