@@ -1,7 +1,7 @@
 //! What is written instead of a line, in its own words.
 
 use crate::bytes::{byte_at, bytes_at, whole_word};
-use crate::foreign_words::{NOT_AN_ADDRESS, operand_row};
+use crate::foreign_words::NOT_AN_ADDRESS;
 use crate::line_place::{after_labels, shape_named};
 use crate::meant::span_at;
 use crate::rows::Reading;
@@ -533,24 +533,41 @@ fn is_constant(word: &[u8], signs: &[u8]) -> bool {
     is_name && (signs == "=0".as_bytes() || signs == "=-".as_bytes())
 }
 
+/// What stands in a table of this statement, of all with these operands, or of any, and of these signs.
+fn row_of_signs(
+    rows: &[((&'static str, &'static str), &'static str)],
+    word: &[u8],
+    form: &str,
+    signs: &[u8],
+) -> Option<&'static str> {
+    for ((first, second), text) in rows {
+        let name = first.as_bytes();
+        let is_of = first.is_empty() || name == word || name == form.as_bytes();
+        if is_of && second.as_bytes() == signs {
+            return Some(*text);
+        }
+    }
+    None
+}
+
 /// What is written instead of a line by its address.
 fn address_row(word: &[u8], form: &str, signs: &[u8]) -> Option<&'static str> {
-    operand_row(&ADDRESSES, word, form, signs)
+    row_of_signs(&ADDRESSES, word, form, signs)
 }
 
 /// What is written instead of a line by its places and numbers.
 fn number_row(word: &[u8], form: &str, signs: &[u8]) -> Option<&'static str> {
-    operand_row(&PLACES_AND_NUMBERS, word, form, signs)
+    row_of_signs(&PLACES_AND_NUMBERS, word, form, signs)
 }
 
 /// What is written instead of a line by operands of another kind.
 fn kind_row(word: &[u8], form: &str, signs: &[u8]) -> Option<&'static str> {
-    operand_row(&KINDS, word, form, signs)
+    row_of_signs(&KINDS, word, form, signs)
 }
 
 /// What is written instead of a line with a word of another assembler.
 fn foreign_row(word: &[u8], form: &str, signs: &[u8]) -> Option<&'static str> {
-    operand_row(&OF_OTHERS, word, form, signs)
+    row_of_signs(&OF_OTHERS, word, form, signs)
 }
 
 /// What is written instead of a line with this word and these signs, if it is known.
@@ -594,7 +611,7 @@ pub fn own_words(
     }
     let rest = after(places, 1);
     let form = form_text(shape_named(word));
-    let wide = operand_row(&WIDE, word, form, &signs(alloc, line, rest, true)?);
+    let wide = row_of_signs(&WIDE, word, form, &signs(alloc, line, rest, true)?);
     let text = match wide {
         Some(text) => Some(text),
         None => line_instead(word, form, &signs(alloc, line, rest, false)?),
