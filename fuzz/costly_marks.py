@@ -220,7 +220,7 @@ def proposals(program, text):
         may_lead = lambda j: not all(it[1] for it in own) or j in places or (program.code[j - 1][0][0] in ("jal", "jalr") and j - 1 not in calls)
         taken = {j for i in walk(program, [program.tasks[t][1]]) for j in exits(program, i)}
         if missing:
-            said = any(first[j] != t or (begins[j] not in lost if j in begins else j in reached) for j in missing) and "JumpNotListed"
+            said = any(first[j] != t or (begins[j] not in lost if j in begins else j in reached or program.code[j - 1][0][0] not in ("jal", "jalr")) for j in missing) and "JumpNotListed"
         elif own[0][2] or not targets and not own[0][1]:
             said = "JumpNotListed"
         else:

@@ -79,6 +79,11 @@ pub fn jump_of<'a>(subject: &'a Subject, task: u32, index: u32) -> Option<&'a Ju
         .find(|jump| jump.task == task && jump.index == index)
 }
 
+/// Whether a place is directly behind a call.
+pub fn is_behind(subject: &Subject, place: u32) -> bool {
+    is_end(back(subject, place.saturating_sub(1)), place)
+}
+
 /// Whether a jump is seen to lead to a place which its task does not list.
 fn lacks(subject: &Subject, jump: &Jump, place: u32) -> bool {
     jump.places.contains(&place) && !is_among(subject.targets(jump.task), place)
@@ -88,9 +93,8 @@ fn lacks(subject: &Subject, jump: &Jump, place: u32) -> bool {
 /// back from it.
 pub fn missing_at<'a>(subject: &'a Subject, place: u32) -> Option<&'a Jump> {
     let jumps = subject.returns().jumps();
-    let call = place.saturating_sub(1);
-    let coming = if is_end(back(subject, call), place) {
-        coming_back(subject, call)
+    let coming = if is_behind(subject, place) {
+        coming_back(subject, place.saturating_sub(1))
     } else {
         None
     };
@@ -139,7 +143,7 @@ fn is_reached(subject: &Subject, index: u32) -> bool {
 fn is_told(subject: &Subject, task: u32, place: u32) -> bool {
     let is_lost = match subject.task_at(place) {
         Some(other) => never_runs(subject, other),
-        None => !is_reached(subject, place),
+        None => is_behind(subject, place) && !is_reached(subject, place),
     };
     is_lost && missing_at(subject, place).is_some_and(|jump| jump.task == task)
 }
@@ -150,9 +154,8 @@ pub fn back_words(subject: &Subject, jump: &Jump, places: &[u32]) -> Made<Words>
     let mut lines = String::new(alloc);
     let mut count = 0;
     for place in places {
-        let call = place.saturating_sub(1);
-        if jump.places.contains(place) && is_end(back(subject, call), *place) {
-            let line = subject.span(call).line;
+        if jump.places.contains(place) && is_behind(subject, *place) {
+            let line = subject.span(place.saturating_sub(1)).line;
             let comma = if lines.is_empty() { "" } else { "," };
             write!(lines, "{comma}{line}")?;
             count = places.len().min(if comma.is_empty() { 1 } else { 2 });
@@ -238,7 +241,7 @@ fn may_lead(subject: &Subject, jump: &Jump, place: u32) -> bool {
     let call = place.saturating_sub(1);
     !jump.is_whole
         || jump.places.contains(&place)
-        || (is_end(back(subject, call), place) && !subject.returns().has_seen_call(call))
+        || (is_behind(subject, place) && !subject.returns().has_seen_call(call))
 }
 
 /// Whether a jump to an address in a register takes a task to a place, as far as it is seen.

@@ -25,7 +25,9 @@ use exit_diagnostics::advice::{Names, Row};
 use exit_diagnostics::call::back;
 use exit_diagnostics::exit::is_taken;
 use exit_diagnostics::going::{Going, going_on};
-use exit_diagnostics::jump::{jump_warnings, leading_nowhere, missing_at, missing_of, name_at};
+use exit_diagnostics::jump::{
+    is_behind, jump_warnings, leading_nowhere, missing_at, missing_of, name_at,
+};
 use exit_diagnostics::remark::{Remark, StopRemark};
 use exit_diagnostics::returning::{coming_back, step_into};
 use exit_diagnostics::slot::is_slot;
@@ -345,13 +347,13 @@ fn never_running(subject: &Subject, task: u32) -> Made<(Words, Help)> {
     }
     let entry = entry_of(subject, task);
     let call = entry.saturating_sub(1);
-    let is_behind = is_end(back(subject, call), entry);
+    let is_returned = is_behind(subject, entry);
     names.line("line", subject, call)?;
     if let Some(jump) = missing_at(subject, entry) {
         name_jump(subject, &mut names, jump)?;
-        return jumped_to(subject, names, jump, is_behind);
+        return jumped_to(subject, names, jump, is_returned);
     }
-    if is_behind {
+    if is_returned {
         return names.said(MAY_RETURN, Vec::new(alloc));
     }
     match leading_nowhere(subject) {
@@ -376,9 +378,9 @@ fn jumped_to(
     subject: &Subject,
     mut names: Names,
     jump: &Jump,
-    is_behind: bool,
+    is_returned: bool,
 ) -> Made<(Words, Help)> {
-    let row = if is_behind { RETURNED_TO } else { JUMPED_TO };
+    let row = if is_returned { RETURNED_TO } else { JUMPED_TO };
     let missing = missing_of(subject, jump.task)?;
     let Some(Going { targets, changes }) = going_on(subject, jump.task, &missing)? else {
         return names.said(MAY_RETURN, Vec::new(subject.alloc()));

@@ -581,7 +581,7 @@ fn class_of(meant: &[u8]) -> &[u8] {
 }
 
 /// What stands in a table after this operand or its class: of this statement, of all with these operands, or of any.
-pub(crate) fn operand_row(
+fn operand_row(
     rows: &[((&'static str, &'static str), &'static str)],
     word: &[u8],
     form: &str,
