@@ -1,8 +1,8 @@
 //! What is said of jumps to addresses in registers: where they lead that is no target, and targets to which no call returns.
 
-ghost use Rattle.std.specs.Prelude.{◌≡◌, IfOk, IfSome, OnOk};
+ghost use Rattle.std.specs.Prelude.{◌≡◌, true, IfOk, IfSome, OnOk};
 ghost use Rattle.std.specs.List.{All};
-ghost use Rattle.exit_diagnostics.specs.Jumps.{IsOfJump, code_of_jump};
+ghost use Rattle.exit_diagnostics.specs.Jumps.{IsOfJump, is_jump_code};
 
 use crate::advice::{Names, Row};
 use crate::call::back;
@@ -326,7 +326,7 @@ fn missing_of_first<'a>(subject: &'a Subject, task: u32) -> Option<&'a Jump> {
 
 /// The code of a warning.
 fn code_of_jump(kind: JumpKind) -> Code
-    ensures { result ≡ code_of_jump kind }
+    ensures { is_jump_code result ≡ true }
 {
     match kind {
         JumpKind::NotListed => Code::JumpNotListed,
