@@ -9,4 +9,3 @@ pub mod Kept
 pub mod RunByRun
 pub mod EachEvent
 pub mod OneMore
-pub mod Rows

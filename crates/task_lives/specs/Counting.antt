@@ -1,12 +1,9 @@
--- Tallies with one more life, and their rows. For private functions.
-use Rattle.std.specs.Prelude.{ℕ, ◌+◌, ◌^◌, ◌<◌, List, [], ◌∷◌, ◌++◌, slice_index_or, nat_eq, if◌then◌else◌}
+-- Tallies with one more life. For private functions.
+use Rattle.std.specs.Prelude.{ℕ, ◌+◌, ◌^◌, ◌<◌, List, [], ◌∷◌, nat_eq, if◌then◌else◌}
 use Rattle.task_lives.specs.declared.life.Ending.{Ending}
 use Rattle.task_lives.specs.declared.life.Ending.TheVariants.{Retired, Squashed, Dropped, Unfinished}
 use Rattle.task_lives.specs.declared.life.Life.{Life}
-use Rattle.task_descriptor.specs.declared.descriptor.Descriptor.{Descriptor}
 use Rattle.task_lives.specs.declared.tally.Tally.{Tally}
-use Rattle.task_lives.specs.Tallies.{tally_of}
-use Rattle.task_lives.specs.SummaryText.{row_text}
 
 -- one more that ended this way and executed the given number of instructions
 abbrev pub with_one : Ending → (executed : ℕ) → Tally → Tally
@@ -23,11 +20,6 @@ abbrev pub with_task_life : (first : ℕ) → Life → List Tally → List Tally
 with_task_life first life [] = []
 with_task_life first life (t ∷ ts) =
     (if nat_eq life.task first then with_life life t else t) ∷ with_task_life (first + 1) life ts
-
--- the rows of tasks, of which the first has this number and the tally at it
-abbrev pub rows_from : List Tally → (task : ℕ) → List Descriptor → List ℕ
-rows_from ts task [] = []
-rows_from ts task (d ∷ ds) = row_text (slice_index_or ts task (tally_of [])) d.name ++ rows_from ts (task + 1) ds
 
 -- the life can be counted, as far as the numbers' type allows
 pub record HasRoom (life : Life) (t : Tally) : Type 0 where

@@ -8,6 +8,8 @@ use Rattle.task_lives.specs.declared.life.Ending.TheVariants.{Retired, Squashed,
 use Rattle.task_lives.specs.declared.life.Life.{Life}
 use Rattle.task_lives.specs.Lives.{lives_of}
 use Rattle.task_lives.specs.Sums.{is_retired, is_squashed, is_unfinished, number_ended, instructions}
+use Rattle.task_lives.specs.Tallies.{tally_of, tallies_of}
+use Rattle.task_lives.specs.declared.tally.Tally.{Tally}
 
 abbrev life : (task unit first last executed : ℕ) → Ending → Life
 life task unit first last executed ending = record {
@@ -59,3 +61,24 @@ lives_of_dropped = refl
 
 pub no_lives : lives_of 4 [] ≡ []
 no_lives = refl
+
+abbrev tally : (assigned retired squashed dropped unfinished useful wasted : ℕ) → Tally
+tally assigned retired squashed dropped unfinished useful wasted = record {
+  assigned = assigned;
+  retired = retired;
+  squashed = squashed;
+  dropped = dropped;
+  unfinished = unfinished;
+  useful = useful;
+  wasted = wasted;
+}
+
+-- task 0 twice, once retired; task 1 twice, once squashed after 3 instructions, once dropped after 2
+abbrev some_lives : List Life
+some_lives = life 0 0 0 15 4 Retired ∷ life 1 1 1 9 3 Squashed ∷ life 0 1 10 15 7 Unfinished ∷ life 1 0 16 20 2 Dropped ∷ []
+
+pub tally_of_all : tally_of some_lives ≡ tally 4 1 1 1 1 4 5
+tally_of_all = refl
+
+pub tallies_of_three : tallies_of 3 some_lives ≡ tally 2 1 0 0 1 4 0 ∷ tally 2 0 1 1 0 0 5 ∷ tally 0 0 0 0 0 0 0 ∷ []
+tallies_of_three = refl

@@ -6,5 +6,3 @@ pub mod Following
 pub mod Examples
 pub mod Tallies
 pub mod Counting
-pub mod SummaryText
-pub mod RunSummaryExamples
