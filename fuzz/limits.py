@@ -16,7 +16,7 @@ second of the processor, and one for each 30 MB that are read and written. Needs
 in the temporary folder and 3 GB of memory; it is no part of the tests.
 
 With --gate: texts that take long, or much memory, where an answer is sought carelessly. Each run may take
-three times the processor's time of `check --least` of the same program (`explain` twenty times, by SLOWER), or a second if that is
+three times the processor's time of `check --least` of the same program (`explain` twenty times, by SLOWER, or two seconds), or a second if that is
 more, which a slower machine has longer, and 512 MB; a trace of a
 long script 26 MB, as it is written while its events are played. A run that takes more is made again, twice, as other processes may
 have slowed it, and is ended some two seconds after its time. `.ci/run` runs this after `rt ci`.
@@ -469,7 +469,7 @@ def gate(program, only=""):
             if text not in least:
                 least[text] = ran(program, ["check", "--least", str(text)], folder).processor
             for _ in range(TRIES):
-                most = max(second(), SLOWER.get(words[0], TIMES) * least[text])
+                most = max(second() * (2 if words[0] == "explain" else 1), SLOWER.get(words[0], TIMES) * least[text])
                 ended = ran(program, [str(word) for word in words], folder, most)
                 if not is_dear(ended, most, memory):
                     break
