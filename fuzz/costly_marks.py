@@ -3,8 +3,8 @@
 
 Takes random programs, changes marks that cost speed (a register more in a create mask, a forward bit left out,
 a release, code that no task reaches), and compares the log of `explain` of right marks with the model; of wrong marks
-it must have no warning. Then it makes the changes of each fix alone: that warning must be gone, and the marks must
-still be right. PROGRAM is the built `multiscalar`; with `--model` the changes are the model's, and no program is needed.
+it must have no warning. Of warnings about where jumps to addresses in registers lead it compares the codes and places with those of
+`returns.py`. Then it makes the changes of each other fix alone: that warning must be gone, and the marks must still be right. PROGRAM is the built `multiscalar`; with `--model` the changes are the model's, and no program is needed.
 """
 import argparse
 import collections
@@ -15,6 +15,7 @@ import time
 
 import accepted as generator
 import explain
+import returns
 from accepted import accepted
 from explain import MOST_SHOWN, Bench, changed, laid_out, lists, place_of, places, plant, region_of, spelled
 from model import Fault, assemble, certify, dests, edges, exits, inner, is_exit, print_program, verdict
@@ -73,6 +74,8 @@ def warnings(program):
     return found
 
 
+# What is proposed of jumps to addresses in registers.
+PROPOSED = ("warning-JumpNotListed", "warning-NoReturn")
 OF_TASKS = ("runs", "untaken", "never", "stop", "step")
 CODES = {"runs": "Unreached", "untaken": "TargetNotTaken", "stop": "NoExit", "step": "GoesIntoTask", "never": "NeverProduced", "last": "NotForwarded", "sent": "SentBefore", "unreached": "Unreached"}
 
@@ -198,6 +201,50 @@ def said_of(results):
     return [(it["ruleId"], region_of(it["locations"][0]), it["message"]["text"]) for it in results if it["ruleId"] != "more"]
 
 
+def proposals(program, text):
+    """What is proposed of jumps to addresses in registers: code and place of each, one of a task at most."""
+    seen, calls = returns.jumps(program)
+    begins = {entry: t for t, (_, entry, _, _) in enumerate(program.tasks)}
+    reached = set().union(*(walk(program, [entry]) for entry in begins))
+    lost = {number for kind, number, _ in forgotten(program) if kind == "runs"}
+    unlisted = lambda t, places: {j for j in places if j not in program.tasks[t][3]}
+    first = {}
+    for (t, _), (places, _, _) in seen.items():
+        for j in unlisted(t, places):
+            if j not in first or t == coming_back(program, j - 1):
+                first[j] = t
+    for t in dict.fromkeys(t for t, _ in seen):
+        own = [it for (task, _), it in seen.items() if task == t]
+        targets, places = program.tasks[t][3], set().union(*(it[0] for it in own))
+        missing = unlisted(t, places)
+        may_lead = lambda j: not all(it[1] for it in own) or j in places or (program.code[j - 1][0][0] in ("jal", "jalr") and j - 1 not in calls)
+        taken = {j for i in walk(program, [program.tasks[t][1]]) for j in exits(program, i)}
+        if missing:
+            said = any(first[j] != t or (begins[j] not in lost if j in begins else j in reached or program.code[j - 1][0][0] not in ("jal", "jalr")) for j in missing) and "JumpNotListed"
+        elif own[0][2] or not targets and not own[0][1]:
+            said = "JumpNotListed"
+        else:
+            said = any(j in begins and j not in taken and not may_lead(j) for j in targets) and "NoReturn"
+        if said:
+            yield f"warning-{said}", places_of_task(text, t)
+
+
+def coming_back(program, call):
+    """The task that comes back from a call, if it is known: the one that it enters where it ends its task, else the first with it inside."""
+    op, _, stop = program.code[call] if call >= 0 else (("nop",), None, None)
+    jumps = lambda t: any(program.code[i][0][0] == "jr" and program.code[i][2] == "s" for i in walk(program, [program.tasks[t][1]]))
+    if op[0] not in ("jal", "jalr"):
+        return None
+    if stop == "s":
+        return next((t for t, it in enumerate(program.tasks) if op[0] == "jal" and it[1] == op[1] and jumps(t)), None)
+    return next((t for t, it in enumerate(program.tasks) if call in walk(program, [it[1]]) and jumps(t)), None)
+
+
+def places_of_task(text, t):
+    """The place of the `targets=` of a task."""
+    return places(text)[0][t][0], *lists(text)[t][1]
+
+
 def numbers(listed):
     """The registers that a list names, by number."""
     return [int({"$hi": "32", "$lo": "33"}.get(r, r[1:])) for r in re.findall(r"\$\w+", listed)]
@@ -297,6 +344,8 @@ def wrong(bench, text, counts):
     if not bench:
         return wrong_by_model(text, counts)
     results, status = bench.results(text)
+    proposed = sorted(it[:2] for it in said_of(results) if it[0] in PROPOSED)
+    results = [it for it in results if it["ruleId"] not in PROPOSED]
     without, _ = bench.results(text, "--no-warnings")
     if verdict(program, certify(program)):
         counts["wrong"] += 1
@@ -304,6 +353,9 @@ def wrong(bench, text, counts):
     counts["right"] += 1
     if without or status or said_of(results) != told(program, text):
         return f"other warnings: {said_of(results)}, not {told(program, text)}"
+    if proposed != sorted(proposals(program, text)):
+        return f"other proposals: {proposed}, not {sorted(proposals(program, text))}"
+    counts["proposed"] += len(proposed)
     for warning, result in zip(shown(program, text), results):
         counts[warning[0]] += 1
         after = changed(text, result)

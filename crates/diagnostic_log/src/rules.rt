@@ -55,6 +55,9 @@ pub(crate) fn rule_short(code: Code) -> &'static str {
         Code::TargetNotTaken => "A task lists a target that none of its exits takes",
         Code::GoesIntoTask =>
             "A task goes on, without a stop, into the first instruction of a task",
+        Code::JumpNotListed =>
+            "A jump to an address in a register leads to a place that the task does not list",
+        Code::NoReturn => "A task lists a target to which no call returns",
         Code::More => "There is more than is shown",
     }
 }
@@ -101,7 +104,9 @@ pub(crate) fn rule_section(code: Code) -> &'static str {
         | Code::Unreached
         | Code::NoExit
         | Code::TargetNotTaken
-        | Code::GoesIntoTask => "RULES.md#warnings-marks-that-cost-speed",
+        | Code::GoesIntoTask
+        | Code::JumpNotListed
+        | Code::NoReturn => "RULES.md#warnings-marks-that-cost-speed",
         Code::More => "FORMATS.md#what-explain-says",
     }
 }

@@ -1,7 +1,7 @@
 -- The identifier of what a diagnostic is an instance of.
 use Rattle.std.specs.Prelude.{ℕ, List, codes}
 use Rattle.diagnostics.specs.declared.code.Code.{Code}
-use Rattle.diagnostics.specs.declared.code.Code.TheVariants.{EntryWithoutMask, NextWithoutMask, LacksDestination, LacksNext, ExceedsCreate, ForwardedInNext, ReleasedInNext, SentNotCreated, ExitNotListed, FallsOff, IndirectGoesOn, TargetNotEntry, TooLong, NotAscii, Token, Mnemonic, Operand, Number, Mark, Duplicate, Unknown, TooMany, NoTask, BadEntry, DuplicateEntry, BadMask, BadMark, BadStart, Header, Line, TaskName, MissingTask, Shape, Unfit, ScriptLine, ScriptTaskName, NeverProduced, NotForwarded, SentBefore, Unreached, NoExit, TargetNotTaken, GoesIntoTask, More}
+use Rattle.diagnostics.specs.declared.code.Code.TheVariants.{EntryWithoutMask, NextWithoutMask, LacksDestination, LacksNext, ExceedsCreate, ForwardedInNext, ReleasedInNext, SentNotCreated, ExitNotListed, FallsOff, IndirectGoesOn, TargetNotEntry, TooLong, NotAscii, Token, Mnemonic, Operand, Number, Mark, Duplicate, Unknown, TooMany, NoTask, BadEntry, DuplicateEntry, BadMask, BadMark, BadStart, Header, Line, TaskName, MissingTask, Shape, Unfit, ScriptLine, ScriptTaskName, NeverProduced, NotForwarded, SentBefore, Unreached, NoExit, TargetNotTaken, GoesIntoTask, JumpNotListed, NoReturn, More}
 
 -- its identifier: the rule's number, or the number and the name of the fault
 abbrev pub code_id : Code → List ℕ
@@ -48,4 +48,6 @@ code_id Unreached = codes "warning-Unreached"
 code_id NoExit = codes "warning-NoExit"
 code_id TargetNotTaken = codes "warning-TargetNotTaken"
 code_id GoesIntoTask = codes "warning-GoesIntoTask"
+code_id JumpNotListed = codes "warning-JumpNotListed"
+code_id NoReturn = codes "warning-NoReturn"
 code_id More = codes "more"

@@ -92,6 +92,10 @@ pub enum Code {
     TargetNotTaken,
     /// A warning: a task continues, without a stop, into the first instruction of a task.
     GoesIntoTask,
+    /// A warning: a jump to an address in a register leads, as far as it is seen, to a place that the task does not list.
+    JumpNotListed,
+    /// A warning: a task lists a target to which, as far as it is seen, no call returns.
+    NoReturn,
     /// How many things are not shown.
     More,
 }
@@ -145,6 +149,8 @@ impl Code {
             Code::NoExit => "warning-NoExit",
             Code::TargetNotTaken => "warning-TargetNotTaken",
             Code::GoesIntoTask => "warning-GoesIntoTask",
+            Code::JumpNotListed => "warning-JumpNotListed",
+            Code::NoReturn => "warning-NoReturn",
             Code::More => "more",
         }
     }

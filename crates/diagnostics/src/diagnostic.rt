@@ -54,7 +54,7 @@ pub struct Note {
 pub struct Replacement {
     /// What is replaced.
     pub span: Span,
-    /// What is put there, without a line feed.
+    /// What is put there. A line feed in it begins a line of its own.
     pub text: Words,
 }
 

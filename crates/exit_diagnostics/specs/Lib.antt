@@ -3,3 +3,4 @@ pub mod NeedlessSteps
 pub mod Exits
 pub mod StopFits
 pub mod Remarks
+pub mod Jumps

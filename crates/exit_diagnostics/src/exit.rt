@@ -6,9 +6,12 @@ ghost use Rattle.mark_subjects.specs.Parts.{paths, way_paths};
 ghost use Rattle.exit_diagnostics.specs.Exits.{unlisted, lacking, is_taken, wrong_number};
 
 use crate::advice::Names;
+use crate::going::{Going, going_on, task_line};
+use crate::jump::may_go_on;
 use crate::meant::meant_help;
 use crate::slot::slot_or;
 use diagnostics::diagnostic::{Help, Note};
+use diagnostics::listed::Listed;
 use diagnostics::words;
 use diagnostics::words::Words;
 use mark_checker::finding::Finding;
@@ -160,11 +163,30 @@ pub fn exit_help(subject: &Subject, finding: &Finding, needless: bool) -> Made<H
     let Some(to) = places.iter().find(|index| !subject.is_entry(**index)) else {
         return listing_help(subject, task, &places);
     };
-    let name = subject.task(task);
-    let besides = words!(in subject.alloc(); ", and make it a target of task {name}")?;
-    let begin = task_to_begin(subject, *to, besides.as_str())?;
+    let begin = begin_help(subject, task, *to, &places)?;
     let help = meant_help(subject, finding, *to, needless, begin)?;
     slot_or(subject, finding.index, *to, help)
+}
+
+/// What to do where a task goes on to these places, and none begins at this one of them: to let one begin, as a target.
+fn begin_help(subject: &Subject, task: u32, to: u32, places: &[u32]) -> Made<Help> {
+    let alloc = subject.alloc();
+    let name = subject.task(task);
+    let besides = words!(in alloc; ", and make it a target of task {name}")?;
+    let message = task_to_begin(subject, to, besides.as_str())?;
+    let changes = match going_on(subject, task, places)? {
+        Some(
+            Going {
+                targets: _,
+                changes,
+            },
+        ) => changes,
+        None => Vec::new(alloc),
+    };
+    Ok(Help {
+        message,
+        replacements: Listed::new(changes),
+    })
 }
 
 /// Where an instruction leads without ending the task, if no instruction is there; else 0.
@@ -227,14 +249,23 @@ pub fn wrong_target(subject: &Subject, task: u32) -> u32 {
     }
 }
 
-/// What to do about targets where no task begins: to let one begin where an exit leads, or not to list them.
+/// What to do about targets where no task begins: to let one begin where the task may go on, or not to list them.
 pub fn target_help(subject: &Subject, task: u32) -> Made<Help> {
     let alloc = subject.alloc();
     let wrong = subject.targets(task).iter().find(|target| {
-        !subject.is_entry(target.get()) && is_taken(subject, task, target.get())
+        !subject.is_entry(target.get()) && may_go_on(subject, task, target.get())
     });
     if let Some(place) = wrong {
-        return Ok(in_words(alloc, task_to_begin(subject, place.get(), "")?));
+        let place = place.get();
+        let message = task_to_begin(subject, place, "")?;
+        let mut changes = Vec::new(alloc);
+        if let Some(label) = subject.label(place) {
+            changes.push(task_line(subject, label.as_str())?)?;
+        }
+        return Ok(Help {
+            message,
+            replacements: Listed::new(changes),
+        });
     }
     let targets = entries_listed(subject, task)?;
     let text = targets_words(subject, &targets)?;

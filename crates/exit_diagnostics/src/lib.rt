@@ -5,6 +5,8 @@
 pub mod advice;
 pub mod call;
 pub mod exit;
+pub mod going;
+pub mod jump;
 pub mod meant;
 pub mod needless;
 pub mod remark;

@@ -4,7 +4,6 @@ use crate::advice::Names;
 use crate::slot::is_halt;
 use crate::stop::stops_always;
 use diagnostics::diagnostic::{Help, Replacement};
-use diagnostics::words::Words;
 use mark_checker::finding::Finding;
 use mark_subjects::mark_place::mark_span;
 use mark_subjects::parts::{place_words, take_out};
@@ -12,6 +11,7 @@ use mark_subjects::put_stop::{stop_out, stop_put};
 use mark_subjects::step::stop_name;
 use mark_subjects::subject::{Made, Subject};
 use mark_subjects::targets::is_among;
+use mips_instructions::instruction::Op;
 use task_descriptor::descriptor::Stop;
 
 /// Which stop may be meant where a task ends at a place where no task begins.
@@ -23,6 +23,8 @@ enum MeantStop {
     Edge { taken: bool, target: u32 },
     /// One on the next instruction, at this index.
     Next(u32),
+    /// One on the next instruction, at this index, which is a jump to an address in a register.
+    Jump(u32),
     /// None: the next instruction, at this index, is a halt, which ends the task.
     AtHalt(u32),
     /// None: without it the tasks that reach the instruction go right.
@@ -33,6 +35,8 @@ const EDGE: &str =
     "write {word}: the task then ends only if the branch is {edge}, at {target}, which is a target; or {rest}";
 
 const NEXT: &str = "move !s to line {line}, whose exits are all targets; or {rest}";
+
+const JUMP: &str = "move !s to line {line}, where the task leaves by jr; or {rest}";
 
 const AT_HALT: &str = "remove !s: the task then ends at the halt on line {line}; or {rest}";
 
@@ -66,6 +70,15 @@ fn halts(subject: &Subject, index: u32) -> bool {
     }
 }
 
+/// Whether an instruction has no stop, and is a jump to an address in a register, of a task that has targets.
+fn jumps_away(subject: &Subject, task: u32, index: u32) -> bool {
+    let is_jump = match subject.code().get(index as usize) {
+        Some(marked) => matches!(marked.op, Op::JumpReg(_)),
+        None => false,
+    };
+    is_jump && matches!(subject.stop(index), Stop::None) && !subject.targets(task).is_empty()
+}
+
 /// The stop that may be meant where an instruction ends a task that goes on to a place where no task begins.
 fn meant(subject: &Subject, task: u32, index: u32, to: u32) -> MeantStop {
     if subject.is_branch(index) && (to as usize) < subject.code().len() {
@@ -89,6 +102,8 @@ fn meant(subject: &Subject, task: u32, index: u32, to: u32) -> MeantStop {
         MeantStop::AtHalt(to)
     } else if leads_to_targets(subject, task, to) {
         MeantStop::Next(to)
+    } else if jumps_away(subject, task, to) {
+        MeantStop::Jump(to)
     } else {
         MeantStop::This
     }
@@ -107,19 +122,19 @@ pub(crate) fn meant_help(
     finding: &Finding,
     to: u32,
     needless: bool,
-    rest: Words,
+    rest: Help,
 ) -> Made<Help> {
     let index = finding.index;
     let alloc = subject.alloc();
     let mark = mark_span(b's', subject.rows(), subject.span(index));
     let mut names = Names::new(alloc);
-    names.put("rest", rest)?;
+    names.add("rest", rest.message.as_str())?;
     let stop = match meant(subject, finding.task, index, to) {
         MeantStop::This if needless => MeantStop::Needless,
         other => other,
     };
     match stop {
-        MeantStop::This => names.advice("{rest}"),
+        MeantStop::This => Ok(rest),
         MeantStop::Edge { taken, target } => {
             let (word, edge) = if taken {
                 ("!st", "taken")
@@ -131,11 +146,12 @@ pub(crate) fn meant_help(
             names.put("target", place_words(subject, target)?)?;
             names.help(EDGE, one(subject, stop_put(subject, index, word)?)?)
         }
-        MeantStop::Next(next) => {
+        MeantStop::Next(next) | MeantStop::Jump(next) => {
             names.line("line", subject, next)?;
             let mut changes = take_out(alloc, mark)?;
             changes.push(stop_put(subject, next, "!s")?)?;
-            names.help(NEXT, changes)
+            let is_jump = matches!(stop, MeantStop::Jump(_));
+            names.help(if is_jump { JUMP } else { NEXT }, changes)
         }
         MeantStop::AtHalt(halt) => {
             names.line("line", subject, halt)?;

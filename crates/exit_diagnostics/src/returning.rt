@@ -1,8 +1,7 @@
 //! What is meant where a task never runs, or no task reaches some code: another task may be meant to end before it, or a
 //! call to come back to it.
 
-use crate::call::back;
-use crate::stop::{entry_of, stops_always};
+use crate::stop::stops_always;
 use crate::stop_fits::stop_fits;
 use mark_subjects::put_stop::into;
 use mark_subjects::subject::{Made, Subject, is_end};
@@ -63,15 +62,4 @@ pub fn coming_back(subject: &Subject, call: u32) -> Option<u32> {
     let program = subject.program();
     let mut tasks = 0..program.tasks().len() as u32;
     tasks.find(|task| subject.mask(*task, call).is_some() && leaves_by_jr(subject, *task))
-}
-
-/// The task that may return to an entry, since the instruction before calls it; it may list this entry, too.
-pub fn returning(subject: &Subject, entry: u32) -> Option<u32> {
-    let before = entry.saturating_sub(1);
-    if !is_end(back(subject, before), entry) {
-        return None;
-    }
-    let task = called(subject, before)?;
-    let may_return = entry_of(subject, task) != entry && subject.targets(task).len() < 16;
-    may_return.then_some(task)
 }

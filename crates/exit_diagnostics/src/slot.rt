@@ -31,7 +31,8 @@ fn begins_anew(subject: &Subject, index: u32) -> bool {
         || subject.label(index).is_some()
 }
 
-/// Whether an instruction stands alone after a branch or a jump, up to where the code begins anew.
+/// Whether an instruction stands alone after a branch or a jump, up to where the code begins anew. No compiler puts a release
+/// there.
 pub fn is_slot(subject: &Subject, index: u32) -> bool {
     let before = subject.code().get(index.saturating_sub(1) as usize);
     match (before, subject.code().get(index as usize)) {
@@ -40,6 +41,7 @@ pub fn is_slot(subject: &Subject, index: u32) -> bool {
                 && turns(&before.op)
                 && !turns(&marked.op)
                 && !is_halt(&marked.op)
+                && !matches!(marked.op, Op::Release(_))
                 && subject.label(index).is_none()
                 && begins_anew(subject, index.saturating_add(1))
         }

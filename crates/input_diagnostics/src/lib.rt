@@ -4,6 +4,7 @@
 
 mod advice;
 pub mod certificate;
+mod expectation;
 mod lines;
 mod masks;
 mod meant;

@@ -162,6 +162,11 @@ fn mask_slip(alloc: Global, digits: usize, row: &[u8], before: usize) -> Result<
         return Ok(marked(before, width, row));
     }
     let says = "this is not a mask of {digits} digits";
+    if digits == 8 && width == 16 && is_all_digits(&small) {
+        let help =
+            "write cert 2 in place of cert 1, and each mask with 16 digits, since HI and LO have no place in 8; or make a new one: multiscalar annotate --emit keep PROGRAM > CERT";
+        return Ok(marked(before, width, advice(says, help)));
+    }
     if is_incomplete(digits, bare(&small)) {
         return Ok(Slip {
             before,
@@ -339,6 +344,11 @@ impl<'a> Refused<'a> {
         Ok(list)
     }
 
+    /// Whether the text is a program: some line begins with `.task` or `.start`.
+    fn is_program(&self) -> bool {
+        self.rows.iter().any(|row| row.starts_with(b".task ") || row.starts_with(b".start "))
+    }
+
     /// What is wrong with the first line, of a text that does not begin as a certificate does.
     fn header_slip(&self) -> Slip {
         let row = row_at(self.rows, 1);
@@ -347,6 +357,11 @@ impl<'a> Refused<'a> {
         }
         if let Some(slip) = return_slip(row) {
             return slip;
+        }
+        if self.is_program() {
+            let says = "this is a program, not a certificate";
+            let help = "make its certificate: multiscalar annotate --emit keep PROGRAM > CERT";
+            return marked(0, row.len(), advice(says, help));
         }
         if self.rows.iter().any(|row| row.starts_with(b"cert")) {
             if let Some(slip) = common_slip(row) {

@@ -9,6 +9,7 @@ use crate::advice::{
     Group, MOST_SHOWN, Row, Slip, advice, alone, marked, mend, return_slip, separator, span,
     stray_space,
 };
+use crate::expectation::expectation_said;
 use crate::lines::{lines_of, row_at};
 use crate::meant::{meant, names_of, register_meant};
 use crate::mistaken::VERBS;
@@ -184,6 +185,7 @@ fn near_word(
 /// The error for a line that spells no event, and with which others it is told.
 fn line_error(
     alloc: Global,
+    program: &Program,
     names: &[&str],
     line: &[u8],
     bad: &BadLine,
@@ -196,6 +198,13 @@ fn line_error(
         Some(slip) => slip,
         None => slip_of(alloc, line, bad.fault, !near.as_str().is_empty())?,
     };
+    let (slip, expected) = match slip.group {
+        Group::Strict => match expectation_said(alloc, program, line)? {
+            Some(said) => said,
+            None => (slip, Words::of(alloc, "")?),
+        },
+        _ => (slip, Words::of(alloc, "")?),
+    };
     let register = match register_meant(alloc, wrong)? {
         Some(register) => words!(in alloc; "{}", register.get())?,
         None => Words::of(alloc, "")?,
@@ -206,6 +215,7 @@ fn line_error(
         ("verb", as_shown(alloc, first_word(line))?),
         ("third", as_shown(alloc, third(line))?),
         ("register", register),
+        ("expected", expected),
     ];
     let is_task = matches!(bad.fault, EventFault::NoTask) && slip.group != Group::Returns;
     let code = if is_task {
@@ -219,10 +229,11 @@ fn line_error(
 }
 
 /// Adds the errors for further lines that spell no event, after one of this group: only one for all lines that end
-/// with CR, and one for all that have what only `replay --strict` reads.
+/// with CR, and one for all that have what only `replay --strict` reads, where that can be read.
 fn add_others(
     alloc: Global,
     list: &mut Vec<Diagnostic>,
+    program: &Program,
     names: &[&str],
     rows: &[&[u8]],
     bad: &[BadLine],
@@ -231,7 +242,7 @@ fn add_others(
     let mut has_returns = group == Group::Returns;
     let mut has_strict = group == Group::Strict;
     for bad in bad {
-        let (said, group) = line_error(alloc, names, row_at(rows, bad.line), bad)?;
+        let (said, group) = line_error(alloc, program, names, row_at(rows, bad.line), bad)?;
         let is_told = match group {
             Group::Returns => has_returns,
             Group::Strict => has_strict,
@@ -284,10 +295,10 @@ fn errors_in(
         return Ok(list);
     }
     let names = names_of(alloc, program.tasks())?;
-    let (said, group) = line_error(alloc, &names, line, first)?;
+    let (said, group) = line_error(alloc, program, &names, line, first)?;
     let mut list = alone(alloc, said)?;
     let mut rest = Vec::new(alloc);
-    add_others(alloc, &mut rest, &names, &rows, others, group)?;
+    add_others(alloc, &mut rest, program, &names, &rows, others, group)?;
     let more = count.saturating_sub(MOST_SHOWN);
     let (one, many) = ("line that spells no event", "lines that spell no event");
     add_more(alloc, &mut rest, Source::Script, more, one, many)?;

@@ -1,6 +1,6 @@
 -- What could be better about the marks of a program: a warning for each remark, by its code, at its place.
 use Rattle.std.specs.Prelude.{◌≡◌, ℕ, ◌-◌, List, [], ◌∷◌, ◌++◌, codes, map, take, length, Some}
-use Rattle.std.specs.List.{AllZip}
+use Rattle.std.specs.List.{All, AllZip}
 use Rattle.task_descriptor.specs.Listing.{Listing}
 use Rattle.finding_paths.specs.declared.mark.CostlyMark.{CostlyMark}
 use Rattle.finding_paths.specs.declared.mark.CostlyMark.TheVariants.{NeverProduced, NotForwarded, SentBefore, Unreached}
@@ -15,6 +15,7 @@ use Rattle.diagnostics.specs.declared.diagnostic.Diagnostic.{Diagnostic}
 use Rattle.exit_diagnostics.specs.declared.remark.Remark.{Remark}
 use Rattle.exit_diagnostics.specs.declared.remark.Remark.TheVariants.{Stop, Costly}
 use Rattle.exit_diagnostics.specs.declared.remark.StopRemark.TheVariants.{NeverRuns, NoExit, NotTaken, GoesInto}
+use Rattle.exit_diagnostics.specs.Jumps.{IsOfJump}
 use Rattle.exit_diagnostics.specs.Remarks.{first_untaken, stop_remarks}
 use Rattle.mark_subjects.specs.Subjects.{Judged, IsJudged, instruction_span, task_span, create_span, targets_span, target_span}
 use Rattle.mark_subjects.specs.More.{more_note}
@@ -69,4 +70,7 @@ pub record AreMarkWarnings (text : List ℕ) (p : Listing) (least : List (List (
   pub costly : Picked (IsCostly p) (candidates p) list
   pub first : List Diagnostic
   pub warned : AllZip (Warns judged) (take most_shown (remarks judged list)) first
-  pub is : said ≡ first ++ more_note (length (remarks judged list) - most_shown) (codes "warning") (codes "warnings")
+  -- and of jumps to addresses in registers, as far as it is seen where they lead
+  pub jumps : List Diagnostic
+  pub jumping : All IsOfJump jumps
+  pub is : said ≡ (first ++ jumps) ++ more_note (length (remarks judged list) - most_shown) (codes "warning") (codes "warnings")

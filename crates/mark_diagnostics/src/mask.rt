@@ -9,9 +9,11 @@ ghost use Rattle.mark_subjects.specs.Parts.{paths, shown_path};
 ghost use Rattle.mark_diagnostics.specs.Told.{register_in as register_of};
 ghost use Rattle.mark_diagnostics.specs.Errors.{path_shown};
 
+use crate::release::{release_words, release_written};
 use crate::sending::written_from;
 use crate::told::register_in;
-use diagnostics::diagnostic::{Help, Note};
+use crate::warning::still_released;
+use diagnostics::diagnostic::{Help, Note, Replacement};
 use diagnostics::listed::Listed;
 use diagnostics::words;
 use diagnostics::words::Words;
@@ -147,6 +149,21 @@ fn releases_any(subject: &Subject, findings: &[Finding], index: u32) -> bool {
     findings.iter().any(|finding| subject.releases(index, register_in(finding.reg)))
 }
 
+/// That some registers are taken out of each release of a task.
+fn out_of_releases(subject: &Subject, task: u32, gone: &[u8]) -> Made<Vec<Replacement>> {
+    let mut changes = Vec::new(subject.alloc());
+    for entry in subject.entries(task) {
+        let index = entry.0;
+        let kept = still_released(subject, index, gone)?;
+        let all = still_released(subject, index, &[])?;
+        if kept.len() < all.len() {
+            let text = release_words(subject, index, &kept)?;
+            changes.push(release_written(subject, index, text.as_str())?)?;
+        }
+    }
+    Ok(changes)
+}
+
 /// What to do about a create mask that lacks the registers of some findings: the one that mends all; or, of those that are
 /// only released, to take them out of the release.
 pub(crate) fn mask_help(subject: &Subject, task: u32, about: &[Finding]) -> Made<Help> {
@@ -164,6 +181,7 @@ pub(crate) fn mask_help(subject: &Subject, task: u32, about: &[Finding]) -> Made
     let registers = missing(alloc, &unwritten)?;
     names.put("registers", registers_words(subject, &registers)?)?;
     names.add("them", if registers.len() == 1 { "it" } else { "them" })?;
+    let mut changes = out_of_releases(subject, task, &registers)?;
     let is_elsewhere = subject.entries(task).iter().any(|entry| {
         entry.0 != first.index && releases_any(subject, &unwritten, entry.0)
     });
@@ -178,8 +196,10 @@ pub(crate) fn mask_help(subject: &Subject, task: u32, about: &[Finding]) -> Made
         let rest: Vec<Finding> = findings
             .filter(|finding| is_written(subject, task, finding))
             .collect(alloc)?;
-        let create = create_words(subject, task, &rest)?;
-        names.put("more", words!(in alloc; ", and write {create}")?)?;
+        let text = create_words(subject, task, &rest)?;
+        names.put("more", words!(in alloc; ", and write {text}")?)?;
+        let span = subject.create_span(task);
+        changes.push(Replacement { span, text })?;
     }
-    names.advice(OUT)
+    names.help(OUT, changes)
 }

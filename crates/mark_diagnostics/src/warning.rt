@@ -15,6 +15,7 @@ use crate::mask::is_among;
 use crate::release::{release_words, release_written};
 use crate::sending::writes;
 use crate::together::add_marks;
+use call_returns::returns::Jump;
 use diagnostics::code::Code;
 use diagnostics::diagnostic::{Diagnostic, Help, Severity, Source, Span};
 use diagnostics::listed::Listed;
@@ -23,8 +24,12 @@ use diagnostics::words::Words;
 use exit_diagnostics::advice::{Names, Row};
 use exit_diagnostics::call::back;
 use exit_diagnostics::exit::is_taken;
+use exit_diagnostics::going::{Going, going_on};
+use exit_diagnostics::jump::{
+    is_behind, jump_warnings, leading_nowhere, missing_at, missing_of, name_at,
+};
 use exit_diagnostics::remark::{Remark, StopRemark};
-use exit_diagnostics::returning::{coming_back, returning, step_into};
+use exit_diagnostics::returning::{coming_back, step_into};
 use exit_diagnostics::slot::is_slot;
 use exit_diagnostics::stop::{
     entry_of, first_end, first_untaken, has_exit, has_indirect_exit, has_untaken, never_runs,
@@ -99,15 +104,24 @@ const NEVER_RUNS: Row = Row {
     fix: "",
 };
 
-const LISTS_NONE: Row = Row {
-    help: "task {returns} leaves through jr, but lists no target: write {fix}, where the call on line {line} returns; or write .start {task}, in place of another .start, or make it a target of another task",
-    fix: "targets={targets}",
+const RETURNED_TO: Row = Row {
+    help: "the call on line {line} returns here, by the {jump} on line {from}: task {returns}, which ends there, has to list it: write {fix}",
     ..NEVER_RUNS
 };
 
-const LISTS_OTHERS: Row = Row {
-    help: "task {returns} leaves through jr, but does not list {task}: write {fix}, where the call on line {line} returns; or write .start {task}, in place of another .start, or make it a target of another task",
-    ..LISTS_NONE
+const JUMPED_TO: Row = Row {
+    help: "the {jump} on line {from} leads here: task {returns}, which ends there, has to list it: write {fix}",
+    ..NEVER_RUNS
+};
+
+const MAY_RETURN: Row = Row {
+    help: "the call on line {line} may return here: if it does, the task that ends in its jr has to list {task}",
+    ..NEVER_RUNS
+};
+
+const LISTS_NONE: Row = Row {
+    help: "task {returns} ends in the {jump} on line {from}, and lists no target: list {task} there, if the jump leads here; or make it a target of another task",
+    ..NEVER_RUNS
 };
 
 const NO_EXIT: Row = Row {
@@ -245,7 +259,7 @@ fn is_still_released(subject: &Subject, index: u32, gone: &[u8], number: u8) -> 
 }
 
 /// The registers of a release without some.
-fn still_released(subject: &Subject, index: u32, gone: &[u8]) -> Made<Vec<u8>>
+pub(crate) fn still_released(subject: &Subject, index: u32, gone: &[u8]) -> Made<Vec<u8>>
     ensures { IfOk result (λ list. list.items ≡ still_released subject.now index gone.now) }
 {
     registers_where(
@@ -281,8 +295,21 @@ fn unreached_advice(subject: &Subject, index: u32) -> Made<(Words, Help)> {
     let before = index.saturating_sub(1);
     let is_alone = is_slot(subject, index);
     names.line("line", subject, before)?;
+    let mut changes = Vec::new(alloc);
     let rest = if is_end(back(subject, before), index) {
-        let coming = match coming_back(subject, before) {
+        let seen = missing_at(subject, index).map(|jump| jump.task);
+        if let Some(task) = seen {
+            if let Some(
+                Going {
+                    targets: _,
+                    changes: more,
+                },
+            ) = going_on(subject, task, &[index])?
+            {
+                changes = more;
+            }
+        }
+        let coming = match seen.or(coming_back(subject, before)) {
             Some(task) => {
                 let name = subject.task(task);
                 words!(in alloc; "task {name}")?
@@ -301,7 +328,7 @@ fn unreached_advice(subject: &Subject, index: u32) -> Made<(Words, Help)> {
     let rest = names.filled(rest)?;
     names.put("rest", rest)?;
     let row = if is_alone { SLOT_UNREACHED } else { UNREACHED };
-    names.said(row, Vec::new(alloc))
+    names.said(row, changes)
 }
 
 /// What is said of a task that never runs: first of one that goes on into it without a stop, or returns to it.
@@ -319,20 +346,47 @@ fn never_running(subject: &Subject, task: u32) -> Made<(Words, Help)> {
         ));
     }
     let entry = entry_of(subject, task);
-    let Some(returns) = returning(subject, entry) else {
-        return names.said(NEVER_RUNS, Vec::new(alloc));
+    let call = entry.saturating_sub(1);
+    let is_returned = is_behind(subject, entry);
+    names.line("line", subject, call)?;
+    if let Some(jump) = missing_at(subject, entry) {
+        name_jump(subject, &mut names, jump)?;
+        return jumped_to(subject, names, jump, is_returned);
+    }
+    if is_returned {
+        return names.said(MAY_RETURN, Vec::new(alloc));
+    }
+    match leading_nowhere(subject) {
+        Some(jump) => {
+            name_jump(subject, &mut names, jump)?;
+            names.said(LISTS_NONE, Vec::new(alloc))
+        }
+        None => names.said(NEVER_RUNS, Vec::new(alloc)),
+    }
+}
+
+/// Adds the words of a jump by which a task leaves.
+fn name_jump(subject: &Subject, names: &mut Names, jump: &Jump) -> Made<()> {
+    names.add("returns", subject.task(jump.task))?;
+    names.add("jump", name_at(subject, jump.index))?;
+    names.line("from", subject, jump.index)
+}
+
+/// What is said of a task that never runs, to which a jump leads whose task does not list it: behind a call, which returns, or
+/// not.
+fn jumped_to(
+    subject: &Subject,
+    mut names: Names,
+    jump: &Jump,
+    is_returned: bool,
+) -> Made<(Words, Help)> {
+    let row = if is_returned { RETURNED_TO } else { JUMPED_TO };
+    let missing = missing_of(subject, jump.task)?;
+    let Some(Going { targets, changes }) = going_on(subject, jump.task, &missing)? else {
+        return names.said(MAY_RETURN, Vec::new(subject.alloc()));
     };
-    let mut targets = entries_listed(subject, returns)?;
-    targets.push(entry)?;
-    names.add("returns", subject.task(returns))?;
-    names.line("line", subject, entry.saturating_sub(1))?;
-    names.put("targets", places_words(subject, &targets)?)?;
-    let row = if subject.targets(returns).is_empty() {
-        LISTS_NONE
-    } else {
-        LISTS_OTHERS
-    };
-    names.fixed(row, subject.targets_span(returns))
+    names.put("fix", targets)?;
+    names.said(row, changes)
 }
 
 /// Where a task goes on into a target, and may end before it: the first instruction that does so, and the target.
@@ -516,9 +570,17 @@ fn all_remarks(alloc: Global, stops: &[StopRemark], list: &[CostlyMark]) -> Made
     Ok(remarks)
 }
 
+/// Both lists, one after the other.
+fn joined(mut first: Vec<Diagnostic>, mut second: Vec<Diagnostic>) -> Made<Vec<Diagnostic>>
+    ensures { IfOk result (λ all. all.items ≡ first.items ++ second.items) }
+{
+    first.append(&mut second)?;
+    Ok(first)
+}
+
 /// What could be better about the marks of the program that a text spells: where a stop or a way to a task may be
 /// forgotten, and which marks cost speed, of one create mask or one release all at once; of the first `MOST_SHOWN`,
-/// and how many more there are. `least` is the program's least certificate.
+/// and how many more there are; before that, where jumps to addresses in registers lead that is not listed. `least` is the program's least certificate.
 ///
 /// # Errors
 ///
@@ -538,7 +600,9 @@ pub fn mark_warnings(
     let stops = stop_remarks(&subject)?;
     let remarks = all_remarks(alloc, &stops, &list)?;
     let shown = first_of(&remarks, MOST_SHOWN);
-    let mut said = warnings(&subject, shown)?;
+    let warned = warnings(&subject, shown)?;
+    let jumps = jump_warnings(&subject)?;
+    let mut said = joined(warned, jumps)?;
     let count = remarks.len();
     let more = count.saturating_sub(MOST_SHOWN);
     add_more(alloc, &mut said, more, "warning", "warnings")?;

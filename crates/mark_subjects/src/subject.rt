@@ -6,6 +6,7 @@ use annotated_asm::fault::AsmFault;
 use annotated_asm::laws::map_fits;
 use annotated_asm::position::{SourceMap, Stretch};
 use annotated_asm::reading::source_map;
+use call_returns::returns::{Returns, returns_of};
 use diagnostics::diagnostic::Span;
 use diagnostics::words::Words;
 use mask_certificate::certificate::Cert;
@@ -33,6 +34,7 @@ pub struct Subject<'a> {
     names: Vec<Words>,
     no_index: bool,
     least: &'a Cert,
+    returns: Returns,
 }
 
 impl<'a> Model for Subject<'a> {
@@ -78,6 +80,7 @@ impl<'a> Subject<'a> {
         let labels = labels_of(alloc, &rows, &places.code)?;
         let names = names_in(alloc, &rows)?;
         let no_index = names_no_index(&rows);
+        let returns = returns_of(alloc, program, least)?;
         Ok(Subject {
             alloc,
             program,
@@ -87,6 +90,7 @@ impl<'a> Subject<'a> {
             names,
             no_index,
             least,
+            returns,
         })
     }
 
@@ -126,6 +130,11 @@ impl<'a> Subject<'a> {
     /// The lines of the text.
     pub fn rows(&self) -> &[&'a [u8]] {
         &self.rows
+    }
+
+    /// What is seen of the program's calls, and of where its jumps to addresses in registers lead.
+    pub fn returns(&self) -> &Returns {
+        &self.returns
     }
 
     /// Whether the text gives no place as @n, so that an instruction less moves none.

@@ -4,9 +4,26 @@
 pub(crate) const NOT_AN_ADDRESS: &str =
     "a word is a number, not the address of a label: load the address with la where it is used; for a jump table write a branch for each case, or compile with -fno-jump-tables";
 
+/// Of what a compiler writes for other machines than a plain MIPS I.
+const FOR_MIPS1: &str = "this is not of MIPS I: compile with -march=mips1 -mno-abicalls -fno-pic";
+
+/// Of what a compiler writes to find data and functions wherever they are loaded.
+const FOR_PIC: &str =
+    "leave it out, and compile with -march=mips1 -mno-abicalls -fno-pic: programs here stand at fixed addresses";
+
+/// Of a test for a divisor that is 0, or the like.
+const TRAP: &str =
+    "leave it out, or compile with -march=mips1 -mno-check-zero-division: nothing traps here by a test";
+
+/// Of what does nothing here.
+const IDLE: &str = "leave it out: it orders or hints at what a program here has no part in";
+
+/// Of what says nothing that a program here needs.
+const UNNEEDED: &str = "leave it out: nothing here needs it";
+
 /// Words of other assemblers, with what is written instead. rd, rs, rt and base are
 /// registers, n is a number, T a place in the code and NAME a label.
-const WORDS: [(&str, &str); 85] = [
+const WORDS: [(&str, &str); 122] = [
     ("add", "write addu rd,rs,rt"),
     ("addi", "write addiu rt,rs,n"),
     ("sub", "write subu rd,rs,rt"),
@@ -49,14 +66,38 @@ const WORDS: [(&str, &str); 85] = [
         "ror",
         "write srl $1,rs,n and sll rd,rs,32-n and or rd,rd,$1",
     ),
-    ("seq", "write xor rd,rs,rt and sltiu rd,rd,1"),
-    ("sne", "write xor rd,rs,rt and sltu rd,$0,rd"),
-    ("sgt", "write slt rd,rt,rs"),
-    ("sgtu", "write sltu rd,rt,rs"),
-    ("sge", "write slt rd,rs,rt and xori rd,rd,1"),
-    ("sgeu", "write sltu rd,rs,rt and xori rd,rd,1"),
-    ("sle", "write slt rd,rt,rs and xori rd,rd,1"),
-    ("sleu", "write sltu rd,rt,rs and xori rd,rd,1"),
+    (
+        "seq",
+        "write xor rd,rs,rt, or xori rd,rs,n for a number, and sltiu rd,rd,1",
+    ),
+    (
+        "sne",
+        "write xor rd,rs,rt, or xori rd,rs,n for a number, and sltu rd,$0,rd",
+    ),
+    (
+        "sgt",
+        "write slt rd,rt,rs, or for a number slti rd,rs,n+1 and xori rd,rd,1",
+    ),
+    (
+        "sgtu",
+        "write sltu rd,rt,rs, or for a number sltiu rd,rs,n+1 and xori rd,rd,1",
+    ),
+    (
+        "sge",
+        "write slt rd,rs,rt, or slti rd,rs,n for a number, and xori rd,rd,1",
+    ),
+    (
+        "sgeu",
+        "write sltu rd,rs,rt, or sltiu rd,rs,n for a number, and xori rd,rd,1",
+    ),
+    (
+        "sle",
+        "write slt rd,rt,rs and xori rd,rd,1, or for a number slti rd,rs,n+1",
+    ),
+    (
+        "sleu",
+        "write sltu rd,rt,rs and xori rd,rd,1, or for a number sltiu rd,rs,n+1",
+    ),
     ("beqz", "write beq rs,$0,T"),
     ("bnez", "write bne rs,$0,T"),
     (
@@ -175,11 +216,54 @@ const WORDS: [(&str, &str); 85] = [
         "syscall",
         "write out rs for a word, or halt to end the program",
     ),
-    ("break", "to end the program write halt"),
+    (
+        "break",
+        "leave it out: it is for a debugger, and does not end the program",
+    ),
+    ("inc", "write addiu rd,rd,1"),
+    ("dec", "write addiu rd,rd,-1"),
+    ("sync", IDLE),
+    ("synci", IDLE),
+    ("ssnop", IDLE),
+    ("ehb", IDLE),
+    ("pref", IDLE),
+    ("cache", IDLE),
+    ("wait", IDLE),
+    ("pause", IDLE),
+    (
+        "sdbbp",
+        "leave it out: it is for a debugger, and does not end the program",
+    ),
+    ("teq", TRAP),
+    ("tne", TRAP),
+    ("tge", TRAP),
+    ("tgeu", TRAP),
+    ("tlt", TRAP),
+    ("tltu", TRAP),
+    ("clz", FOR_MIPS1),
+    ("clo", FOR_MIPS1),
+    ("ext", FOR_MIPS1),
+    ("ins", FOR_MIPS1),
+    ("seb", FOR_MIPS1),
+    ("seh", FOR_MIPS1),
+    ("wsbh", FOR_MIPS1),
+    ("rotr", FOR_MIPS1),
+    ("rotrv", FOR_MIPS1),
+    ("madd", FOR_MIPS1),
+    ("maddu", FOR_MIPS1),
+    ("msub", FOR_MIPS1),
+    ("msubu", FOR_MIPS1),
+    ("lsa", FOR_MIPS1),
+    ("dsll", FOR_MIPS1),
+    ("dsrl", FOR_MIPS1),
+    ("dsra", FOR_MIPS1),
+    ("daddiu", FOR_MIPS1),
+    ("daddu", FOR_MIPS1),
+    ("dsubu", FOR_MIPS1),
 ];
 
 /// Directives of other assemblers, marks, and what is no token, with what is written instead.
-const SIGNS: [(&str, &str); 73] = [
+const SIGNS: [(&str, &str); 108] = [
     ("dw", "write .word"),
     ("db", "write .byte"),
     (".dw", "write .word"),
@@ -259,13 +343,13 @@ const SIGNS: [(&str, &str); 73] = [
     ),
     (".ent", "leave it out: .task says where a task begins"),
     (".end", "leave it out: the last line ends the program"),
-    (".file", "leave it out: nothing here needs it"),
-    (".ident", "leave it out: nothing here needs it"),
-    (".type", "leave it out: nothing here needs it"),
-    (".size", "leave it out: nothing here needs it"),
-    (".frame", "leave it out: nothing here needs it"),
-    (".mask", "leave it out: nothing here needs it"),
-    (".fmask", "leave it out: nothing here needs it"),
+    (".file", UNNEEDED),
+    (".ident", UNNEEDED),
+    (".type", UNNEEDED),
+    (".size", UNNEEDED),
+    (".frame", UNNEEDED),
+    (".mask", UNNEEDED),
+    (".fmask", UNNEEDED),
     (
         ".previous",
         "leave it out, or write .text, .data or .rodata",
@@ -315,6 +399,44 @@ const SIGNS: [(&str, &str); 73] = [
     (
         "\"",
         "a text has no strings: write .byte with the numbers of the letters",
+    ),
+    (".abicalls", FOR_PIC),
+    (".cpload", FOR_PIC),
+    (".cprestore", FOR_PIC),
+    (".cpsetup", FOR_PIC),
+    (".cpreturn", FOR_PIC),
+    (".cplocal", FOR_PIC),
+    (".option", FOR_PIC),
+    (".nan", UNNEEDED),
+    (".module", UNNEEDED),
+    (".gnu_attribute", UNNEEDED),
+    (".weak", UNNEEDED),
+    (".hidden", UNNEEDED),
+    (".local", UNNEEDED),
+    (".loc", UNNEEDED),
+    (".insn", UNNEEDED),
+    (".cfi_startproc", UNNEEDED),
+    (".cfi_endproc", UNNEEDED),
+    (".cfi_def_cfa_offset", UNNEEDED),
+    (".cfi_def_cfa", UNNEEDED),
+    (".cfi_def_cfa_register", UNNEEDED),
+    (".cfi_offset", UNNEEDED),
+    (".cfi_restore", UNNEEDED),
+    (".cfi_sections", UNNEEDED),
+    (".cfi_remember_state", UNNEEDED),
+    (".cfi_restore_state", UNNEEDED),
+    (".linkonce", UNNEEDED),
+    (".stabs", UNNEEDED),
+    (".stabn", UNNEEDED),
+    (".loc_mark_labels", UNNEEDED),
+    (".aent", UNNEEDED),
+    (".attribute", UNNEEDED),
+    (".subsection", UNNEEDED),
+    (".popsection", UNNEEDED),
+    (".pushsection", UNNEEDED),
+    (
+        ".p2align",
+        "write .space n with the n bytes that are missing to a multiple of 2, 4 or 8, for .p2align 1, 2 or 3; nothing if none is missing",
     ),
 ];
 
@@ -459,7 +581,7 @@ fn class_of(meant: &[u8]) -> &[u8] {
 }
 
 /// What stands in a table after this operand or its class: of this statement, of all with these operands, or of any.
-pub(crate) fn operand_row(
+fn operand_row(
     rows: &[((&'static str, &'static str), &'static str)],
     word: &[u8],
     form: &str,

@@ -1,7 +1,7 @@
 //! What is written instead of a line, in its own words.
 
 use crate::bytes::{byte_at, bytes_at, whole_word};
-use crate::foreign_words::{NOT_AN_ADDRESS, operand_row};
+use crate::foreign_words::NOT_AN_ADDRESS;
 use crate::line_place::{after_labels, shape_named};
 use crate::meant::span_at;
 use crate::rows::Reading;
@@ -9,13 +9,15 @@ use crate::shape::form_text;
 use crate::slices::after;
 use crate::strings::string_words;
 use diagnostics::quotation::as_shown;
+use diagnostics::words;
 use diagnostics::words::Words;
 use program_tokens::span::TokenSpan;
 use std::alloc::{AllocError, Global};
 
 // The tables: lines by the statement, or by all with these operands, or by any, and by the signs after the word: a number is
 // one of 0, a name one of a, and any other word one of its first byte. In a text A stands for the line's first word, B for
-// what comes next, and so on, ! for the line's marks, and $1 for a register that is free.
+// what comes next, and so on, ! for the line's marks, and $1 for a register that is free. Of a number ^F is one more, ~F the
+// number with the other sign, |F less 65536, and *B its product with the number two words on.
 
 /// Of addresses.
 const ADDRESSES: [((&str, &str), &str); 34] = [
@@ -89,7 +91,7 @@ const ADDRESSES: [((&str, &str), &str); 34] = [
 ];
 
 /// Of places and numbers.
-const PLACES_AND_NUMBERS: [((&str, &str), &str); 31] = [
+const PLACES_AND_NUMBERS: [((&str, &str), &str); 33] = [
     (
         (" LABEL", "a+0"),
         "a place is one label: give the instruction that is meant a label of its own",
@@ -166,17 +168,47 @@ const PLACES_AND_NUMBERS: [((&str, &str), &str); 31] = [
     (("", "a-a"), "a name has no -: write B_D"),
     (("", "$,a-a"), "a name has no -: write D_F"),
     (("", "$,$,a-a"), "a name has no -: write F_H"),
+    ((".space", "0*0"), "write A *B"),
+    ((".space", "0*0*0"), "write the product as one number"),
+];
+
+/// Of numbers that are out of a range: 6 stands for one of 32768 to 65535, 9 for one above, < for one below -32768.
+const WIDE: [((&str, &str), &str); 15] = [
+    (
+        ("addiu", "$,$,6"),
+        "write addiu B,D,|F!; for F itself li $1,F and addu B,D,$1!",
+    ),
+    (("addiu", "$,$,9"), "write li $1,F and addu B,D,$1!"),
+    (("addiu", "$,$,<"), "write li $1,F and addu B,D,$1!"),
+    (("slti", "$,$,6"), "write li $1,F and slt B,D,$1!"),
+    (("slti", "$,$,9"), "write li $1,F and slt B,D,$1!"),
+    (("slti", "$,$,<"), "write li $1,F and slt B,D,$1!"),
+    (("sltiu", "$,$,6"), "write li $1,F and sltu B,D,$1!"),
+    (("sltiu", "$,$,9"), "write li $1,F and sltu B,D,$1!"),
+    (("sltiu", "$,$,<"), "write li $1,F and sltu B,D,$1!"),
+    (("andi", "$,$,9"), "write li $1,F and and B,D,$1!"),
+    (("ori", "$,$,9"), "write li $1,F and or B,D,$1!"),
+    (("xori", "$,$,9"), "write li $1,F and xor B,D,$1!"),
+    (
+        (" $8,4($9)", "$,6($)"),
+        "write A B,|D(F)!; for D itself li $1,D and addu $1,$1,F and A B,0($1)!",
+    ),
+    (
+        (" $8,4($9)", "$,9($)"),
+        "write li $1,D and addu $1,$1,F and A B,0($1)!",
+    ),
+    (
+        (" $8,4($9)", "$,<($)"),
+        "write li $1,D and addu $1,$1,F and A B,0($1)!",
+    ),
 ];
 
 /// Of operands of another kind.
-const KINDS: [((&str, &str), &str); 36] = [
+const KINDS: [((&str, &str), &str); 62] = [
     (("addu", "$,$,0"), "write addiu B,D,F!"),
     (("addu", "$,$,-"), "write addiu B,D,F!"),
     (("subu", "$,$,0"), "write addiu B,D,-F!"),
-    (
-        ("subu", "$,$,-"),
-        "write addiu B,D,n!, where n is F without its -",
-    ),
+    (("subu", "$,$,-"), "write addiu B,D,~F!"),
     (("addiu", "$,$,$"), "write addu B,D,F!"),
     (("andi", "$,$,$"), "write and B,D,F!"),
     (("ori", "$,$,$"), "write or B,D,F!"),
@@ -209,22 +241,39 @@ const KINDS: [((&str, &str), &str); 36] = [
     (("jalr", "a"), "write jal B!"),
     (("mult", "$,$,$"), "write mult D,F and mflo B!"),
     (("multu", "$,$,$"), "write multu D,F and mflo B!"),
+    (("addu", "$,$"), "write addu B,B,D!"),
+    (("subu", "$,$"), "write subu B,B,D!"),
+    (("and", "$,$"), "write and B,B,D!"),
+    (("or", "$,$"), "write or B,B,D!"),
+    (("xor", "$,$"), "write xor B,B,D!"),
+    (("nor", "$,$"), "write nor B,B,D!"),
+    (("slt", "$,$"), "write slt B,B,D!"),
+    (("sltu", "$,$"), "write sltu B,B,D!"),
+    (("addiu", "$,0"), "write addiu B,B,D!"),
+    (("addiu", "$,-"), "write addiu B,B,D!"),
+    (("slti", "$,0"), "write slti B,B,D!"),
+    (("slti", "$,-"), "write slti B,B,D!"),
+    (("sltiu", "$,0"), "write sltiu B,B,D!"),
+    (("sltiu", "$,-"), "write sltiu B,B,D!"),
+    (("andi", "$,0"), "write andi B,B,D!"),
+    (("ori", "$,0"), "write ori B,B,D!"),
+    (("xori", "$,0"), "write xori B,B,D!"),
+    (("sll", "$,0"), "write sll B,B,D!"),
+    (("srl", "$,0"), "write srl B,B,D!"),
+    (("sra", "$,0"), "write sra B,B,D!"),
+    (("addu", "$,0"), "write addiu B,B,D!"),
+    (("addu", "$,-"), "write addiu B,B,D!"),
+    (("subu", "$,0"), "write addiu B,B,-D!"),
+    (("subu", "$,-"), "write addiu B,B,~D!"),
+    (("jal", "$,a"), "write jal D!"),
+    (("jalr", "$,a"), "write jal D!"),
 ];
 
 /// Of words of other assemblers.
-const OF_OTHERS: [((&str, &str), &str); 43] = [
-    (
-        ("sub", "$,$,-"),
-        "write addiu B,D,n!, where n is F without its -",
-    ),
-    (
-        ("subi", "$,$,-"),
-        "write addiu B,D,n!, where n is F without its -",
-    ),
-    (
-        ("subiu", "$,$,-"),
-        "write addiu B,D,n!, where n is F without its -",
-    ),
+const OF_OTHERS: [((&str, &str), &str); 103] = [
+    (("sub", "$,$,-"), "write addiu B,D,~F!"),
+    (("subi", "$,$,-"), "write addiu B,D,~F!"),
+    (("subiu", "$,$,-"), "write addiu B,D,~F!"),
     (("add", "$,$,$"), "write addu B,D,F!"),
     (("add", "$,$,0"), "write addiu B,D,F!"),
     (("add", "$,$,-"), "write addiu B,D,F!"),
@@ -265,16 +314,141 @@ const OF_OTHERS: [((&str, &str), &str); 43] = [
     (("bge", "$,0,a"), "write slti $1,B,D and beq $1,$0,F!"),
     (("bgt", "$,$,a"), "write slt $1,D,B and bne $1,$0,F!"),
     (("ble", "$,$,a"), "write slt $1,D,B and beq $1,$0,F!"),
+    (("sgt", "$,$,0"), "write slti B,D,^F and xori B,B,1!"),
+    (("sge", "$,$,0"), "write slti B,D,F and xori B,B,1!"),
+    (("sle", "$,$,0"), "write slti B,D,^F!"),
+    (("bgt", "$,0,a"), "write slti $1,B,^D and beq $1,$0,F!"),
+    (("ble", "$,0,a"), "write slti $1,B,^D and bne $1,$0,F!"),
+    (("sgt", "$,$,-"), "write slti B,D,^F and xori B,B,1!"),
+    (("sge", "$,$,-"), "write slti B,D,F and xori B,B,1!"),
+    (("sle", "$,$,-"), "write slti B,D,^F!"),
+    (("blt", "$,-,a"), "write slti $1,B,D and bne $1,$0,F!"),
+    (("bge", "$,-,a"), "write slti $1,B,D and beq $1,$0,F!"),
+    (("bgt", "$,-,a"), "write slti $1,B,^D and beq $1,$0,F!"),
+    (("ble", "$,-,a"), "write slti $1,B,^D and bne $1,$0,F!"),
+    (("sge", "$,$,$"), "write slt B,D,F and xori B,B,1!"),
+    (("sle", "$,$,$"), "write slt B,F,D and xori B,B,1!"),
+    (("sgtu", "$,$,$"), "write sltu B,F,D!"),
+    (("sgtu", "$,$,0"), "write sltiu B,D,^F and xori B,B,1!"),
+    (("sgeu", "$,$,0"), "write sltiu B,D,F and xori B,B,1!"),
+    (("sleu", "$,$,0"), "write sltiu B,D,^F!"),
+    (("bltu", "$,0,a"), "write sltiu $1,B,D and bne $1,$0,F!"),
+    (("bgeu", "$,0,a"), "write sltiu $1,B,D and beq $1,$0,F!"),
+    (("bgtu", "$,0,a"), "write sltiu $1,B,^D and beq $1,$0,F!"),
+    (("bleu", "$,0,a"), "write sltiu $1,B,^D and bne $1,$0,F!"),
+    (("sgtu", "$,$,-"), "write sltiu B,D,^F and xori B,B,1!"),
+    (("sgeu", "$,$,-"), "write sltiu B,D,F and xori B,B,1!"),
+    (("sleu", "$,$,-"), "write sltiu B,D,^F!"),
+    (("bltu", "$,-,a"), "write sltiu $1,B,D and bne $1,$0,F!"),
+    (("bgeu", "$,-,a"), "write sltiu $1,B,D and beq $1,$0,F!"),
+    (("bgtu", "$,-,a"), "write sltiu $1,B,^D and beq $1,$0,F!"),
+    (("bleu", "$,-,a"), "write sltiu $1,B,^D and bne $1,$0,F!"),
+    (("sgeu", "$,$,$"), "write sltu B,D,F and xori B,B,1!"),
+    (("sleu", "$,$,$"), "write sltu B,F,D and xori B,B,1!"),
+    (("bltu", "$,$,a"), "write sltu $1,B,D and bne $1,$0,F!"),
+    (("bgeu", "$,$,a"), "write sltu $1,B,D and beq $1,$0,F!"),
+    (("bgtu", "$,$,a"), "write sltu $1,D,B and bne $1,$0,F!"),
+    (("bleu", "$,$,a"), "write sltu $1,D,B and beq $1,$0,F!"),
+    (("seq", "$,$,0"), "write xori B,D,F and sltiu B,B,1!"),
+    (("seq", "$,$,-"), "write addiu B,D,~F and sltiu B,B,1!"),
+    (("sne", "$,$,0"), "write xori B,D,F and sltu B,$0,B!"),
+    (("sne", "$,$,-"), "write addiu B,D,~F and sltu B,$0,B!"),
+    (("negu", "$,$"), "write subu B,$0,D!"),
+    (("neg", "$"), "write subu B,$0,B!"),
+    (("negu", "$"), "write subu B,$0,B!"),
+    (("not", "$"), "write nor B,B,$0!"),
+    (("inc", "$"), "write addiu B,B,1!"),
+    (("dec", "$"), "write addiu B,B,-1!"),
+    (
+        ("abs", "$,$"),
+        "write sra $1,D,31 and xor B,D,$1 and subu B,B,$1!",
+    ),
+    (("nand", "$,$,$"), "write and B,D,F and nor B,B,$0!"),
+    (("xnor", "$,$,$"), "write xor B,D,F and nor B,B,$0!"),
+    (("mul", "$,$,0"), "write li $1,F and mult D,$1 and mflo B!"),
+    (("mul", "$,$,-"), "write li $1,F and mult D,$1 and mflo B!"),
+    (("mul", "$,$"), "write mult B,D and mflo B!"),
+    (("mulo", "$,$,0"), "write li $1,F and mult D,$1 and mflo B!"),
+    (("mulo", "$,$,-"), "write li $1,F and mult D,$1 and mflo B!"),
+    (("mulo", "$,$"), "write mult B,D and mflo B!"),
+    (
+        ("mulu", "$,$,0"),
+        "write li $1,F and multu D,$1 and mflo B!",
+    ),
+    (
+        ("mulu", "$,$,-"),
+        "write li $1,F and multu D,$1 and mflo B!",
+    ),
+    (("mulu", "$,$"), "write multu B,D and mflo B!"),
+    (
+        ("mulou", "$,$,0"),
+        "write li $1,F and multu D,$1 and mflo B!",
+    ),
+    (
+        ("mulou", "$,$,-"),
+        "write li $1,F and multu D,$1 and mflo B!",
+    ),
+    (("mulou", "$,$"), "write multu B,D and mflo B!"),
 ];
 
+/// The value of a digit.
+fn digit_of(byte: u8, is_hexadecimal: bool) -> Option<u32> {
+    if is_hexadecimal {
+        char::from(byte).to_digit(16)
+    } else {
+        char::from(byte).to_digit(10)
+    }
+}
+
+/// The number that digits spell, if it has 32 bits at most.
+fn magnitude_of(digits: &[u8], is_hexadecimal: bool) -> Option<u32> {
+    let base = if is_hexadecimal { 16 } else { 10 };
+    let mut value: u32 = 0;
+    for byte in digits {
+        let digit = digit_of(*byte, is_hexadecimal)?;
+        value = value.checked_mul(base)?.checked_add(digit)?;
+    }
+    Some(value)
+}
+
+/// The number that a word spells, if it has 32 bits and a sign at most.
+fn number_of(word: &[u8]) -> Option<i64> {
+    let value = match word {
+        [b'-', b'0', b'x', digits @ ..] | [b'0', b'x', digits @ ..] => magnitude_of(digits, true)?,
+        [b'-', digits @ ..] => magnitude_of(digits, false)?,
+        _ => magnitude_of(word, false)?,
+    };
+    let value = i64::from(value);
+    Some(match word {
+        [b'-', ..] => -value,
+        _ => value,
+    })
+}
+
+/// The sign of a number: of some that are out of a range one of their own, where that is asked for.
+fn number_sign(word: &[u8], first: u8, is_wide: bool) -> u8 {
+    match number_of(word) {
+        Some(number) if is_wide && number > 65_535 => b'9',
+        Some(number) if is_wide && number > 32_767 => b'6',
+        Some(number) if is_wide && number < -32_768 => b'<',
+        _ if first == b'-' => b'-',
+        _ => b'0',
+    }
+}
+
 /// The signs of some words of a line, up to a mark, or to the first colon.
-fn signs(alloc: Global, line: &[u8], places: &[TokenSpan]) -> Result<Vec<u8>, AllocError> {
+fn signs(
+    alloc: Global,
+    line: &[u8],
+    places: &[TokenSpan],
+    is_wide: bool,
+) -> Result<Vec<u8>, AllocError> {
     let mut list = Vec::new(alloc);
     for place in places {
         let first = byte_at(line, *place);
         let sign = match first {
             b'!' => return Ok(list),
-            b'0'..=b'9' => b'0',
+            b'0'..=b'9' | b'-' => number_sign(bytes_at(line, *place), first, is_wide),
             b'_' | b'a'..=b'z' | b'A'..=b'Z' => b'a',
             _ => first,
         };
@@ -297,25 +471,52 @@ fn add_marks(bytes: &mut Vec<u8>, line: &[u8], places: &[TokenSpan]) -> Result<(
     Ok(())
 }
 
-/// A text in the words of a line.
+/// A number that is reckoned from one of a line, by the sign before its letter; `None` where none comes out that an
+/// instruction may have.
+fn reckoned(line: &[u8], places: &[TokenSpan], sign: u8, at: usize) -> Option<i64> {
+    let number = number_of(bytes_at(line, span_at(places, at)))?;
+    match sign {
+        b'^' if number < 32_767 => number.checked_add(1),
+        b'~' => 0i64.checked_sub(number),
+        b'|' => number.checked_sub(65_536),
+        b'*' => {
+            let other = number_of(bytes_at(line, span_at(places, at.saturating_add(2))))?;
+            number.checked_mul(other)
+        }
+        _ => None,
+    }
+}
+
+/// A text in the words of a line; `None` where a number does not come out.
 fn in_its_words(
     alloc: Global,
     line: &[u8],
     places: &[TokenSpan],
     text: &[u8],
-) -> Result<Words, AllocError> {
+) -> Result<Option<Words>, AllocError> {
     let mut bytes = Vec::new(alloc);
+    let mut sign = b' ';
     for letter in text {
         match *letter {
             b'!' => add_marks(&mut bytes, line, places)?,
+            b'^' | b'~' | b'|' | b'*' => {}
             b'A'..=b'Z' => {
-                let place = span_at(places, usize::from(letter.saturating_sub(b'A')));
-                bytes.extend_from_slice(bytes_at(line, place))?;
+                let at = usize::from(letter.saturating_sub(b'A'));
+                if matches!(sign, b'^' | b'~' | b'|' | b'*') {
+                    let Some(number) = reckoned(line, places, sign, at) else {
+                        return Ok(None);
+                    };
+                    let number = words!(in alloc; "{number}")?;
+                    bytes.extend_from_slice(number.as_str().as_bytes())?;
+                } else {
+                    bytes.extend_from_slice(bytes_at(line, span_at(places, at)))?;
+                }
             }
             other => bytes.push(other)?,
         }
+        sign = *letter;
     }
-    as_shown(alloc, &bytes)
+    Ok(Some(as_shown(alloc, &bytes)?))
 }
 
 /// Whether a line has the register that texts write for one that is free.
@@ -332,24 +533,41 @@ fn is_constant(word: &[u8], signs: &[u8]) -> bool {
     is_name && (signs == "=0".as_bytes() || signs == "=-".as_bytes())
 }
 
+/// What stands in a table of this statement, of all with these operands, or of any, and of these signs.
+fn row_of_signs(
+    rows: &[((&'static str, &'static str), &'static str)],
+    word: &[u8],
+    form: &str,
+    signs: &[u8],
+) -> Option<&'static str> {
+    for ((first, second), text) in rows {
+        let name = first.as_bytes();
+        let is_of = first.is_empty() || name == word || name == form.as_bytes();
+        if is_of && second.as_bytes() == signs {
+            return Some(*text);
+        }
+    }
+    None
+}
+
 /// What is written instead of a line by its address.
 fn address_row(word: &[u8], form: &str, signs: &[u8]) -> Option<&'static str> {
-    operand_row(&ADDRESSES, word, form, signs)
+    row_of_signs(&ADDRESSES, word, form, signs)
 }
 
 /// What is written instead of a line by its places and numbers.
 fn number_row(word: &[u8], form: &str, signs: &[u8]) -> Option<&'static str> {
-    operand_row(&PLACES_AND_NUMBERS, word, form, signs)
+    row_of_signs(&PLACES_AND_NUMBERS, word, form, signs)
 }
 
 /// What is written instead of a line by operands of another kind.
 fn kind_row(word: &[u8], form: &str, signs: &[u8]) -> Option<&'static str> {
-    operand_row(&KINDS, word, form, signs)
+    row_of_signs(&KINDS, word, form, signs)
 }
 
 /// What is written instead of a line with a word of another assembler.
 fn foreign_row(word: &[u8], form: &str, signs: &[u8]) -> Option<&'static str> {
-    operand_row(&OF_OTHERS, word, form, signs)
+    row_of_signs(&OF_OTHERS, word, form, signs)
 }
 
 /// What is written instead of a line with this word and these signs, if it is known.
@@ -369,6 +587,13 @@ fn line_instead(word: &[u8], form: &str, signs: &[u8]) -> Option<&'static str> {
     }
 }
 
+/// Whether a text names the register that is free.
+fn takes_register_one(text: &str) -> bool {
+    text.as_bytes()
+        .windows(2)
+        .any(|two| matches!(two, [b'$', b'1']))
+}
+
 /// What is written instead of a line, in its own words, if it is known.
 ///
 /// # Errors
@@ -384,12 +609,16 @@ pub fn own_words(
     if let Some(words) = string_words(alloc, word, line)? {
         return Ok(Some(words));
     }
-    if has_register_one(line, places) {
-        return Ok(None);
-    }
-    let signs = signs(alloc, line, after(places, 1))?;
-    match line_instead(word, form_text(shape_named(word)), &signs) {
-        Some(text) => Ok(Some(in_its_words(alloc, line, places, text.as_bytes())?)),
+    let rest = after(places, 1);
+    let form = form_text(shape_named(word));
+    let wide = row_of_signs(&WIDE, word, form, &signs(alloc, line, rest, true)?);
+    let text = match wide {
+        Some(text) => Some(text),
+        None => line_instead(word, form, &signs(alloc, line, rest, false)?),
+    };
+    match text {
+        Some(text) if takes_register_one(text) && has_register_one(line, places) => Ok(None),
+        Some(text) => in_its_words(alloc, line, places, text.as_bytes()),
         None => Ok(None),
     }
 }

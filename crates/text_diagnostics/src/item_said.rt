@@ -7,7 +7,7 @@ use crate::mistake::{Kind, Limit, Mistake, UsedAs};
 use crate::names::{near_label, start_name};
 use crate::place::{Seen, item_span, span_in};
 use diagnostics::code::Code;
-use diagnostics::diagnostic::{Diagnostic, Note, Severity, Source, Span};
+use diagnostics::diagnostic::{Diagnostic, Help, Note, Severity, Source, Span};
 use diagnostics::listed::Listed;
 use diagnostics::quotation::quoted;
 use diagnostics::words::Words;
@@ -188,6 +188,26 @@ fn chosen(given: &Given<'_>, item: &Item, kind: Kind, name: &[u8]) -> Made<(Row,
     Ok((mend(row.says, "did you mean {said}?", "{said}"), said))
 }
 
+/// What to do where the program starts at a place where no task begins: a line behind the item's, which lets one begin.
+fn task_help(given: &Given<'_>, item: &Item, row: Row, words: &[(&str, Words)]) -> Made<Help> {
+    let width = line_at(given.rows, item.line).len();
+    let behind = Place {
+        column: width.saturating_add(1),
+        len: 0,
+    };
+    let is_named = words
+        .iter()
+        .any(|word| word.0 == "said" && !word.1.as_str().is_empty());
+    let fix = if is_named {
+        Some("\n.task {said} create=- targets=-")
+    } else {
+        None
+    };
+    let Row { says, help, .. } = row;
+    let row = Row { says, help, fix };
+    row.help(given.alloc, span_in(item.line, behind), words)
+}
+
 /// The diagnostic for a mistake of an item that can be read.
 pub(crate) fn item_error(
     given: &Given<'_>,
@@ -214,6 +234,10 @@ pub(crate) fn item_error(
         _ => span,
     };
     let words = [("name", quoted(given.alloc, name)?), ("said", said)];
+    let help = match kind {
+        Kind::NoTaskThere => task_help(given, item, row, &words)?,
+        _ => row.help(given.alloc, written, &words)?,
+    };
     Ok(Diagnostic {
         severity: Severity::Error,
         code: code_of(kind),
@@ -221,6 +245,6 @@ pub(crate) fn item_error(
         span: Some(span),
         message: filled(given.alloc, row.says, &words)?,
         notes: Listed::new(notes_of(given, mistake)?),
-        help: Some(row.help(given.alloc, written, &words)?),
+        help: Some(help),
     })
 }

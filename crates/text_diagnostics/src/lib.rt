@@ -4,6 +4,7 @@
 
 mod advice;
 mod comment;
+mod compiled;
 mod detail;
 mod faulty_line;
 mod firsts;

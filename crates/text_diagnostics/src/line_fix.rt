@@ -12,6 +12,7 @@ use diagnostics::words::Words;
 use operand_forms::bytes::{byte_at, bytes_at};
 use operand_forms::candidates::candidates;
 use operand_forms::line_fault::LineFaultKind;
+use operand_forms::slices::{after, first};
 use program_tokens::span::TokenSpan as Place;
 
 /// The most bytes that are written anew at the end of a line, as much as a message quotes.
@@ -35,6 +36,26 @@ fn with_commas(wrong: &FaultyLine<'_>) -> Made<Option<Vec<u8>>> {
     one.extend_from_slice(wrong.meant())?;
     let is_one = wrong.reads_with(wrong.place, &one)?;
     Ok(if is_one { None } else { Some(text) })
+}
+
+/// What stands from the place on without the commas before marks, where it begins with one, and one space does not do.
+fn without_mark_commas(wrong: &FaultyLine<'_>) -> Made<Option<Vec<u8>>> {
+    if wrong.first() != b',' || wrong.reads_with(wrong.place, b" ")? {
+        return Ok(None);
+    }
+    let mut text = Vec::new(wrong.alloc);
+    for place in wrong.reading.places.as_slice() {
+        match byte_at(wrong.line, *place) {
+            _ if place.column < wrong.place.column => {}
+            b',' => {}
+            b'!' => {
+                text.push(b' ')?;
+                text.extend_from_slice(bytes_at(wrong.line, *place))?;
+            }
+            _ => return Ok(None),
+        }
+    }
+    Ok(Some(text))
 }
 
 /// What stands from the place on without braces, in a statement with lists.
@@ -71,7 +92,60 @@ fn judged(wrong: &FaultyLine<'_>, text: &[u8]) -> Made<Option<Words>>
     Ok(None)
 }
 
-/// What is to stand from a line's place on to its end: operands with all their commas, or lists without braces.
+/// Whether a name with dots may have this byte.
+fn is_dotted(byte: u8) -> bool {
+    matches!(byte, b'.' | b'_' | b'0'..=b'9' | b'a'..=b'z' | b'A'..=b'Z')
+}
+
+/// The name with dots that stands where a line is wrong, if one does.
+fn dotted_place(wrong: &FaultyLine<'_>) -> Option<Place> {
+    let at = wrong.place.column.saturating_sub(1);
+    let before = first(wrong.line, at);
+    let front = before
+        .iter()
+        .rev()
+        .take_while(|byte| is_dotted(**byte))
+        .count();
+    let begin = at.saturating_sub(front);
+    let rest = after(wrong.line, begin);
+    let len = rest.iter().take_while(|byte| is_dotted(**byte)).count();
+    let name = first(rest, len);
+    let begins = matches!(name, [b'_' | b'a'..=b'z' | b'A'..=b'Z', ..]);
+    (begins && name.contains(&b'.')).then_some(Place {
+        column: begin.saturating_add(1),
+        len,
+    })
+}
+
+/// A name with dots, and what is to stand in its place: the name with `_` for each dot.
+pub(crate) fn dotted_fix(wrong: &FaultyLine<'_>) -> Made<Option<(Place, Words)>>
+    ensures { IfOk result (λ fix. IfSome fix (λ found. mends wrong.now.kind wrong.now.section wrong.now.line.now found.0 found.1 ≡ true)) }
+{
+    let Some(place) = dotted_place(wrong) else {
+        return Ok(None);
+    };
+    let mut text = Vec::new(wrong.alloc);
+    for byte in bytes_at(wrong.line, place) {
+        text.push(if *byte == b'.' { b'_' } else { *byte })?;
+    }
+    let words = as_shown(wrong.alloc, &text)?;
+    let FaultyLine {
+        alloc,
+        kind,
+        section,
+        line,
+        ..
+    } = *wrong;
+    let text = words.as_str().as_bytes();
+    if mends(alloc, kind, section, line, place, text)? {
+        Ok(Some((place, words)))
+    } else {
+        Ok(None)
+    }
+}
+
+/// What is to stand from a line's place on to its end: operands with all their commas, marks without commas, or lists without
+/// braces.
 pub(crate) fn rest_fix(wrong: &FaultyLine<'_>, rest: Place) -> Made<Option<Words>>
     ensures { IfOk result (λ fix. IfSome fix (λ words. mends wrong.now.kind wrong.now.section wrong.now.line.now rest words ≡ true)) }
 {
@@ -79,7 +153,10 @@ pub(crate) fn rest_fix(wrong: &FaultyLine<'_>, rest: Place) -> Made<Option<Words
         return Ok(None);
     }
     let text = match wrong.kind {
-        LineFaultKind::Operand => with_commas(wrong)?,
+        LineFaultKind::Operand => match with_commas(wrong)? {
+            Some(text) => Some(text),
+            None => without_mark_commas(wrong)?,
+        },
         LineFaultKind::Token => without_braces(wrong)?,
         _ => None,
     };

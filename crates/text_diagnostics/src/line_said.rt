@@ -7,7 +7,7 @@ ghost use Rattle.text_diagnostics.specs.Mending.{Mends};
 use crate::advice::{Made, filled};
 use crate::comment::comment_words;
 use crate::faulty_line::FaultyLine;
-use crate::line_fix::{fixes, rest_fix};
+use crate::line_fix::{dotted_fix, fixes, rest_fix};
 use crate::place::span_in;
 use diagnostics::diagnostic::Help;
 use diagnostics::helps::{by_text, in_words};
@@ -217,9 +217,10 @@ fn fix_row(text: &[u8]) -> &'static str {
 }
 
 /// The help that says what is to stand from a place on to the end of the line.
-fn rest_row(kind: LineFaultKind) -> &'static str {
-    match kind {
-        LineFaultKind::Operand => "one comma separates two operands: write {fix}",
+fn rest_row(kind: LineFaultKind, text: &[u8]) -> &'static str {
+    match (kind, text) {
+        (LineFaultKind::Operand, [b' ', ..]) => "no comma stands before a mark: write{fix}",
+        (LineFaultKind::Operand, _) => "one comma separates two operands: write {fix}",
         _ => "lists have no braces: write {fix}",
     }
 }
@@ -245,9 +246,18 @@ pub(crate) fn line_help(number: u32, wrong: &FaultyLine<'_>) -> Made<Help>
     ensures { IfOk result (λ help. All (Mends wrong.now.kind wrong.now.section wrong.now.line.now) help.replacements) }
 {
     let alloc = wrong.alloc;
+    if let Some((place, text)) = dotted_fix(wrong)? {
+        let row = "a name has no dots: write {fix}, here and wherever it stands";
+        let message = fix_words(wrong, row, text.as_str())?;
+        return by_text(alloc, message, span_in(number, place), text);
+    }
     let rest = wrong.rest();
     if let Some(text) = rest_fix(wrong, rest)? {
-        let message = fix_words(wrong, rest_row(wrong.kind), text.as_str())?;
+        let message = fix_words(
+            wrong,
+            rest_row(wrong.kind, text.as_str().as_bytes()),
+            text.as_str(),
+        )?;
         return by_text(alloc, message, span_in(number, rest), text);
     }
     let texts = fixes(wrong)?;

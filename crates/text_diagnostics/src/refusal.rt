@@ -7,6 +7,7 @@ ghost use Rattle.text_diagnostics.specs.Mending.{IsLineError};
 ghost use Rattle.text_diagnostics.specs.Refusals.{build_code, told_as, token_in, token_of, is_on, is_at, is_error, is_of_program, tells, IsTold, AreTextErrors};
 
 use crate::advice::{Made, filled};
+use crate::compiled::{compiled_note, in_short};
 use crate::faulty_line::FaultyLine;
 use crate::given::{Given, known_in};
 use crate::item::{Item, Said};
@@ -140,10 +141,18 @@ fn told(alloc: Global, rows: &[&[u8]]) -> Made<Vec<Diagnostic>> {
     let found = mistakes(&given)?;
     let mut list = Vec::new(alloc);
     let mut seen = Seen::new(&given);
+    let compiled = compiled_note(alloc, rows)?;
     for mistake in first(&found, MOST_SHOWN) {
         if let Some(item) = items.get(mistake.item) {
-            list.push(error_in(&given, &mut seen, mistake, item)?)?;
+            let mut said = error_in(&given, &mut seen, mistake, item)?;
+            if compiled.is_some() {
+                in_short(&mut said);
+            }
+            list.push(said)?;
         }
+    }
+    if let Some(note) = compiled {
+        list.push(note)?;
     }
     if known.is_read && !known.has_task {
         list.push(no_task(&given)?)?;

@@ -3,6 +3,7 @@ use Rattle.std.proofs.Common.{◌≡◌, ◌-◌, List, ◌++◌, map, take, len
 use Rattle.std.specs.Prelude.{codes}
 use Rattle.std.specs.List.{AllZip}
 use Rattle.finding_paths.specs.declared.mark.CostlyMark.{CostlyMark}
+use Rattle.diagnostics.specs.declared.diagnostic.Diagnostic.{Diagnostic}
 use Rattle.exit_diagnostics.specs.declared.remark.Remark.{Remark}
 use Rattle.exit_diagnostics.specs.declared.remark.Remark.TheVariants.{Stop}
 use Rattle.exit_diagnostics.specs.declared.remark.StopRemark.{StopRemark}
@@ -32,7 +33,11 @@ returns c =
       of_least = c.in_ok-subject.ensures.least;
       list = list;
       costly = c.in_ok-list.ensures;
-      first = c.in_ok-said.said.items;
-      warned = subst (λ (rs : List Remark). AllZip (Warns s) rs c.in_ok-said.said.items) first c.in_ok-said.ensures;
-      is = c.in_ok-add_more.ensures ∙ ap (λ n. c.in_ok-said.said.items ++ more_note n (codes "warning") (codes "warnings")) more;
+      first = c.in_ok-warned.warned.items;
+      warned = subst (λ (rs : List Remark). AllZip (Warns s) rs c.in_ok-warned.warned.items) first c.in_ok-warned.ensures;
+      jumps = c.in_ok-jumps.jumps.items;
+      jumping = c.in_ok-jumps.ensures;
+      is = c.in_ok-add_more.ensures
+          ∙ ap (λ (ds : List Diagnostic). ds ++ more_note c.saturating_sub-more.result (codes "warning") (codes "warnings")) c.in_ok-said.ensures
+          ∙ ap (λ n. (c.in_ok-warned.warned.items ++ c.in_ok-jumps.jumps.items) ++ more_note n (codes "warning") (codes "warnings")) more;
     }

@@ -1,0 +1,9 @@
+//! Where jumps to addresses in registers lead, as far as a walk over the calls sees it: to which calls a `jr` comes back. What
+//! it finds is a proposal. No contract says that it is so, since nothing rests on it.
+#![tactic(auto)]
+
+mod function;
+mod held;
+pub mod returns;
+mod state;
+mod walk;

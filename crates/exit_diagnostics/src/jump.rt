@@ -1,0 +1,387 @@
+//! What is said of jumps to addresses in registers: where they lead that is no target, and targets to which no call returns.
+
+ghost use Rattle.std.specs.Prelude.{◌≡◌, true, IfOk, IfSome, OnOk};
+ghost use Rattle.std.specs.List.{All};
+ghost use Rattle.exit_diagnostics.specs.Jumps.{IsOfJump, is_jump_code};
+
+use crate::advice::{Names, Row};
+use crate::call::back;
+use crate::exit::is_taken;
+use crate::going::{Going, going_on, name_of};
+use crate::returning::coming_back;
+use crate::stop::never_runs;
+use call_returns::returns::Jump;
+use diagnostics::code::Code;
+use diagnostics::diagnostic::{Diagnostic, Help, Replacement, Severity, Source, Span};
+use diagnostics::listed::Listed;
+use diagnostics::words;
+use diagnostics::words::Words;
+use mark_subjects::parts::places_words;
+use mark_subjects::subject::{Made, Subject, is_end};
+use mark_subjects::targets::{entries_listed, is_among};
+
+const NOT_LISTED: Row = Row {
+    says: "task {task} does not list {places}, where its {jump} on line {line} leads{back}",
+    help: "write {fix}{tasks}",
+    fix: "targets={targets}",
+};
+
+const BEYOND_LISTS: &str =
+    "a task has at most 16 targets, and begins at a label: give each of these places one, or let fewer calls return here";
+
+const NO_TARGET: Row = Row {
+    says: "task {task} ends in the {jump} on line {line}, and lists no target",
+    help: "list the places to which it leads",
+    fix: "",
+};
+
+const UNCALLED: Row = Row {
+    says: "task {task} ends in the {jump} on line {line}, though no call came here: the register holds what it held at the start",
+    help: "if the program ends here, write halt",
+    fix: "halt",
+};
+
+const NO_RETURN: Row = Row {
+    says: "no call returns to {places} from task {task}, which lists it",
+    help: "write {fix}",
+    fix: "targets={targets}",
+};
+
+/// What a warning is an instance of.
+#[derive(Clone, Copy)]
+pub enum JumpKind {
+    NotListed,
+    NoReturn,
+}
+
+/// What is said of where the jumps of a task lead.
+#[derive(Drop)]
+struct JumpSaid {
+    kind: JumpKind,
+    span: Span,
+    message: Words,
+    help: Help,
+}
+
+/// The word of an instruction.
+pub fn name_at(subject: &Subject, index: u32) -> &'static str {
+    match subject.code().get(index as usize) {
+        Some(marked) => marked.op.name(),
+        None => "",
+    }
+}
+
+/// A jump, as a task reaches it.
+pub fn jump_of<'a>(subject: &'a Subject, task: u32, index: u32) -> Option<&'a Jump> {
+    let jumps = subject.returns().jumps();
+    jumps
+        .iter()
+        .find(|jump| jump.task == task && jump.index == index)
+}
+
+/// Whether a place is directly behind a call.
+pub fn is_behind(subject: &Subject, place: u32) -> bool {
+    is_end(back(subject, place.saturating_sub(1)), place)
+}
+
+/// Whether a jump is seen to lead to a place which its task does not list.
+fn lacks(subject: &Subject, jump: &Jump, place: u32) -> bool {
+    jump.places.contains(&place) && !is_among(subject.targets(jump.task), place)
+}
+
+/// The jump that is seen to lead to a place which its task does not list: behind a call, first that of the task which comes
+/// back from it.
+pub fn missing_at<'a>(subject: &'a Subject, place: u32) -> Option<&'a Jump> {
+    let jumps = subject.returns().jumps();
+    let coming = if is_behind(subject, place) {
+        coming_back(subject, place.saturating_sub(1))
+    } else {
+        None
+    };
+    let first = jumps.iter().find(|jump| lacks(subject, jump, place) && is_end(coming, jump.task));
+    match first {
+        Some(jump) => Some(jump),
+        None => jumps.iter().find(|jump| lacks(subject, jump, place)),
+    }
+}
+
+/// The first jump by which a task leaves that lists no target, where it is not seen where that leads.
+pub fn leading_nowhere<'a>(subject: &'a Subject) -> Option<&'a Jump> {
+    let jumps = subject.returns().jumps();
+    jumps.iter().find(|jump| subject.targets(jump.task).is_empty() && !jump.is_whole)
+}
+
+/// Adds those places of a jump that its task does not list.
+pub fn add_missing(subject: &Subject, jump: &Jump, missing: &mut Vec<u32>) -> Made<()> {
+    for place in &jump.places {
+        if !is_among(subject.targets(jump.task), *place) && !missing.contains(place) {
+            missing.push(*place)?;
+        }
+    }
+    Ok(())
+}
+
+/// The places to which the jumps of a task are seen to lead, and which it does not list.
+pub fn missing_of(subject: &Subject, task: u32) -> Made<Vec<u32>> {
+    let mut missing = Vec::new(subject.alloc());
+    for jump in subject.returns().jumps() {
+        if jump.task == task {
+            add_missing(subject, jump, &mut missing)?;
+        }
+    }
+    Ok(missing)
+}
+
+/// Whether a task reaches an instruction.
+fn is_reached(subject: &Subject, index: u32) -> bool {
+    let program = subject.program();
+    (0..program.tasks().len() as u32).any(|task| subject.mask(task, index).is_some())
+}
+
+/// Whether it is said of a place that no task comes to it: of the task that begins there, which never runs, or of the code behind
+/// a call; and so that this task does not list it.
+fn is_told(subject: &Subject, task: u32, place: u32) -> bool {
+    let is_lost = match subject.task_at(place) {
+        Some(other) => never_runs(subject, other),
+        None => is_behind(subject, place) && !is_reached(subject, place),
+    };
+    is_lost && missing_at(subject, place).is_some_and(|jump| jump.task == task)
+}
+
+/// The calls that return to some places, in words.
+pub fn back_words(subject: &Subject, jump: &Jump, places: &[u32]) -> Made<Words> {
+    let alloc = subject.alloc();
+    let mut lines = String::new(alloc);
+    let mut count = 0;
+    for place in places {
+        if jump.places.contains(place) && is_behind(subject, *place) {
+            let line = subject.span(place.saturating_sub(1)).line;
+            let comma = if lines.is_empty() { "" } else { "," };
+            write!(lines, "{comma}{line}")?;
+            count = places.len().min(if comma.is_empty() { 1 } else { 2 });
+        }
+    }
+    match count {
+        0 => Words::of(alloc, ""),
+        1 => words!(in alloc; ": the call on line {lines} returns there"),
+        _ => words!(in alloc; ": the calls on lines {lines} return there"),
+    }
+}
+
+/// The words of what is said of a jump.
+fn names_of(subject: &Subject, jump: &Jump) -> Made<Names> {
+    let mut names = Names::of_task(subject, jump.task)?;
+    names.line("line", subject, jump.index)?;
+    names.add("jump", name_at(subject, jump.index))?;
+    Ok(names)
+}
+
+/// In words, that tasks have to begin at some places.
+fn tasks_words(subject: &Subject, places: &[u32]) -> Made<Words> {
+    let alloc = subject.alloc();
+    let mut text = String::new(alloc);
+    for place in places {
+        if !subject.is_entry(*place) {
+            let name = name_of(subject, *place)?;
+            write!(text, ", and add a line .task {name} create=- targets=-")?;
+        }
+    }
+    Ok(Words::new(text))
+}
+
+/// What is said of places that a task does not list, to which this jump of it leads among others.
+fn missing_said(subject: &Subject, jump: &Jump, missing: &[u32]) -> Made<JumpSaid> {
+    let mut names = names_of(subject, jump)?;
+    names.put("places", places_words(subject, missing)?)?;
+    names.put("back", back_words(subject, jump, missing)?)?;
+    names.put("tasks", tasks_words(subject, missing)?)?;
+    let help = match going_on(subject, jump.task, missing)? {
+        Some(Going { targets, changes }) => {
+            names.put("fix", targets)?;
+            names.help(NOT_LISTED.help, changes)?
+        }
+        None => names.advice(BEYOND_LISTS)?,
+    };
+    Ok(JumpSaid {
+        kind: JumpKind::NotListed,
+        span: subject.targets_span(jump.task),
+        message: names.filled(NOT_LISTED.says)?,
+        help,
+    })
+}
+
+/// To write `halt` in place of a jump.
+pub fn halt_help(subject: &Subject, index: u32, names: &Names) -> Made<Help> {
+    let mut changes = Vec::new(subject.alloc());
+    changes.push(Replacement {
+        span: subject.span(index),
+        text: Words::of(subject.alloc(), UNCALLED.fix)?,
+    })?;
+    names.help(UNCALLED.help, changes)
+}
+
+/// What is said of a jump by which a task leaves that lists no target, or to which no call came.
+fn ending_said(subject: &Subject, jump: &Jump) -> Made<JumpSaid> {
+    let names = names_of(subject, jump)?;
+    let (row, help) = if jump.is_uncalled {
+        (UNCALLED, halt_help(subject, jump.index, &names)?)
+    } else {
+        (NO_TARGET, names.advice(NO_TARGET.help)?)
+    };
+    Ok(JumpSaid {
+        kind: JumpKind::NotListed,
+        span: subject.targets_span(jump.task),
+        message: names.filled(row.says)?,
+        help,
+    })
+}
+
+/// Whether a jump of a task may lead to a place, as far as it is seen: it does, or not all is seen.
+fn may_lead(subject: &Subject, jump: &Jump, place: u32) -> bool {
+    let call = place.saturating_sub(1);
+    !jump.is_whole
+        || jump.places.contains(&place)
+        || (is_behind(subject, place) && !subject.returns().has_seen_call(call))
+}
+
+/// Whether a jump to an address in a register takes a task to a place, as far as it is seen.
+fn may_jump(subject: &Subject, task: u32, place: u32) -> bool {
+    let jumps = subject.returns().jumps();
+    jumps
+        .iter()
+        .any(|jump| jump.task == task && may_lead(subject, jump, place))
+}
+
+/// Whether a task may go on to a place.
+pub(crate) fn may_go_on(subject: &Subject, task: u32, place: u32) -> bool {
+    is_taken(subject, task, place) || may_jump(subject, task, place)
+}
+
+/// What is said of targets of a task to which no call returns, if there are such.
+fn unused_said(subject: &Subject, task: u32) -> Made<Option<JumpSaid>> {
+    let alloc = subject.alloc();
+    let listed = entries_listed(subject, task)?;
+    let is_unused = |place: u32| !may_go_on(subject, task, place);
+    let unused: Vec<u32> = listed
+        .iter()
+        .copied()
+        .filter(|place| is_unused(*place))
+        .collect(alloc)?;
+    if unused.is_empty() {
+        return Ok(None);
+    }
+    let kept: Vec<u32> = listed
+        .iter()
+        .copied()
+        .filter(|place| !is_unused(*place))
+        .collect(alloc)?;
+    let mut names = Names::of_task(subject, task)?;
+    names.put("places", places_words(subject, &unused)?)?;
+    names.put("targets", places_words(subject, &kept)?)?;
+    let (message, help) = names.fixed(NO_RETURN, subject.targets_span(task))?;
+    Ok(Some(JumpSaid {
+        kind: JumpKind::NoReturn,
+        span: subject.targets_span(task),
+        message,
+        help,
+    }))
+}
+
+/// The places that a task does not list, of those that are not said of tasks that never run.
+fn untold(subject: &Subject, task: u32, missing: &[u32]) -> Made<Vec<u32>> {
+    missing
+        .iter()
+        .copied()
+        .filter(|place| !is_told(subject, task, *place))
+        .collect(subject.alloc())
+}
+
+/// What is said of the jumps of a task, of which this is the first, if there is something to say.
+fn jump_said(subject: &Subject, first: &Jump) -> Made<Option<JumpSaid>> {
+    let task = first.task;
+    let missing = missing_of(subject, task)?;
+    if !missing.is_empty() {
+        if untold(subject, task, &missing)?.is_empty() {
+            return Ok(None);
+        }
+        let leading = missing_of_first(subject, task).unwrap_or(first);
+        return Ok(Some(missing_said(subject, leading, &missing)?));
+    }
+    let is_empty = subject.targets(task).is_empty();
+    if first.is_uncalled || (is_empty && !first.is_whole) {
+        return Ok(Some(ending_said(subject, first)?));
+    }
+    unused_said(subject, task)
+}
+
+/// The first jump of a task that is seen to lead to a place which the task does not list.
+fn missing_of_first<'a>(subject: &'a Subject, task: u32) -> Option<&'a Jump> {
+    let jumps = subject.returns().jumps();
+    jumps.iter().find(|jump| jump.task == task
+        && jump
+            .places
+            .iter()
+            .any(|place| !is_among(subject.targets(task), *place)))
+}
+
+/// The code of a warning.
+fn code_of_jump(kind: JumpKind) -> Code
+    ensures { is_jump_code result ≡ true }
+{
+    match kind {
+        JumpKind::NotListed => Code::JumpNotListed,
+        JumpKind::NoReturn => Code::NoReturn,
+    }
+}
+
+/// The warning about the jumps of a task.
+fn jump_warning(subject: &Subject, first: &Jump) -> Made<Option<Diagnostic>>
+    ensures { IfOk result (λ said. IfSome said IsOfJump) }
+{
+    let Some(
+        JumpSaid {
+            kind,
+            span,
+            message,
+            help,
+        },
+    ) = jump_said(subject, first)?
+    else {
+        return Ok(None);
+    };
+    Ok(Some(Diagnostic {
+        severity: Severity::Warning,
+        code: code_of_jump(kind),
+        source: Source::Program,
+        span: Some(span),
+        message,
+        notes: Listed::new(Vec::new(subject.alloc())),
+        help: Some(help),
+    }))
+}
+
+/// Adds the warning about the jumps of a task, of which this is the first, if there is one.
+fn add_warning(subject: &Subject, first: &Jump, list: &mut Vec<Diagnostic>) -> Made<()>
+    requires { All IsOfJump list.old.items }
+    ensures { OnOk result (All IsOfJump list.new.items) }
+{
+    if let Some(said) = jump_warning(subject, first)? {
+        list.push(said)?;
+    }
+    Ok(())
+}
+
+/// The warnings about jumps to addresses in registers, as far as it is seen where they lead: for each task at most one.
+pub fn jump_warnings(subject: &Subject) -> Made<Vec<Diagnostic>>
+    ensures { IfOk result (λ list. All IsOfJump list.items) }
+{
+    let mut list = Vec::new(subject.alloc());
+    let mut before = None;
+    for jump in subject.returns().jumps() {
+        if !is_end(before, jump.task) {
+            add_warning(subject, jump, &mut list)?;
+        }
+        before = Some(jump.task);
+    }
+    Ok(list)
+}
