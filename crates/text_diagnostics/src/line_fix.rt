@@ -14,6 +14,7 @@ use operand_forms::candidates::candidates;
 use operand_forms::line_fault::LineFaultKind;
 use operand_forms::slices::{after, first};
 use program_tokens::span::TokenSpan as Place;
+use std::alloc::Global;
 
 /// The most bytes that are written anew at the end of a line, as much as a message quotes.
 const MOST_WRITTEN: usize = 40;
@@ -73,9 +74,9 @@ fn without_braces(wrong: &FaultyLine<'_>) -> Made<Option<Vec<u8>>> {
     Ok(if text.is_empty() { None } else { Some(text) })
 }
 
-/// A text as it is shown, where it mends a line in place of what is wrong.
-fn judged(wrong: &FaultyLine<'_>, text: &[u8]) -> Made<Option<Words>>
-    ensures { IfOk result (λ fix. IfSome fix (λ words. mends wrong.now.kind wrong.now.section wrong.now.line.now wrong.now.place words ≡ true)) }
+/// A text as it is shown, where it mends a line in this place.
+fn judged(wrong: &FaultyLine<'_>, place: Place, text: &[u8]) -> Made<Option<Words>>
+    ensures { IfOk result (λ fix. IfSome fix (λ words. mends wrong.now.kind wrong.now.section wrong.now.line.now place words ≡ true)) }
 {
     let words = as_shown(wrong.alloc, text)?;
     let FaultyLine {
@@ -83,7 +84,6 @@ fn judged(wrong: &FaultyLine<'_>, text: &[u8]) -> Made<Option<Words>>
         kind,
         section,
         line,
-        place,
         ..
     } = *wrong;
     if mends(alloc, kind, section, line, place, words.as_str().as_bytes())? {
@@ -117,6 +117,15 @@ fn dotted_place(wrong: &FaultyLine<'_>) -> Option<Place> {
     })
 }
 
+/// A name with `_` for each dot.
+fn undotted(alloc: Global, name: &[u8]) -> Made<Vec<u8>> {
+    let mut text = Vec::new(alloc);
+    for byte in name {
+        text.push(if *byte == b'.' { b'_' } else { *byte })?;
+    }
+    Ok(text)
+}
+
 /// A name with dots, and what is to stand in its place: the name with `_` for each dot.
 pub(crate) fn dotted_fix(wrong: &FaultyLine<'_>) -> Made<Option<(Place, Words)>>
     ensures { IfOk result (λ fix. IfSome fix (λ found. mends wrong.now.kind wrong.now.section wrong.now.line.now found.0 found.1 ≡ true)) }
@@ -124,23 +133,10 @@ pub(crate) fn dotted_fix(wrong: &FaultyLine<'_>) -> Made<Option<(Place, Words)>>
     let Some(place) = dotted_place(wrong) else {
         return Ok(None);
     };
-    let mut text = Vec::new(wrong.alloc);
-    for byte in bytes_at(wrong.line, place) {
-        text.push(if *byte == b'.' { b'_' } else { *byte })?;
-    }
-    let words = as_shown(wrong.alloc, &text)?;
-    let FaultyLine {
-        alloc,
-        kind,
-        section,
-        line,
-        ..
-    } = *wrong;
-    let text = words.as_str().as_bytes();
-    if mends(alloc, kind, section, line, place, text)? {
-        Ok(Some((place, words)))
-    } else {
-        Ok(None)
+    let text = undotted(wrong.alloc, bytes_at(wrong.line, place))?;
+    match judged(wrong, place, &text)? {
+        Some(words) => Ok(Some((place, words))),
+        None => Ok(None),
     }
 }
 
@@ -176,7 +172,7 @@ pub(crate) fn fixes(wrong: &FaultyLine<'_>) -> Made<Vec<Words>>
 {
     let mut list = Vec::new(wrong.alloc);
     for text in candidates(wrong.alloc, wrong.kind, wrong.meant())? {
-        if let Some(words) = judged(wrong, &text)? {
+        if let Some(words) = judged(wrong, wrong.place, &text)? {
             list.push(words)?;
         }
     }
