@@ -15,6 +15,11 @@ const FORM: Row = Row {
     fix: None,
 };
 
+const NONE_HERE: Row = Row {
+    says: "an expectation is missing",
+    ..FORM
+};
+
 const TWICE: Row = Row {
     says: "an expectation has one =",
     help: "write {fix}",
@@ -49,6 +54,11 @@ const NO_WORD: Row = Row {
     says: "{expected} is no word",
     help: "write a number below 2^32, in decimal or as 0x and hexadecimal digits",
     fix: None,
+};
+
+const NO_WORD_HERE: Row = Row {
+    says: "a word is missing",
+    ..NO_WORD
 };
 
 const NO_ADDRESS: Row = Row {
@@ -160,6 +170,7 @@ fn word_said(alloc: Global, part: Part<'_>) -> Said {
         return Ok(None);
     }
     match part.text {
+        [] => Ok(Some((part.slip(NO_WORD_HERE), Words::of(alloc, "")?))),
         [b'0', b'X', ..] => Ok(Some((part.within(0, 2).slip(CAPITAL), Words::of(alloc, "")?))),
         [b'-', digits @ ..] => match number_of(digits) {
             Some(number) => {
@@ -221,6 +232,9 @@ fn address_said(alloc: Global, program: &Program, part: Part<'_>) -> Said {
 
 /// What is said of an expectation, if it is none.
 fn part_said(alloc: Global, program: &Program, part: Part<'_>) -> Said {
+    if part.text.is_empty() {
+        return Ok(Some((part.slip(NONE_HERE), Words::of(alloc, "")?)));
+    }
     if part.text.starts_with(b"stops ") {
         return address_said(alloc, program, part.behind(6).trimmed());
     }

@@ -8,7 +8,7 @@ use crate::mending::replaced;
 use crate::section::reads;
 use operand_forms::bytes::{byte_at, bytes_at};
 use operand_forms::line_fault::LineFaultKind;
-use operand_forms::line_place::word_in;
+use operand_forms::line_place::{word_in, word_place};
 use operand_forms::meant::span_at;
 use operand_forms::rows::Reading;
 use program_statements::statement::Section;
@@ -41,6 +41,14 @@ impl<'a> FaultyLine<'a> {
     /// The bytes that are meant.
     pub(crate) fn meant(&self) -> &'a [u8] {
         bytes_at(self.line, self.place)
+    }
+
+    /// The bytes of its statement before those.
+    pub(crate) fn before(&self) -> &'a [u8] {
+        let word = word_place(self.line, self.reading.places.as_slice());
+        let len = self.place.column.saturating_sub(word.column);
+        let column = word.column;
+        bytes_at(self.line, Place { column, len })
     }
 
     /// The first byte of those, or the one after them.

@@ -219,7 +219,7 @@ fn fix_row(text: &[u8]) -> &'static str {
 /// The help that says what is to stand from a place on to the end of the line.
 fn rest_row(kind: LineFaultKind, text: &[u8]) -> &'static str {
     match (kind, text) {
-        (LineFaultKind::Operand, [b' ', ..]) => "no comma stands before a mark: write{fix}",
+        (LineFaultKind::Operand, [b' ', ..]) => "no comma stands before a mark: write {front}{fix}",
         (LineFaultKind::Operand, _) => "one comma separates two operands: write {fix}",
         _ => "lists have no braces: write {fix}",
     }
@@ -229,6 +229,15 @@ fn rest_row(kind: LineFaultKind, text: &[u8]) -> &'static str {
 fn fix_words(wrong: &FaultyLine<'_>, row: &'static str, text: &str) -> Made<Words> {
     let words = [("fix", Words::of(wrong.alloc, text)?)];
     filled(wrong.alloc, row, &words)
+}
+
+/// A row with what is to stand from a place on to the end of the line, and what stands before that.
+fn rest_words(wrong: &FaultyLine<'_>, text: &str) -> Made<Words> {
+    let words = [
+        ("front", as_shown(wrong.alloc, wrong.before())?),
+        ("fix", Words::of(wrong.alloc, text)?),
+    ];
+    filled(wrong.alloc, rest_row(wrong.kind, text.as_bytes()), &words)
 }
 
 /// That one of several texts may be meant.
@@ -253,11 +262,7 @@ pub(crate) fn line_help(number: u32, wrong: &FaultyLine<'_>) -> Made<Help>
     }
     let rest = wrong.rest();
     if let Some(text) = rest_fix(wrong, rest)? {
-        let message = fix_words(
-            wrong,
-            rest_row(wrong.kind, text.as_str().as_bytes()),
-            text.as_str(),
-        )?;
+        let message = rest_words(wrong, text.as_str())?;
         return by_text(alloc, message, span_in(number, rest), text);
     }
     let texts = fixes(wrong)?;
