@@ -50,9 +50,7 @@ def in_lines(result, text):
     yield f"{place_of(result['locations'][0], text)} {result['level']}: {result['message']['text'].removesuffix('.')}"
     for number, it in enumerate(related):
         is_help = number == len(related) - 1 and result["ruleId"] != "more"
-        change = is_help and result["fixes"] and result["fixes"][0]["artifactChanges"][0]["replacements"][0]["deletedRegion"]
-        place = {**it["physicalLocation"], "region": change} if change else it["physicalLocation"]
-        yield f"{place_of({'physicalLocation': place}, text)} {'help' if is_help else 'note'}: {it['message']['text'].removesuffix('.')}"
+        yield f"{place_of(it, text)} {'help' if is_help else 'note'}: {it['message']['text'].removesuffix('.')}"
 
 
 def told(said):

@@ -52,7 +52,8 @@ RESULT = record(
     "message", ruleId=TEXT, ruleIndex=number(-1), level=one_of("none", "note", "warning", "error"), message=MESSAGE,
     locations=items(LOCATION), relatedLocations=items(LOCATION, unique=True), codeFlows=items(CODE_FLOW),
     fixes=items(FIX, unique=True), partialFingerprints=mapping(TEXT))
-RULE = record("id", id=TEXT, name=TEXT, shortDescription=MESSAGE, help=MESSAGE, helpUri=URI)
+RULE = record("id", id=TEXT, name=TEXT, shortDescription=MESSAGE, help=MESSAGE, helpUri=URI,
+              defaultConfiguration=record("", level=one_of("none", "note", "warning", "error")))
 DRIVER = record("name", name=TEXT, version=TEXT, rules=items(RULE, unique=True))
 INVOCATION = record("executionSuccessful", executionSuccessful=BOOLEAN, exitCode=number(0), stdin=ARTIFACT_LOCATION)
 RUN = record(
@@ -135,8 +136,11 @@ def check_words(log):
         used = [result["ruleIndex"] for result in run["results"]]
         need(set(used) == set(range(len(rules))), "a rule that is not declared, or that no result breaks")
         need(len({rule["id"] for rule in rules}) == len(rules), "a rule twice")
+        prints = [json.dumps([result["locations"][0]["physicalLocation"]["artifactLocation"], result["partialFingerprints"]]) for result in run["results"]]
+        need(len(set(prints)) == len(prints), "two results of a file have the same fingerprints")
         for result in run["results"]:
             need(rules[result["ruleIndex"]]["id"] == result["ruleId"], f"{result['ruleId']}: another rule has its index")
+            need(rules[result["ruleIndex"]]["defaultConfiguration"]["level"] == result["level"], f"{result['ruleId']}: the level of its rule")
             need(len(result["locations"]) == 1, f"{result['ruleId']}: one location")
             check_sentence(result["message"]["text"], result["ruleId"])
         failed = any(result["level"] == "error" for result in run["results"])

@@ -18,6 +18,14 @@ pub(crate) fn severity_word(severity: Severity) -> &'static str {
     }
 }
 
+/// Where it is told what to do: at the first change, or else at the diagnostic's own place.
+fn help_place(said: &Diagnostic, help: &Help) -> Option<Span> {
+    match help.replacements.as_slice() {
+        [change, ..] => Some(change.span),
+        [] => said.span,
+    }
+}
+
 /// The results that are added to a log, about texts of which one is meant.
 #[derive(Drop)]
 pub(crate) struct Results<'a> {
@@ -136,7 +144,7 @@ impl<'a> Results<'a> {
             self.said(note.span, note.message.as_str())?;
         }
         if let Some(help) = &said.help {
-            self.said(said.span, help.message.as_str())?;
+            self.said(help_place(said, help), help.message.as_str())?;
         }
         self.out.end_list()?;
         self.out.list("codeFlows")?;
@@ -153,8 +161,9 @@ impl<'a> Results<'a> {
         self.out.end_list()
     }
 
-    /// Adds the result of a diagnostic. What stays the same when lines move are its rule and its sentence.
-    pub(crate) fn add(&mut self, said: &Diagnostic) -> Written {
+    /// Adds the result of a diagnostic. What stays the same when lines move are its rule, its sentence, and its number among
+    /// the results of its text that have both.
+    pub(crate) fn add(&mut self, said: &Diagnostic, number: usize) -> Written {
         self.source = said.source;
         let index = self.rules.iter().position(|rule| *rule == said.code);
         self.out.begin()?;
@@ -170,6 +179,8 @@ impl<'a> Results<'a> {
         self.out.object("partialFingerprints")?;
         self.out.text("rule/v1", said.code.id())?;
         self.out.text("sentence/v1", said.message.as_str())?;
+        let number = format!(in self.alloc; "{number}")?;
+        self.out.text("occurrence/v1", number.as_str())?;
         self.out.end()?;
         self.out.end()
     }

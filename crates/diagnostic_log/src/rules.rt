@@ -58,7 +58,7 @@ pub(crate) fn rule_short(code: Code) -> &'static str {
         Code::JumpNotListed =>
             "A jump to an address in a register leads to a place that the task does not list",
         Code::NoReturn => "A task lists a target to which no call returns",
-        Code::More => "There is more than is shown",
+        Code::More => "There is more than is shown, or a compiler wrote the text",
     }
 }
 
@@ -108,5 +108,22 @@ pub(crate) fn rule_section(code: Code) -> &'static str {
         | Code::JumpNotListed
         | Code::NoReturn => "RULES.md#warnings-marks-that-cost-speed",
         Code::More => "FORMATS.md#what-explain-says",
+    }
+}
+
+/// How severe what breaks a rule is, in the word of the format.
+pub(crate) fn rule_level(code: Code) -> &'static str {
+    match code {
+        Code::NeverProduced
+        | Code::NotForwarded
+        | Code::SentBefore
+        | Code::Unreached
+        | Code::NoExit
+        | Code::TargetNotTaken
+        | Code::GoesIntoTask
+        | Code::JumpNotListed
+        | Code::NoReturn => "warning",
+        Code::More => "note",
+        _ => "error",
     }
 }

@@ -4,7 +4,7 @@ use crate::artifact::{Artifact, Artifacts, write_artifact};
 use crate::columns::Columns;
 use crate::json_text::{JsonText, Written};
 use crate::results::Results;
-use crate::rules::{rule_section, rule_short};
+use crate::rules::{rule_level, rule_section, rule_short};
 use diagnostics::code::Code;
 use diagnostics::diagnostic::{Diagnostic, Severity, Source};
 use diagnostics::files::Files;
@@ -24,13 +24,16 @@ fn rules_of(alloc: Global, diagnostics: &[Diagnostic]) -> Result<Vec<Code>, Allo
 /// Adds a rule, and where it is explained.
 fn write_rule(alloc: Global, out: &mut JsonText, code: Code) -> Written {
     let section = rule_section(code);
+    let name = format!(in alloc; "{code:?}")?;
     let help = format!(in alloc; "docs/{section} explains it")?;
-    let uri = format!(in alloc; "file:///usr/share/doc/multiscalar/docs/{section}")?;
     out.begin()?;
     out.text("id", code.id())?;
+    out.text("name", name.as_str())?;
     out.message("shortDescription", rule_short(code))?;
     out.message("help", help.as_str())?;
-    out.text("helpUri", uri.as_str())?;
+    out.object("defaultConfiguration")?;
+    out.text("level", rule_level(code))?;
+    out.end()?;
     out.end()
 }
 
@@ -83,6 +86,17 @@ fn write_places(out: &mut JsonText, reads_input: bool) -> Written {
     out.text("columnKind", "unicodeCodePoints")
 }
 
+/// How many of the first few diagnostics have the text, the rule and the sentence of this one.
+fn count_alike(diagnostics: &[Diagnostic], count: usize, said: &Diagnostic) -> usize {
+    diagnostics
+        .iter()
+        .take(count)
+        .filter(|other| other.source == said.source
+            && other.code == said.code
+            && other.message.as_str() == said.message.as_str())
+        .count()
+}
+
 /// Adds a result for each diagnostic.
 fn write_results(
     alloc: Global,
@@ -102,8 +116,9 @@ fn write_results(
         columns: Columns::new(alloc),
         source: Source::Program,
     };
-    for said in diagnostics {
-        results.add(said)?;
+    for (index, said) in diagnostics.iter().enumerate() {
+        let before = count_alike(diagnostics, index, said);
+        results.add(said, before.saturating_add(1))?;
     }
     results.out.end_list()
 }
