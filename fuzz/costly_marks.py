@@ -4,7 +4,9 @@
 Takes random programs, changes marks that cost speed (a register more in a create mask, a forward bit left out,
 a release, code that no task reaches), and compares the log of `explain` of right marks with the model; of wrong marks
 it must have no warning. Of warnings about where jumps to addresses in registers lead it compares the codes and places with those of
-`returns.py`. Then it makes the changes of each other fix alone: that warning must be gone, and the marks must still be right. PROGRAM is the built `multiscalar`; with `--model` the changes are the model's, and no program is needed.
+`returns.py`. Then it makes the changes of each other fix alone, but of those that let a task begin, whose mask is to be
+written then: that warning must be gone, and the marks must still be right. PROGRAM is the built `multiscalar`; with `--model` the
+changes are the model's, and no program is needed.
 """
 import argparse
 import collections
@@ -359,6 +361,9 @@ def wrong(bench, text, counts):
     for warning, result in zip(shown(program, text), results):
         counts[warning[0]] += 1
         after = changed(text, result)
+        if after is not None and after.count(".task") > text.count(".task"):
+            counts["tasks that begin"] += 1
+            continue
         what = after is not None and unmended(program, text, warning, after, True)
         if what:
             return what
