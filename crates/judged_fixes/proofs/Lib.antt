@@ -1,3 +1,5 @@
+pub mod Cuts
+mod FirstOf
 pub mod Froms
 pub mod Starts
 pub mod Judging

@@ -4,7 +4,7 @@ use Rattle.std.specs.List.{All}
 use Rattle.diagnostics.specs.declared.diagnostic.Diagnostic.{Diagnostic}
 use Rattle.judged_fixes.specs.declared.edit.Edit.{Edit}
 use Rattle.judged_fixes.specs.declared.fixed.Fixed.{Fixed}
-use Rattle.judged_fixes.specs.Mended.{mended}
+use Rattle.judged_fixes.specs.Mended.{IsMended}
 use Rattle.judged_fixes.specs.Proposed.{IsProposed}
 use Rattle.judged_fixes.specs.Right.{IsRight}
 
@@ -13,18 +13,18 @@ use Rattle.judged_fixes.specs.Right.{IsRight}
 pub record IsFixed (text : List ℕ) (said : List Diagnostic) (f : Fixed) : Type 0 where
   pub edits : List Edit
   pub proposed : All (IsProposed text said) edits
-  pub written : f.text ≡ mended text edits
+  pub written : IsMended text edits f.text
   pub right : (f.is_right ≡ true) ↔ IsRight f.text
 
--- it is the text with these edits, and its marks are said to be right
-abbrev pub IsRightWith : (text : List ℕ) → List Edit → Option Fixed → Type 0
-IsRightWith text edits None = ⊥
-IsRightWith text edits (Some f) = (f.text ≡ mended text edits) × (f.is_right ≡ true)
+-- it is this text, and its marks are said to be right
+abbrev pub IsSaidRight : (new : List ℕ) → Option Fixed → Type 0
+IsSaidRight new None = ⊥
+IsSaidRight new (Some f) = (f.text ≡ new) × (f.is_right ≡ true)
 
 -- The text with these edits is taken if its marks are right. They are from the helps of the diagnostics at these places; where
 -- they are from none, there is nothing to take.
 pub record IsTakenIfRight (text : List ℕ) (edits : List Edit) (places : List ℕ) (fixed : Option Fixed) : Type 0 where
-  pub taken : places ≢ [] → IsRight (mended text edits) → IsRightWith text edits fixed
+  pub taken : places ≢ [] → (new : List ℕ) → IsMended text edits new → IsRight new → IsSaidRight new fixed
 
 -- it is said that the marks of a text with fixes are right
 abbrev pub says_right : Option Fixed → Bool
