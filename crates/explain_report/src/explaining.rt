@@ -38,8 +38,7 @@ pub fn explain(
     asked: Colors,
     texts: &Texts,
 ) -> Result<JobReport, AllocError>
-    ensures { IfOk result (λ report. IsExplainReport format name.now (option_map string_bytes cert_file.now)
-        (option_map string_bytes script_file.now) warnings asked
+    ensures { IfOk result (λ report. IsExplainReport (option_map string_bytes cert_file.now) (option_map string_bytes script_file.now) warnings
         texts.now.program.items texts.now.certificate texts.now.script.items report) }
 {
     let text = texts.program.as_slice();

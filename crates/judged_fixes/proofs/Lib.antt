@@ -3,3 +3,4 @@ mod FirstOf
 pub mod Froms
 pub mod Starts
 pub mod Judging
+mod Telling

@@ -1,7 +1,9 @@
 -- A text with the fixes made that were judged, and what is said of errors whose fix is not right.
-use Rattle.std.specs.Prelude.{◌≡◌, ◌≢◌, ◌↔◌, ℕ, Bool, true, false, List, [], Option, Some, None, map}
-use Rattle.std.specs.List.{All}
+use Rattle.std.specs.Prelude.{◌≡◌, ◌≢◌, ◌↔◌, ◌⊎◌, ℕ, Bool, true, false, List, [], Option, Some, None}
+use Rattle.std.specs.List.{All, AllZip}
 use Rattle.diagnostics.specs.declared.diagnostic.Diagnostic.{Diagnostic}
+use Rattle.diagnostics.specs.declared.diagnostic.Help.{Help}
+use Rattle.diagnostics.specs.Helps.{in_words}
 use Rattle.judged_fixes.specs.declared.edit.Edit.{Edit}
 use Rattle.judged_fixes.specs.declared.fixed.Fixed.{Fixed}
 use Rattle.judged_fixes.specs.Mended.{IsMended}
@@ -31,10 +33,18 @@ abbrev pub says_right : Option Fixed → Bool
 says_right None = false
 says_right (Some f) = f.is_right
 
--- a diagnostic without what is to be done
-abbrev pub besides_help : Diagnostic → Diagnostic
-besides_help d = record d { help = None }
+-- what is to be done, in words alone
+abbrev pub words_of : Option Help → Option Help
+words_of None = None
+words_of (Some help) = Some (in_words help.message)
 
--- the same diagnostics, but for what is to be done
-abbrev pub AreSameErrors : List Diagnostic → List Diagnostic → Type 0
-AreSameErrors said others = map besides_help said ≡ map besides_help others
+-- a diagnostic that tells what is to be done in words alone
+abbrev pub in_words_alone : Diagnostic → Diagnostic
+in_words_alone d = record d { help = words_of d.help }
+
+abbrev pub IsSameError : (told error : Diagnostic) → Type 0
+IsSameError told error = (told ≡ error) ⊎ (told ≡ in_words_alone error)
+
+-- the same errors, each as it is, or told in words alone
+abbrev pub AreSameErrors : (told errors : List Diagnostic) → Type 0
+AreSameErrors told errors = AllZip IsSameError told errors

@@ -1,16 +1,16 @@
 //! Fixes for wrong marks, which are made together and judged, or one by one.
 
-ghost use Rattle.std.specs.Prelude.{◌≡◌, Ok, false, IfOk, IfSome};
+ghost use Rattle.std.specs.Prelude.{◌≡◌, [], false, IfOk, IfSome};
 ghost use Rattle.std.specs.List.{All};
 ghost use Rattle.annotator.specs.Least.{IsLeast};
-ghost use Rattle.judged_fixes.specs.Fixed.{AreSameErrors, IsFixed, IsTakenIfRight, besides_help, says_right};
-ghost use Rattle.judged_fixes.specs.Proposed.{IsProposed, has_fix};
+ghost use Rattle.judged_fixes.specs.Fixed.{AreSameErrors, IsFixed, IsTakenIfRight, in_words_alone, says_right, words_of};
+ghost use Rattle.judged_fixes.specs.Proposed.{IsProposed, has_fix, replacements_of};
 
 use crate::fixed::Fixed;
 use crate::judge::{Marks, is_gone, marks_of};
 use crate::mended::mended;
 use crate::proposal::{Proposed, has_fix, proposal};
-use diagnostics::diagnostic::Diagnostic;
+use diagnostics::diagnostic::{Diagnostic, Help};
 use diagnostics::helps::in_words;
 use diagnostics::listed::Listed;
 use mark_checker::survey::Surveyed;
@@ -117,15 +117,24 @@ fn try_each(
     Ok(Tried { good, bad })
 }
 
-/// Leaves of a diagnostic's help its words alone.
-pub(crate) fn tell_in_words(alloc: Global, said: &mut Diagnostic)
-    ensures same { besides_help said.new ≡ besides_help said.old }
-    ensures words { has_fix said.new ≡ false }
+// What is to be done, in words alone.
+fn words_of(alloc: Global, help: Option<Help>) -> Option<Help>
+    ensures words { result ≡ words_of help }
+    ensures alone { replacements_of result ≡ [] }
 {
-    said.help = match said.help.take() {
+    match help {
         Some(help) => Some(in_words(alloc, help.message)),
         None => None,
-    };
+    }
+}
+
+/// Leaves of a diagnostic's help its words alone.
+pub(crate) fn tell_in_words(alloc: Global, said: &mut Diagnostic)
+    ensures told { said.new ≡ in_words_alone said.old }
+    ensures words { has_fix said.new ≡ false }
+{
+    let help = said.help.take();
+    said.help = words_of(alloc, help);
 }
 
 // Leaves of the helps of the errors at these places their words alone.
