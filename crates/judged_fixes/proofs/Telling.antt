@@ -33,6 +33,6 @@ one_in_words (x ∷ xs) (e ∷ es) (suc i) d same is = (same.0, one_in_words xs 
 pub first_in_words : (test : Diagnostic → Bool) (errors : List Diagnostic) (i : ℕ) (d new : Diagnostic) → position test errors ≡ Some i → d ≡ get_or errors i d
     → (test d ≡ true → test new ≡ true) → has_fix new ≡ false → IfSome (find test (set errors i new)) (λ e. has_fix e ≡ false)
 first_in_words test errors i d new at is passes words =
-    let passed : test (get_or errors i d) ≡ true = (position-Some test errors i d at).1.0 in
+    let passed : test (get_or errors i d) ≡ true = (position-Some test errors i d at).1 in
     let first : find test (set errors i new) ≡ Some new = set_first test errors i new at (passes (subst (λ e. test e ≡ true) (sym is) passed)) in
     subst (λ (o : Option Diagnostic). IfSome o (λ e. has_fix e ≡ false)) (sym first) words
