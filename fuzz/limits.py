@@ -16,7 +16,7 @@ second of the processor, and one for each 30 MB that are read and written. Needs
 in the temporary folder and 3 GB of memory; it is no part of the tests.
 
 With --gate: texts that take long, or much memory, where an answer is sought carelessly. Each run may take
-three times the processor's time of `check --least` of the same program (`explain` twenty times, by SLOWER, or two seconds), or a second if that is
+three times the processor's time of `check --least` of the same program (SLOWER has one that may take more), or a second if that is
 more, which a slower machine has longer, and 512 MB; a trace of a
 long script 26 MB, as it is written while its events are played. A run that takes more is made again, twice, as other processes may
 have slowed it, and is ended some two seconds after its time. `.ci/run` runs this after `rt ci`.
@@ -361,8 +361,8 @@ def many_tasks(folder, traces):
 # What a run of `worst` may take: this many times what `check --least` of its program takes, but no less than a second; and millions of bytes.
 # A run that takes more is made again, until it was made this often.
 TIMES, LEAST_SECONDS, GATE_MEMORY, TRIES = 3, 1, 512, 3
-# `explain` judges fixes of wrong marks by up to 16 further runs of the checker, which are most of its time: twenty times.
-SLOWER = {"explain": 20}
+# `explain` of two million labels of one name in one line reads them once more, with their places: five times.
+SLOWER = {("one label many times", "explain"): 5}
 # In how many seconds the interpreter counts to ten million on the machine whose second is meant.
 COUNTED = 0.3
 # Of a run that writes on the way.
@@ -469,7 +469,7 @@ def gate(program, only=""):
             if text not in least:
                 least[text] = ran(program, ["check", "--least", str(text)], folder).processor
             for _ in range(TRIES):
-                most = max(second() * (2 if words[0] == "explain" else 1), SLOWER.get(words[0], TIMES) * least[text])
+                most = max(second(), SLOWER.get((kind, words[0]), TIMES) * least[text])
                 ended = ran(program, [str(word) for word in words], folder, most)
                 if not is_dear(ended, most, memory):
                     break

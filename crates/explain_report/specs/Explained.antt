@@ -1,7 +1,6 @@
 -- What `explain` says: what is wrong with a program text, or with the marks of its program, what could be better about
 -- them, and what is wrong with a certificate and with an event script that are given beside it.
 use Rattle.std.specs.Prelude.{◌≡◌, ℕ, Bool, true, false, ◌&&◌, List, [], ◌∷◌, ◌++◌, Option, Some, None, IfSome, Result, Ok, Err}
-use Rattle.std.specs.List.{All}
 use Rattle.task_descriptor.specs.Listing.{Listing}
 use Rattle.annotated_asm.specs.declared.fault.AsmFault.{AsmFault}
 use Rattle.annotated_asm.specs.ProgramText.{parse}
@@ -16,7 +15,7 @@ use Rattle.input_diagnostics.specs.Advice.{IsErrorIn}
 use Rattle.input_diagnostics.specs.MistakenTexts.{mistaken_kind}
 use Rattle.input_diagnostics.specs.ScriptErrors.{AreScriptErrors}
 use Rattle.judged_fixes.specs.Fixed.{AreSameErrors, IsFixed}
-use Rattle.judged_fixes.specs.Further.{IsFixedFurther, IsInWords}
+use Rattle.judged_fixes.specs.Further.{IsFixedFurther, IsFirstInWords}
 use Rattle.judged_fixes.specs.Right.{IsSaidOf}
 use Rattle.judged_fixes.specs.declared.judge.Marks.TheVariants.{Unread}
 use Rattle.explain_report.specs.declared.explanation.Explanation.{Explanation}
@@ -64,15 +63,15 @@ abbrev pub IsRefusedBy : Option Mistaken → (text : List ℕ) → AsmFault → 
 IsRefusedBy None text fault said = IsTold text fault said
 IsRefusedBy (Some kind) text fault said = (d : Diagnostic) × IsErrorIn Program 1 d × (said ≡ d ∷ [])
 
--- A fix of the first fault is told where the assembler comes further with it, and the text with it is kept; else what tells
--- that fault is told in words alone.
+-- The fix of the first error of the first fault is told where the assembler comes further with it, and the text with it is
+-- kept; else that error is told in words alone.
 pub record IsRefusedSaid (text : List ℕ) (fault : AsmFault) (e : Explanation) : Type 0 where
   pub errors : List Diagnostic
   pub wrong : IsRefusedBy (mistaken_kind text) text fault errors
   pub told : List Diagnostic
   pub same : AreSameErrors told errors
   pub fixed : IfSome e.fixed (IsFixedFurther text fault errors)
-  pub words : e.fixed ≡ None → All (IsInWords text fault) told
+  pub words : e.fixed ≡ None → IsFirstInWords text fault told
   pub said : e.said ≡ in_order told
   pub marked : e.marks ≡ Unread
   pub status : e.status ≡ 1

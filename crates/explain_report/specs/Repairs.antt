@@ -8,7 +8,7 @@ use Rattle.mark_diagnostics.specs.Errors.{AreMarkErrors}
 use Rattle.input_diagnostics.specs.MistakenTexts.{mistaken_kind}
 use Rattle.judged_fixes.specs.declared.edit.Edit.{Edit}
 use Rattle.judged_fixes.specs.declared.fixed.Fixed.{Fixed}
-use Rattle.judged_fixes.specs.Mended.{mended}
+use Rattle.judged_fixes.specs.Mended.{IsMended}
 use Rattle.judged_fixes.specs.Proposed.{IsProposed}
 use Rattle.explain_report.specs.declared.explanation.Explanation.{Explanation}
 use Rattle.explain_report.specs.declared.repaired.Repaired.{Repaired}
@@ -41,7 +41,7 @@ pub record IsEdited (text new : List ℕ) : Type 0 where
   pub told : AreErrorsOf text errors
   pub edits : List Edit
   pub proposed : All (IsProposed text errors) edits
-  pub written : new ≡ mended text edits
+  pub written : IsMended text edits new
 
 abbrev pub IsAuthorsBut : (text new : List ℕ) → Type 0
 IsAuthorsBut text new = (new ≡ text) ⊎ IsEdited text new

@@ -3,6 +3,7 @@ ghost use Rattle.std.specs.Prelude.{◌≡◌, IfOk};
 ghost use Rattle.std.specs.Option.{option_map};
 ghost use Rattle.std.specs.String.{string_bytes};
 ghost use Rattle.explain_report.specs.ExplainText.{IsExplainReport};
+ghost use Rattle.explain_report.specs.Explained.{IsExplained};
 
 use crate::explained::explained;
 use crate::explanation::Explanation;
@@ -37,20 +38,50 @@ pub fn explain(
     asked: Colors,
     texts: &Texts,
 ) -> Result<JobReport, AllocError>
-    ensures { IfOk result (λ report. IsExplainReport format name.now (option_map string_bytes cert_file.now)
-        (option_map string_bytes script_file.now) warnings asked
+    ensures { IfOk result (λ report. IsExplainReport (option_map string_bytes cert_file.now) (option_map string_bytes script_file.now) warnings
         texts.now.program.items texts.now.certificate texts.now.script.items report) }
 {
     let text = texts.program.as_slice();
     let script = texts.script.as_slice();
     let certificate = joined(alloc, &texts.certificate)?;
+    let told = told(
+        alloc,
+        format,
+        name,
+        cert_file,
+        script_file,
+        warnings,
+        asked,
+        text,
+        &certificate,
+        script,
+    )?;
+    Ok(JobReport::new(told.1, told.0.status))
+}
+
+/// What is said of these texts, and how it is written in a format.
+pub(crate) fn told(
+    alloc: Global,
+    format: Format,
+    name: &str,
+    cert_file: &Option<String>,
+    script_file: &Option<String>,
+    warnings: bool,
+    asked: Colors,
+    text: &[u8],
+    certificate: &[u8],
+    script: &[u8],
+) -> Result<(Explanation, Vec<u8>), AllocError>
+    ensures { IfOk result (λ told. IsExplained (option_map string_bytes cert_file.now)
+        (option_map string_bytes script_file.now) warnings text.now certificate.now script.now told.0) }
+{
     let explained = explained(
         alloc,
         cert_file,
         script_file,
         warnings,
         text,
-        &certificate,
+        certificate,
         script,
     )?;
     let written = written(
@@ -61,15 +92,15 @@ pub fn explain(
         cert_file,
         script_file,
         text,
-        &certificate,
+        certificate,
         script,
         &explained,
     )?;
-    Ok(JobReport::new(written, explained.status))
+    Ok((explained, written))
 }
 
-/// What is said of these texts, in a format.
-pub(crate) fn written(
+// What is said of these texts, in a format.
+fn written(
     alloc: Global,
     format: Format,
     asked: Colors,

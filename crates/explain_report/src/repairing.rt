@@ -5,7 +5,7 @@ ghost use Rattle.std.specs.String.{string_bytes};
 ghost use Rattle.explain_report.specs.Repairs.{IsRepaired};
 
 use crate::explained::explained;
-use crate::explaining::written;
+use crate::explaining::told;
 use crate::explanation::Explanation;
 use crate::inputs::joined;
 use crate::repaired::Repaired;
@@ -37,26 +37,17 @@ pub fn repair(
     let text = texts.program.as_slice();
     let script = texts.script.as_slice();
     let certificate = joined(alloc, &texts.certificate)?;
-    let before = explained(
-        alloc,
-        cert_file,
-        script_file,
-        warnings,
-        text,
-        &certificate,
-        script,
-    )?;
-    let said = written(
+    let (before, said) = told(
         alloc,
         Format::Text,
-        asked,
         name,
         cert_file,
         script_file,
+        warnings,
+        asked,
         text,
         &certificate,
         script,
-        &before,
     )?;
     match &before.fixed {
         Some(fixed) => {

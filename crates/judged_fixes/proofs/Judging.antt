@@ -9,9 +9,10 @@ use Rattle.judged_fixes.specs.declared.judge.Marks.{Marks}
 use Rattle.judged_fixes.specs.declared.judge.Marks.TheVariants.{Right, Wrong, Unread}
 use Rattle.judged_fixes.specs.declared.edit.Edit.{Edit}
 use Rattle.judged_fixes.specs.declared.fixed.Fixed.{Fixed}
-use Rattle.judged_fixes.specs.Fixed.{IsTakenIfRight, IsRightWith, says_right}
-use Rattle.judged_fixes.specs.Mended.{mended}
+use Rattle.judged_fixes.specs.Fixed.{IsSaidRight, IsTakenIfRight, says_right}
+use Rattle.judged_fixes.specs.Mended.{IsMended}
 use Rattle.judged_fixes.specs.Right.{IsRight, IsSaidOf, IsUnread}
+use Rattle.judged_fixes.proofs.Cuts.{one_text}
 
 one_program : (r : Result Listing AsmFault) (p q : Listing) → r ≡ Ok p → r ≡ Ok q → p ≡ q
 one_program r p q one other = cc
@@ -45,25 +46,29 @@ nothing_to_take text edits places fixed none = record { taken = λ some _. absur
 unread_is_not_right : Unread ≡ Right → ⊥
 unread_is_not_right e = cc
 
-pub unread_not_taken : (text new : List ℕ) (edits : List Edit) (places : List ℕ) (marks : Marks) → new ≡ mended text edits
+pub unread_not_taken : (text new : List ℕ) (edits : List Edit) (places : List ℕ) (marks : Marks) → IsMended text edits new
     → (marks ≡ Right) ↔ IsRight new → marks ≡ Unread → IsTakenIfRight text edits places None
 unread_not_taken text new edits places marks is right unread = record {
-  taken = λ some sound. absurd (unread_is_not_right (sym unread ∙ right.1 (subst IsRight (sym is) sound)));
+  taken = λ some other made sound. absurd (unread_is_not_right (sym unread ∙ right.1 (subst IsRight (one_text 0 text edits other new made is) sound)));
 }
 
-pub made_taken : (text : List ℕ) (edits : List Edit) (places : List ℕ) (marks : Marks) (f : Fixed) → f.text ≡ mended text edits
+pub none_taken : (text : List ℕ) (edits : List Edit) (places : List ℕ) → ((new : List ℕ) → IsMended text edits new → ⊥) → IsTakenIfRight text edits places None
+none_taken text edits places none = record { taken = λ some new made sound. absurd (none new made) }
+
+pub made_taken : (text : List ℕ) (edits : List Edit) (places : List ℕ) (marks : Marks) (f : Fixed) → IsMended text edits f.text
     → (marks ≡ Right) ↔ IsRight f.text → (f.is_right ≡ true) ↔ (marks ≡ Right) → IsTakenIfRight text edits places (Some f)
 made_taken text edits places marks f is right said = record {
-  taken = λ some sound. (is, said.1 (right.1 (subst IsRight (sym is) sound)));
+  taken = λ some new made sound. (let same : f.text ≡ new = one_text 0 text edits f.text new is made in
+      (same, said.1 (right.1 (subst IsRight (sym same) sound))));
 }
 
 -- one that is not said to be right was not taken, so its marks are not right
-not_right : (text : List ℕ) (edits : List Edit) (together : Option Fixed) → IsRightWith text edits together → says_right together ≡ false → ⊥
-not_right text edits None with_it said = with_it
-not_right text edits (Some f) with_it said = let yes : f.is_right ≡ true = with_it.1 in cc
+not_right : (new : List ℕ) (together : Option Fixed) → IsSaidRight new together → says_right together ≡ false → ⊥
+not_right new None with_it said = with_it
+not_right new (Some f) with_it said = let yes : f.is_right ≡ true = with_it.1 in cc
 
 pub another_taken : (text : List ℕ) (edits : List Edit) (places : List ℕ) (together fixed : Option Fixed) → IsTakenIfRight text edits places together
     → says_right together ≡ false → IsTakenIfRight text edits places fixed
 another_taken text edits places together fixed h said = record {
-  taken = λ some sound. absurd (not_right text edits together (h.taken some sound) said);
+  taken = λ some new made sound. absurd (not_right new together (h.taken some new made sound) said);
 }

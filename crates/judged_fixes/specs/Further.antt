@@ -1,5 +1,6 @@
 -- How far the assembler comes in a text, and a fix with which it comes further.
-use Rattle.std.specs.Prelude.{◌≡◌, ◌||◌, ◌&&◌, ℕ, Bool, true, false, List, ⊤, nat_eq, nat_lt, Result, Ok, Err}
+use Rattle.std.specs.Prelude.{◌≡◌, ◌||◌, ◌&&◌, ℕ, Bool, true, false, List, ⊤, nat_eq, nat_lt, IfSome, Result, Ok, Err}
+use Rattle.std.specs.List.{find}
 use Rattle.task_descriptor.specs.Listing.{Listing}
 use Rattle.task_descriptor.specs.declared.program.BuildFault.{BuildFault}
 use Rattle.task_descriptor.specs.declared.program.BuildFault.TheVariants as build
@@ -59,6 +60,6 @@ pub record IsFixedFurther (text : List ℕ) (first : AsmFault) (said : List Diag
   pub fixed : IsFixed text said f
   pub further : IsFurther first (parse f.text)
 
--- a diagnostic that tells a text's first fault proposes nothing to write
-abbrev pub IsInWords : (text : List ℕ) → AsmFault → Diagnostic → Type 0
-IsInWords text first d = tells first (token_of (lines text) first) d ≡ true → has_fix d ≡ false
+-- the first of some diagnostics that tells a text's first fault proposes nothing to write
+abbrev pub IsFirstInWords : (text : List ℕ) → AsmFault → List Diagnostic → Type 0
+IsFirstInWords text first said = IfSome (find (tells first (token_of (lines text) first)) said) (λ d. has_fix d ≡ false)

@@ -1,26 +1,29 @@
 //! Fixes for wrong marks, which are made together and judged, or one by one.
 
-ghost use Rattle.std.specs.Prelude.{◌≡◌, Ok, false, IfOk, IfSome};
+ghost use Rattle.std.specs.Prelude.{◌≡◌, [], false, IfOk, IfSome};
 ghost use Rattle.std.specs.List.{All};
 ghost use Rattle.annotator.specs.Least.{IsLeast};
-ghost use Rattle.judged_fixes.specs.Fixed.{AreSameErrors, IsFixed, IsTakenIfRight, besides_help, says_right};
-ghost use Rattle.judged_fixes.specs.Proposed.{IsProposed, has_fix};
+ghost use Rattle.judged_fixes.specs.Fixed.{AreSameErrors, IsFixed, IsTakenIfRight, in_words_alone, says_right, words_of};
+ghost use Rattle.judged_fixes.specs.Proposed.{IsProposed, has_fix, replacements_of};
 
 use crate::fixed::Fixed;
 use crate::judge::{Marks, is_gone, marks_of};
 use crate::mended::mended;
 use crate::proposal::{Proposed, has_fix, proposal};
-use diagnostics::diagnostic::Diagnostic;
+use diagnostics::diagnostic::{Diagnostic, Help};
 use diagnostics::helps::in_words;
 use diagnostics::listed::Listed;
-use mark_checker::finding::Finding;
+use mark_checker::survey::Surveyed;
 use mark_diagnostics::told::first_told;
 use mask_certificate::certificate::Cert;
 use std::alloc::{AllocError, Global};
 use task_descriptor::program::Program;
 
-/// How often the checker runs at most where the fixes together do not make the marks right.
-pub const MOST_RUNS: usize = 16;
+/// How many fixes are judged alone at most, where the fixes together do not make the marks right.
+pub const MOST_ALONE: usize = 15;
+
+/// How much the runs of the checker that judge fixes alone look at in all: bytes of the text, and entries of certificates.
+const MOST_READ: usize = 1_000_000;
 
 /// The errors of a text, as they are said, and the text with the fixes made that were judged.
 #[derive(Debug, Drop)]
@@ -45,7 +48,9 @@ fn made(
     if proposal.from.is_empty() {
         return Ok(None);
     }
-    let new = mended(alloc, text, &proposal.edits)?;
+    let Some(new) = mended(alloc, text, &proposal.edits)? else {
+        return Ok(None);
+    };
     let marks = marks_of(alloc, &new)?;
     if marks == Marks::Unread {
         return Ok(None);
@@ -64,41 +69,72 @@ struct Tried {
     bad: Vec<usize>,
 }
 
-// Tries fixes one by one, as many as there may be runs of the checker before the last one.
+// How many entries a program's certificate has.
+fn entries_in(program: &Program, cert: &Cert) -> usize {
+    let mut count: usize = 0;
+    for task in 0..program.tasks().len() {
+        count = count.saturating_add(cert.list(task as u32).len());
+    }
+    count
+}
+
+// How many fixes are judged alone: fewer, or none, where a run of the checker takes long.
+fn most_alone(text: &[u8], program: &Program, least: &Cert) -> usize {
+    let read = text.len().saturating_add(entries_in(program, least));
+    MOST_READ
+        .checked_div(read)
+        .unwrap_or(MOST_ALONE)
+        .min(MOST_ALONE)
+}
+
+// Tries fixes one by one, at most so many.
 fn try_each(
     alloc: Global,
     text: &[u8],
     said: &[Diagnostic],
-    findings: &[Finding],
-) -> Result<Tried, AllocError> {
+    program: &Program,
+    least: &Cert,
+    most: usize,
+) -> Result<Tried, AllocError>
+    requires { IsLeast program.now least.now }
+{
     let mut good = Vec::new(alloc);
     let mut bad = Vec::new(alloc);
-    for (place, finding) in findings.iter().enumerate() {
-        if good.len().saturating_add(bad.len()) >= MOST_RUNS - 1 {
+    let surveyed = Surveyed::new(alloc, program)?;
+    let findings = first_told(alloc, &surveyed.survey(), least, said.len())?;
+    for (place, finding) in findings.0.iter().enumerate() {
+        if good.len().saturating_add(bad.len()) >= most {
             break;
         }
         if said.get(place).is_some_and(has_fix) {
             let alone = proposal(alloc, text, said, Some(&[place]))?;
-            let new = mended(alloc, text, &alone.edits)?;
-            if is_gone(alloc, &new, finding)? {
-                good.push(place)?;
-            } else {
-                bad.push(place)?;
+            match mended(alloc, text, &alone.edits)? {
+                Some(new) if is_gone(alloc, &new, finding)? => good.push(place)?,
+                _ => bad.push(place)?,
             }
         }
     }
     Ok(Tried { good, bad })
 }
 
-/// Leaves of a diagnostic's help its words alone.
-pub(crate) fn tell_in_words(alloc: Global, said: &mut Diagnostic)
-    ensures same { besides_help said.new ≡ besides_help said.old }
-    ensures words { has_fix said.new ≡ false }
+// What is to be done, in words alone.
+fn words_of(alloc: Global, help: Option<Help>) -> Option<Help>
+    ensures words { result ≡ words_of help }
+    ensures alone { replacements_of result ≡ [] }
 {
-    said.help = match said.help.take() {
+    match help {
         Some(help) => Some(in_words(alloc, help.message)),
         None => None,
-    };
+    }
+}
+
+/// Leaves of a diagnostic's help its words alone.
+pub(crate) fn tell_in_words(alloc: Global, said: &mut Diagnostic)
+    ensures told { said.new ≡ in_words_alone said.old }
+    ensures words { has_fix said.new ≡ false }
+{
+    let help = said.help.take();
+    said.help = words_of(alloc, help);
 }
 
 // Leaves of the helps of the errors at these places their words alone.
@@ -138,7 +174,8 @@ fn says_right(fixed: &Option<Fixed>) -> bool
 }
 
 /// Judges the fixes that the errors of a program's marks propose: those of a proposal together, which are taken if they make
-/// the marks right; and else some of them alone, of which those are made that make their error go.
+/// the marks right; and else some of them alone, of which those are made that make their error go: at most `MOST_ALONE`, and
+/// fewer of a long text.
 ///
 /// # Errors
 ///
@@ -172,8 +209,14 @@ pub fn judge_fixes(
             fixed: together,
         });
     }
-    let findings = first_told(alloc, program, least, errors.len())?;
-    let tried = try_each(alloc, text, &errors, &findings.0)?;
+    let most = most_alone(text, program, least);
+    if most == 0 {
+        return Ok(Judged {
+            errors,
+            fixed: None,
+        });
+    }
+    let tried = try_each(alloc, text, &errors, program, least, most)?;
     let some = proposal(alloc, text, &errors, Some(&tried.good))?;
     let fixed = made(alloc, text, &errors, &some)?;
     let left = if says_right(&fixed) {

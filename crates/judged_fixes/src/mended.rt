@@ -1,43 +1,47 @@
 //! A text with parts of it replaced.
 
-ghost use Rattle.std.specs.Prelude.{◌≡◌, IfOk, take, drop};
-ghost use Rattle.judged_fixes.specs.Mended.{mended};
+ghost use Rattle.std.specs.Prelude.{◌≡◌, ◌<◌, ◌⊎◌, ◌+◌, ℕ, List, length, IfOk, IfSome, IfNone};
+ghost use Rattle.judged_fixes.specs.Mended.{IsCut, IsMended};
 
 use crate::edit::Edit;
 use std::alloc::{AllocError, Global};
 
-// The first bytes, or all where there are fewer.
-fn first(bytes: &[u8], count: usize) -> &[u8]
-    ensures { result.now ≡ take count bytes.now }
+// What stands before the part that an edit replaces, and what stands behind it, in what is left of a text from its byte `at`
+// on; `None` where that part begins before it, or is not all in the text.
+fn around<'a>(rest: &'a [u8], at: usize, edit: &Edit) -> Option<(&'a [u8], &'a [u8])>
+    ensures some { IfSome result (λ parts. IsCut rest.now at edit.now parts.0.now parts.1.now) }
+    ensures none { IfNone result ((before behind : List ℕ) → IsCut rest.now at edit.now before behind → ⊥) }
 {
-    &bytes[..count.min(bytes.len())]
+    let from = edit.from.checked_sub(at)?;
+    let to = edit.to.checked_sub(at)?;
+    if from > to || to > rest.len() {
+        return None;
+    }
+    Some((&rest[..from], &rest[to..]))
 }
 
-// What stands behind the first bytes.
-fn behind(bytes: &[u8], count: usize) -> &[u8]
-    ensures { result.now ≡ drop count bytes.now }
-{
-    &bytes[count.min(bytes.len())..]
-}
-
-/// A text with these edits made. They are to rise by their places, none beginning before the one ahead of it ends;
-/// of others the definition says what comes out, which is nothing that anybody wants.
+/// A text with these edits made; `None` where they do not rise by their places, none beginning before the one ahead of it
+/// ends, or one is not in the text.
 ///
 /// # Errors
 ///
 /// `AllocError` where memory was refused.
-pub fn mended(alloc: Global, text: &[u8], edits: &[Edit]) -> Result<Vec<u8>, AllocError>
-    ensures { IfOk result (λ made. made.items ≡ mended text.now edits.now) }
+pub fn mended(alloc: Global, text: &[u8], edits: &[Edit]) -> Result<Option<Vec<u8>>, AllocError>
+    ensures some { IfOk result (λ made. IfSome made (λ new. IsMended text.now edits.now new.items)) }
+    ensures none { IfOk result (λ made. IfNone made ((new : List ℕ) → IsMended text.now edits.now new → ⊥)) }
 {
     let mut made = Vec::new(alloc);
     let mut rest = text;
     let mut at = 0;
     for edit in edits {
-        made.extend_from_slice(first(rest, edit.from.saturating_sub(at)))?;
+        let Some((before, behind)) = around(rest, at, edit) else {
+            return Ok(None);
+        };
+        made.extend_from_slice(before)?;
         made.extend_from_slice(edit.text.as_str().as_bytes())?;
-        rest = behind(rest, edit.to.saturating_sub(at));
+        rest = behind;
         at = edit.to;
     }
     made.extend_from_slice(rest)?;
-    Ok(made)
+    Ok(Some(made))
 }

@@ -1,20 +1,20 @@
 //! The fix of what is wrong first in a text that the assembler refuses.
 
-ghost use Rattle.std.specs.Prelude.{◌≡◌, ◌↔◌, false, true, None, IfOk, IfSome};
-ghost use Rattle.std.specs.List.{All};
+ghost use Rattle.std.specs.Prelude.{◌≡◌, ◌↔◌, false, true, None, Some, IfOk, IfSome};
+ghost use Rattle.std.specs.List.{find, position};
 ghost use Rattle.annotated_asm.specs.ProgramText.{parse};
 ghost use Rattle.text_diagnostics.specs.Refusals.{tells};
-ghost use Rattle.judged_fixes.specs.Fixed.{AreSameErrors, besides_help};
+ghost use Rattle.judged_fixes.specs.Fixed.{AreSameErrors};
+ghost use Rattle.judged_fixes.specs.Proposed.{has_fix};
 ghost use Rattle.judged_fixes.specs.declared.judge.Marks.TheVariants.{Right};
 ghost use Rattle.judged_fixes.specs.Right.{IsRight};
-ghost use Rattle.judged_fixes.specs.Further.{IsFixedFurther, IsFurther, IsInWords, build_stage, is_below, is_later, is_operand, stage};
-ghost use Rattle.judged_fixes.specs.Proposed.{IsProposed, has_fix};
+ghost use Rattle.judged_fixes.specs.Further.{IsFirstInWords, IsFixedFurther, IsFurther, build_stage, is_below, is_later, is_operand, stage};
 
 use crate::fixed::Fixed;
 use crate::judge::{Marks, marks_in};
 use crate::judged::{Judged, tell_in_words};
 use crate::mended::mended;
-use crate::proposal::{Proposed, has_fix, proposal};
+use crate::proposal::{has_fix, proposal};
 use annotated_asm::assembler::assemble;
 use annotated_asm::fault::AsmFault;
 use diagnostics::diagnostic::{Diagnostic, Span};
@@ -93,79 +93,72 @@ fn marks_further(alloc: Global, text: &[u8], first: AsmFault) -> Result<Option<M
     }
 }
 
-// A text with a proposal made in it, if the assembler comes further in it than to this fault.
+// A text with the fixes of the errors at these places made in it, if the assembler comes further in it than to this fault.
 fn made_further(
     alloc: Global,
     text: &[u8],
     first: AsmFault,
     said: &[Diagnostic],
-    proposal: &Proposed,
+    places: &[usize],
 ) -> Result<Option<Fixed>, AllocError>
-    requires { All (IsProposed text.now said.now) proposal.now.edits.items }
     ensures { IfOk result (λ found. IfSome found (IsFixedFurther text.now first said.now)) }
 {
-    let new = mended(alloc, text, &proposal.edits)?;
+    let some = proposal(alloc, text, said, Some(places))?;
+    if some.from.is_empty() {
+        return Ok(None);
+    }
+    let Some(new) = mended(alloc, text, &some.edits)? else {
+        return Ok(None);
+    };
     let Some(marks) = marks_further(alloc, &new, first)? else {
         return Ok(None);
     };
     Ok(Some(Fixed {
         text: Listed::new(new),
-        fixes: proposal.from.len(),
+        fixes: some.from.len(),
         is_right: marks.are_right(),
     }))
 }
 
-// The places of the errors that tell a fault at its token and propose something.
-fn fixed_places(
+// The places of the errors that tell a fault at its token.
+fn told_places(
     alloc: Global,
-    errors: &[Diagnostic],
+    said: &[Diagnostic],
     first: AsmFault,
     token: Option<Span>,
 ) -> Result<Vec<usize>, AllocError> {
-    let mut places = Vec::new(alloc);
-    for (place, error) in errors.iter().enumerate() {
-        if tells(first, token, error) && has_fix(error) {
-            places.push(place)?;
-        }
-    }
-    Ok(places)
+    said.iter()
+        .enumerate()
+        .filter(|(_, one)| tells(first, token, one))
+        .map(|(place, _)| place)
+        .collect(alloc)
 }
 
-// An error in words alone, if it tells a fault at its token.
-fn in_words_if_first(
+// A text with the fix of its first error, at this place, if it has one: alone, or where the assembler comes no further with
+// it, since more than one name in a line is unknown, with those of all that tell the same fault.
+fn fixed_further(
     alloc: Global,
-    mut said: Diagnostic,
+    text: &[u8],
     first: AsmFault,
     token: Option<Span>,
-) -> Diagnostic
-    ensures same { besides_help result ≡ besides_help said }
-    ensures words { tells first token result ≡ true → has_fix result ≡ false }
+    said: &[Diagnostic],
+    place: usize,
+) -> Result<Option<Fixed>, AllocError>
+    ensures { IfOk result (λ found. IfSome found (IsFixedFurther text.now first said.now)) }
 {
-    if tells(first, token, &said) {
-        tell_in_words(alloc, &mut said);
+    if !said.get(place).is_some_and(has_fix) {
+        return Ok(None);
     }
-    said
+    let alone = made_further(alloc, text, first, said, &[place])?;
+    if alone.is_some() {
+        return Ok(alone);
+    }
+    let places = told_places(alloc, said, first, token)?;
+    made_further(alloc, text, first, said, &places)
 }
 
-// The errors, in words alone those that tell a fault at its token.
-fn first_in_words(
-    alloc: Global,
-    errors: Vec<Diagnostic>,
-    first: AsmFault,
-    token: Option<Span>,
-) -> Result<Vec<Diagnostic>, AllocError>
-    ensures same { IfOk result (λ told. AreSameErrors told.items errors.items) }
-    ensures words { IfOk result (λ told. All (λ d. tells first token d ≡ true → has_fix d ≡ false) told.items) }
-{
-    let mut told = Vec::new(alloc);
-    for said in errors {
-        told.push(in_words_if_first(alloc, said, first, token))?;
-    }
-    Ok(told)
-}
-
-/// Judges what the errors that tell a refused text's first fault propose to write: it is made in a copy of the text, in which
-/// the assembler is to come further. Where it does not, they are told in words alone.
+/// Judges what the first of the errors that tell a refused text's first fault proposes to write: it is made in a copy of the
+/// text, in which the assembler is to come further. Where it does not, that error is told in words alone.
 ///
 /// # Errors
 ///
@@ -174,26 +167,60 @@ pub fn judge_refusal(
     alloc: Global,
     text: &[u8],
     first: AsmFault,
-    errors: Vec<Diagnostic>,
+    mut errors: Vec<Diagnostic>,
 ) -> Result<Judged, AllocError>
     ensures same { IfOk result (λ judged. AreSameErrors judged.errors.items errors.items) }
     ensures fixed { IfOk result (λ judged. IfSome judged.fixed (IsFixedFurther text.now first errors.items)) }
-    ensures words { IfOk result (λ judged. judged.fixed ≡ None → All (IsInWords text.now first) judged.errors.items) }
+    ensures words { IfOk result (λ judged. judged.fixed ≡ None → IsFirstInWords text.now first judged.errors.items) }
 {
+    if !errors.iter().any(has_fix) {
+        return Ok(Judged {
+            errors,
+            fixed: None,
+        });
+    }
     let token = first_token(alloc, text, first)?;
-    let places = fixed_places(alloc, &errors, first, token)?;
-    if !places.is_empty() {
-        let some = proposal(alloc, text, &errors, Some(&places))?;
-        if let Some(fixed) = made_further(alloc, text, first, &errors, &some)? {
-            return Ok(Judged {
+    let Some(place) = first_place(errors.as_slice(), first, token) else {
+        return Ok(Judged {
+            errors,
+            fixed: None,
+        });
+    };
+    match fixed_further(alloc, text, first, token, &errors, place)? {
+        Some(fixed) => Ok(Judged {
+            errors,
+            fixed: Some(fixed),
+        }),
+        None => {
+            tell_first(alloc, &mut errors, first, token, place);
+            Ok(Judged {
                 errors,
-                fixed: Some(fixed),
-            });
+                fixed: None,
+            })
         }
     }
-    let errors = first_in_words(alloc, errors, first, token)?;
-    Ok(Judged {
-        errors,
-        fixed: None,
-    })
+}
+
+// Tells the first error that tells a fault, at this place, in words alone.
+fn tell_first(
+    alloc: Global,
+    errors: &mut Vec<Diagnostic>,
+    first: AsmFault,
+    token: Option<Span>,
+    place: usize,
+)
+    requires { position (tells first token) errors.old.items ≡ Some place }
+    ensures same { AreSameErrors errors.new.items errors.old.items }
+    ensures words { IfSome (find (tells first token) errors.new.items) (λ d. has_fix d ≡ false) }
+{
+    if let Some(said) = errors.get_mut(place) {
+        tell_in_words(alloc, said);
+    }
+}
+
+// The place of the first error that tells a fault at its token.
+fn first_place(said: &[Diagnostic], first: AsmFault, token: Option<Span>) -> Option<usize>
+    ensures { result ≡ position (tells first token) said.now }
+{
+    said.iter().position(|one| tells(first, token, one))
 }

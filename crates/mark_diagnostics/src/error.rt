@@ -27,6 +27,7 @@ use exit_diagnostics::needless::is_needless;
 use finding_paths::shown::{ShownFinding, path_of};
 use mark_checker::accept::accepts;
 use mark_checker::finding::{Finding, Rule};
+use mark_checker::survey::{Survey, Surveyed};
 use mark_subjects::parts::{
     add_more, first_of, place_words, registers_words, spot_words, way_notes,
 };
@@ -176,13 +177,19 @@ fn whole_notes(
 
 /// A step into a task, if a stop there is the first thing to do, and another finding of the task is told before this one.
 #[tactic(auto, unfolding(crate::specs::Errors::ends_first))]
-fn ends_first(subject: &Subject, finding: &Finding, step: (u32, u32)) -> Made<Option<(u32, u32)>>
+fn ends_first(
+    subject: &Subject,
+    survey: &Survey<'_>,
+    finding: &Finding,
+    step: (u32, u32),
+) -> Made<Option<(u32, u32)>>
+    requires { survey.now ≡ subject.now.program }
     ensures { IfOk result (λ found. found ≡ ends_first subject.now finding.now step) }
 {
     if !is_end_first(subject, finding.task, step) {
         return Ok(None);
     }
-    if is_first(subject, finding)? {
+    if is_first(subject, survey, finding)? {
         Ok(None)
     } else {
         Ok(Some(step))
@@ -193,13 +200,15 @@ fn ends_first(subject: &Subject, finding: &Finding, step: (u32, u32)) -> Made<Op
 #[tactic(auto, unfolding(crate::specs::Errors::short_step))]
 fn short_step(
     subject: &Subject,
+    survey: &Survey<'_>,
     finding: &Finding,
     step: Option<(u32, u32)>,
 ) -> Made<Option<(u32, u32)>>
+    requires { survey.now ≡ subject.now.program }
     ensures { IfOk result (λ found. found ≡ short_step subject.now finding.now step) }
 {
     match step {
-        Some(step) => ends_first(subject, finding, step),
+        Some(step) => ends_first(subject, survey, finding, step),
         None => Ok(None),
     }
 }
@@ -239,14 +248,16 @@ fn told_help(
 /// What is said of a finding, with what is told with it.
 fn error_diagnostic(
     subject: &Subject,
+    survey: &Survey<'_>,
     finding: &Finding,
     about: &[Finding],
     shown: &[ShownFinding],
 ) -> Made<Diagnostic>
+    requires { survey.now ≡ subject.now.program }
     ensures { IfOk result (λ said. IsError subject.now finding.now shown.now said) }
 {
     let message = message(subject, finding, about)?;
-    let short = short_step(subject, finding, first_entered(subject, shown))?;
+    let short = short_step(subject, survey, finding, first_entered(subject, shown))?;
     let notes = told_notes(subject, finding, about, shown, short)?;
     let help = told_help(subject, finding, about, shown, short)?;
     Ok(Diagnostic {
@@ -278,27 +289,33 @@ fn shown_of(alloc: Global, program: &Program, findings: &[Finding]) -> Made<Vec<
 }
 
 /// The diagnostic for a finding that is reported.
-fn told_diagnostic(subject: &Subject, finding: &Finding) -> Made<Diagnostic>
+fn told_diagnostic(subject: &Subject, survey: &Survey<'_>, finding: &Finding) -> Made<Diagnostic>
+    requires survey { survey.now ≡ subject.now.program }
     requires least { IsLeast subject.now.program subject.now.least }
     requires found { IsFinding subject.now.program finding.now }
     ensures { IfOk result (λ said. Says subject.now finding.now said) }
 {
-    let about = about(subject, finding)?;
+    let about = about(subject, survey, finding)?;
     let first = first_of(&about, 5);
     let shown = shown_of(subject.alloc(), subject.program(), first)?;
-    let said = error_diagnostic(subject, finding, &about, &shown)?;
+    let said = error_diagnostic(subject, survey, finding, &about, &shown)?;
     Ok(said)
 }
 
 /// The diagnostics for some findings that are reported.
-fn told_diagnostics(subject: &Subject, findings: &[Finding]) -> Made<Vec<Diagnostic>>
+fn told_diagnostics(
+    subject: &Subject,
+    survey: &Survey<'_>,
+    findings: &[Finding],
+) -> Made<Vec<Diagnostic>>
+    requires survey { survey.now ≡ subject.now.program }
     requires least { IsLeast subject.now.program subject.now.least }
     requires found { All (IsFinding subject.now.program) findings.now }
     ensures { IfOk result (λ list. AllZip (Says subject.now) findings.now list.items) }
 {
     let mut list = Vec::new(subject.alloc());
     for finding in findings {
-        let said = told_diagnostic(subject, finding)?;
+        let said = told_diagnostic(subject, survey, finding)?;
         list.push(said)?;
     }
     Ok(list)
@@ -329,9 +346,11 @@ pub fn mark_errors(
     if accepts(program, least) {
         return Ok(Vec::new(alloc));
     }
-    let first = first_told(alloc, program, least, MOST_SHOWN)?;
+    let surveyed = Surveyed::new(alloc, program)?;
+    let survey = surveyed.survey();
+    let first = first_told(alloc, &survey, least, MOST_SHOWN)?;
     let subject = Subject::read(alloc, text, program, least)?;
-    let mut list = told_diagnostics(&subject, &first.0)?;
+    let mut list = told_diagnostics(&subject, &survey, &first.0)?;
     let more = first.1.saturating_sub(MOST_SHOWN);
     add_more(alloc, &mut list, more, "error", "errors")?;
     Ok(list)

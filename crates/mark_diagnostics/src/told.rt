@@ -6,14 +6,14 @@ ghost use Rattle.std.specs.Option.{option_copied, option_to_list};
 ghost use Rattle.annotator.specs.Least.{IsLeast};
 ghost use Rattle.mark_diagnostics.specs.Told.{is_of_mask, told, all_told, is_register, leader, leaders, about, register_in, is_same, begins_with, is_first};
 
-use mark_checker::check::check_task;
+use mark_checker::check::check_surveyed;
 use mark_checker::finding::{Finding, Rule};
+use mark_checker::survey::Survey;
 use mark_subjects::parts::first_of;
 use mark_subjects::subject::{Made, Subject};
 use mask_certificate::certificate::Cert;
 use mips_instructions::number::Reg;
 use std::alloc::Global;
-use task_descriptor::program::Program;
 
 /// Whether a rule says that a create mask lacks a register.
 fn is_of_mask(rule: Rule) -> bool
@@ -104,22 +104,22 @@ fn add_first(list: &mut Vec<Finding>, found: &[Finding], most: usize) -> Made<()
     list.extend_from_slice(first_of(found, room))
 }
 
-/// The first findings to report of a program with its least certificate, at most `most`, and how many there are in all.
-/// It holds the findings of one task at a time.
+/// The first findings to report of a surveyed program with its least certificate, at most `most`, and how many there are in
+/// all. It holds the findings of one task at a time.
 pub fn first_told(
     alloc: Global,
-    program: &Program,
+    survey: &Survey<'_>,
     cert: &Cert,
     most: usize,
 ) -> Made<(Vec<Finding>, usize)>
-    requires { IsLeast program.now cert.now }
-    ensures list { IfOk result (λ first. first.0.items ≡ take most (all_told program.now cert.now)) }
-    ensures count { IfOk result (λ first. first.1 ≡ length (all_told program.now cert.now)) }
+    requires { IsLeast survey.now cert.now }
+    ensures list { IfOk result (λ first. first.0.items ≡ take most (all_told survey.now cert.now)) }
+    ensures count { IfOk result (λ first. first.1 ≡ length (all_told survey.now cert.now)) }
 {
     let mut list = Vec::new(alloc);
     let mut count = 0;
-    for task in 0..program.tasks().len() {
-        let found = check_task(alloc, program, cert, task as u32)?;
+    for task in 0..survey.program().tasks().len() {
+        let found = check_surveyed(alloc, survey, cert, task as u32)?;
         let told = told(alloc, &found)?;
         add_first(&mut list, &told, most)?;
         count += told.len();
@@ -127,13 +127,14 @@ pub fn first_told(
     Ok((list, count))
 }
 
-/// The findings that are reported together with this one.
-pub(crate) fn about(subject: &Subject, finding: &Finding) -> Made<Vec<Finding>>
+/// The findings that are reported together with this one, of a surveyed program.
+pub(crate) fn about(subject: &Subject, survey: &Survey<'_>, finding: &Finding) -> Made<Vec<Finding>>
+    requires { survey.now ≡ subject.now.program }
     ensures { IfOk result (λ list. list.items ≡ about subject.now finding.now) }
 {
     let alloc = subject.alloc();
     if is_of_mask(finding.rule) {
-        let found = check_task(alloc, subject.program(), subject.least(), finding.task)?;
+        let found = check_surveyed(alloc, survey, subject.least(), finding.task)?;
         return leaders(alloc, &found);
     }
     let mut list = Vec::new(alloc);
@@ -172,13 +173,14 @@ fn begins_with(findings: &[Finding], finding: &Finding) -> bool
     }
 }
 
-/// Whether a finding is told before all others of its task.
+/// Whether a finding of a surveyed program is told before all others of its task.
 #[tactic(auto, unfolding(crate::specs::Told::is_first))]
-pub(crate) fn is_first(subject: &Subject, finding: &Finding) -> Made<bool>
+pub(crate) fn is_first(subject: &Subject, survey: &Survey<'_>, finding: &Finding) -> Made<bool>
+    requires { survey.now ≡ subject.now.program }
     ensures { IfOk result (λ first. first ≡ is_first subject.now finding.now) }
 {
     let alloc = subject.alloc();
-    let found = check_task(alloc, subject.program(), subject.least(), finding.task)?;
+    let found = check_surveyed(alloc, survey, subject.least(), finding.task)?;
     let told = told(alloc, &found)?;
     Ok(begins_with(&told, finding))
 }

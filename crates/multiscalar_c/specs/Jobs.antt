@@ -1,7 +1,6 @@
 -- What each call takes, and what it hands out.
 use Rattle.std.specs.Prelude.{◌≡◌, ℕ, Bool, List, [], Option, Some, None, IsSome, IfSome, slice_get, if◌then◌else◌}
 use Rattle.std.specs.Str.{IsUtf8}
-use Rattle.jobs.specs.declared.job.Colors.TheVariants.{Never}
 use Rattle.jobs.specs.declared.job.Schedule.TheVariants.{Steps}
 use Rattle.limits.specs.Limits.{IsBudget, IsUnits}
 use Rattle.report_texts.specs.OutputTexts.{Report}
@@ -37,7 +36,7 @@ pub record ExplainTakes (format : ℕ) (name : List ℕ) (file : Option (List �
 -- what `explain` writes, without colours and of no event script
 abbrev pub IsExplained : (format : ℕ) → (warnings : Bool) → (name : List ℕ) → (file : Option (List ℕ)) → (program certificate : List ℕ) → Report → Type 0
 IsExplained format warnings name file program certificate report =
-    IfSome (slice_get formats format) (λ format. IsExplainReport format name file None warnings Never program certificate [] report)
+    IfSome (slice_get formats format) (λ _. IsExplainReport file None warnings program certificate [] report)
 
 -- what `replay` takes
 pub record ReplayTakes (units emit : ℕ) : Type 0 where

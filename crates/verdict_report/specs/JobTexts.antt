@@ -26,8 +26,7 @@ IsReportOf (Seq budget) texts report = report ≡ seq_text budget texts.program.
 IsReportOf Print texts report = report ≡ print_text texts.program.items
 IsReportOf (Annotate emit) texts report = IsAnnotateReport emit texts.program.items report
 IsReportOf (Explain name certificate script warnings format colors) texts report =
-    IsExplainReport format (string_bytes name) (option_map string_bytes certificate) (option_map string_bytes script) warnings colors
-    texts.program.items texts.certificate texts.script.items report
+    IsExplainReport (option_map string_bytes certificate) (option_map string_bytes script) warnings texts.program.items texts.certificate texts.script.items report
 IsReportOf (Check source workers) texts report =
     OfCertificate source texts.program.items texts.certificate (λ certificate. report ≡ check_text texts.program.items certificate)
 IsReportOf (Replay source units emit until) texts report =

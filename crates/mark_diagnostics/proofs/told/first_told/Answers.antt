@@ -1,6 +1,7 @@
 -- One task more: its findings to report are counted, and the first of them put into what room is left.
 use Rattle.std.proofs.Common.{◌≡◌, ◌+◌, ◌-◌, ◌++◌, List, length, take, ◌∙◌, ap, arith}
 use Rattle.std.specs.List.{flat_map, range_with_len}
+use Rattle.task_descriptor.specs.Listing.{Listing}
 use Rattle.task_descriptor.specs.declared.descriptor.Descriptor.{Descriptor}
 use Rattle.mark_checker.specs.declared.finding.Finding.{Finding}
 use Rattle.mark_checker.specs.Rules.{rules}
@@ -12,7 +13,7 @@ use Rattle.mark_diagnostics.proofs.told.first_told.Goals as goal
 
 pub loop-task-preserved : goal.loop-task-preserved
 loop-task-preserved c =
-    let p = c.args.program.now in
+    let p = c.args.survey.now in
     let cert = c.args.cert.now in
     let task = c.loop-task.task in
     let most = c.args.most in
@@ -38,14 +39,14 @@ loop-task-preserved c =
 
 pub returns-clause-list : goal.returns-clause-list
 returns-clause-list c =
-    let p = c.args.program.now in
-    let end : length c.tasks-task-end.result.now ≡ length p.tasks = ap (λ (ds : List Descriptor). length ds) c.tasks-task-end.ensures.value in
+    let p = c.args.survey.now in
+    let end : length c.tasks-task-end.result.now ≡ length p.tasks = ap (λ (ds : List Descriptor). length ds) (c.tasks-task-end.ensures.value ∙ ap (λ (q : Listing). q.tasks) c.program-task-end.ensures) in
     let last : c.loop-task.task ≡ length p.tasks = omega (arith, end, c.loop-task.auto.task-end, c.loop-task-test.false) in
     c.loop-task.invariant.list ∙ ap (λ n. take c.args.most (flat_map (told_of p c.args.cert.now) (range_with_len 0 n))) last
 
 pub returns-clause-count : goal.returns-clause-count
 returns-clause-count c =
-    let p = c.args.program.now in
-    let end : length c.tasks-task-end.result.now ≡ length p.tasks = ap (λ (ds : List Descriptor). length ds) c.tasks-task-end.ensures.value in
+    let p = c.args.survey.now in
+    let end : length c.tasks-task-end.result.now ≡ length p.tasks = ap (λ (ds : List Descriptor). length ds) (c.tasks-task-end.ensures.value ∙ ap (λ (q : Listing). q.tasks) c.program-task-end.ensures) in
     let last : c.loop-task.task ≡ length p.tasks = omega (arith, end, c.loop-task.auto.task-end, c.loop-task-test.false) in
     c.loop-task.invariant.count ∙ ap (λ n. length (flat_map (told_of p c.args.cert.now) (range_with_len 0 n))) last
