@@ -6,5 +6,4 @@ pub mod Going
 pub mod Counting
 pub mod Ranges
 pub mod Masks
-pub mod Stepwise
 pub mod Underway

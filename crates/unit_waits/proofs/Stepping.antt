@@ -28,9 +28,9 @@ cut_replay p units s s' n es h =
     cut_list p units s s' (take n es) (drop n es) (subst (λ (xs : List Event). ReplaysFrom p units s xs s') (sym (take-append-drop n es)) h)
 
 -- what comes after the first events
-behind : NextIsAfter → (p : Listing) (units : ℕ) (s t s' : State) (n : ℕ) (es : List Event) → t ≡ after_all p s (take n es)
+pub replay_behind : NextIsAfter → (p : Listing) (units : ℕ) (s t s' : State) (n : ℕ) (es : List Event) → t ≡ after_all p s (take n es)
     → ReplaysFrom p units s es s' → ReplaysFrom p units t (drop n es) s'
-behind law p units s t s' n es is h =
+replay_behind law p units s t s' n es is h =
     let cut = cut_replay p units s s' n es h in
     let same : cut.0 ≡ t = replay_leaves law p units s cut.0 (take n es) cut.1 ∙ sym is in
     subst (λ (x : State). ReplaysFrom p units x (drop n es) s') same cut.2
@@ -54,5 +54,5 @@ step_done law p units number old new left i front waited found is waits few land
           ∙ (λ j. sym (waits ∙ ap (λ (es : List Event). waits_in p units number s es) is) j ++ waits_from p units (suc number) (sym now j) [] (drop (i + 1) left));
       few = few;
       count = count ∙ ap (λ (n : ℕ). length old.history + n) long;
-      replay = (replay.0, behind law p units s (state new) replay.0 (i + 1) left now replay.1);
+      replay = (replay.0, replay_behind law p units s (state new) replay.0 (i + 1) left now replay.1);
     }

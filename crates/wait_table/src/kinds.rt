@@ -2,15 +2,14 @@
 
 ghost use Rattle.std.specs.Prelude.{◌≡◌, ◌≤◌};
 ghost use Rattle.unit_waits.specs.Counts.{all_waits as all_waits_of};
-ghost use Rattle.wait_table.specs.Kinds.{is_for_head as is_for_head_of, is_for_sent as is_for_sent_of, is_for_unsent as is_for_unsent_of, waits_passing as waits_passing_of};
-ghost use Rattle.wait_table.specs.Sums.{part, test_of};
+ghost use Rattle.wait_table.specs.Kinds.{is_for_head as is_for_head_of, is_for_sent as is_for_sent_of, is_for_unsent as is_for_unsent_of, is_of as is_of_kind, part, waits_of as waits_of_kind};
 
 use unit_waits::count::Count;
 use unit_waits::waiting::Reason;
 
-/// What a reason is a wait for.
-#[derive(Clone, Copy)]
-pub(crate) enum Kind {
+/// What waits are for.
+#[derive(Clone, Copy, Debug, PartialEq, Eq)]
+pub enum Kind {
     /// A register that was not sent.
     Unsent,
     /// A register on its way.
@@ -22,10 +21,10 @@ pub(crate) enum Kind {
 }
 
 /// Whether a reason is of a kind.
-fn is_of(reason: &Reason, kind: &Kind) -> bool
-    ensures { result ≡ test_of kind.now reason.now }
+fn is_of(reason: &Reason, kind: Kind) -> bool
+    ensures { result ≡ is_of_kind kind reason.now }
 {
-    match *kind {
+    match kind {
         Kind::Unsent => is_for_unsent(reason),
         Kind::Sent => is_for_sent(reason),
         Kind::Head => is_for_head(reason),
@@ -73,8 +72,8 @@ fn is_for_head(reason: &Reason) -> bool
 }
 
 /// How many waits of a count are of a kind: all, or none.
-fn part_of(kind: &Kind, count: &Count) -> u32
-    ensures { result ≡ part kind.now count.now }
+fn part_of(kind: Kind, count: &Count) -> u32
+    ensures { result ≡ part kind count.now }
 {
     if is_of(&count.first.reason, kind) {
         count.waits
@@ -84,21 +83,13 @@ fn part_of(kind: &Kind, count: &Count) -> u32
 }
 
 /// How many waits are of a kind.
-pub(crate) fn waits_of(kind: &Kind, counts: &[Count]) -> u32
+pub(crate) fn waits_of(kind: Kind, counts: &[Count]) -> u32
     requires { all_waits_of counts.now ≤ 16000000 }
-    ensures { result ≡ waits_passing_of (test_of kind.now) counts.now }
+    ensures { result ≡ waits_of_kind kind counts.now }
 {
     let mut waits = 0;
     for count in counts {
         waits += part_of(kind, count);
     }
     waits
-}
-
-/// How many waits there are.
-pub(crate) fn all_waits(counts: &[Count]) -> u32
-    requires { all_waits_of counts.now ≤ 16000000 }
-    ensures { result ≡ all_waits_of counts.now }
-{
-    waits_of(&Kind::Any, counts)
 }
