@@ -55,7 +55,7 @@ fn is_same_duty(register: Reg, owed: &Owed, other: &Reason) -> bool
 }
 
 /// Whether two units wait for the same reason. Where it is a register that is owed, the units that owe it may differ.
-pub fn is_same_reason(reason: &Reason, other: &Reason) -> bool
+fn is_same_reason(reason: &Reason, other: &Reason) -> bool
     ensures { result ≡ is_same_reason_as reason.now other.now }
 {
     match *reason {

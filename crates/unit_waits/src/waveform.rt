@@ -8,7 +8,7 @@ ghost use Rattle.sequencer.specs.Machines.{state};
 ghost use Rattle.unit_waits.specs.Signals.{signals as signals_of};
 ghost use Rattle.unit_waits.specs.Waits.{after_all};
 
-use crate::acting::{behind, last_of_step};
+use crate::acting::{behind, step_of};
 use crate::changes::write_time;
 use crate::header::write_header;
 use crate::signals::signals;
@@ -63,18 +63,17 @@ fn write_times<'a>(
     let mut time = 0;
     while start < history.len() {
         let left = behind(history, start);
-        let Some(last) = last_of_step(machine.active(), left) else {
+        let Some(events) = step_of(machine.active(), left) else {
             apply_all(&mut machine, left)?;
             show(alloc, text, accepted, &machine, units, time, &before, &[])?;
             return Ok(machine);
         };
-        let (events, _) = left.split_at(last + 1);
         let shown = show(
             alloc, text, accepted, &machine, units, time, &before, events,
         )?;
         apply_all(&mut machine, events)?;
         before = shown;
-        start += last + 1;
+        start += events.len();
         time += 1;
     }
     show(alloc, text, accepted, &machine, units, time, &before, &[])?;

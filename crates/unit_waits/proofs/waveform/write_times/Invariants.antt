@@ -1,6 +1,6 @@
 -- The steps so far.
 use Rattle.std.proofs.Common.{◌-◌, length}
-use Rattle.unit_waits.proofs.Underway.{IsUnderway}
+use Rattle.unit_waits.proofs.Stepping.{IsUnderway}
 use Rattle.unit_waits.proofs.waveform.write_times.Given as goal
 
 abbrev pub invariant-loop-start : goal.invariant-loop-start
