@@ -1,42 +1,24 @@
 //! Which unit does an event, and which event ends a step.
 
 ghost use Rattle.std.specs.Prelude.{◌≡◌, ◌<◌, ◌≤◌, drop, length, position as position_by, IfSome, MatchOption, None};
-ghost use Rattle.machine_model.specs.HeadEvent.{position_of as position_of_event};
 ghost use Rattle.unit_waits.specs.Steps.{IsStepOf};
 ghost use Rattle.unit_waits.specs.Waits.{acts as acts_in, ends_step as ends_step_of};
 
 use machine_model::event::Event;
-
-/// The position that an event is at, in a queue of `active` units.
-fn position_of(active: u32, event: &Event) -> u32
-    ensures { result ≡ position_of_event active event.now }
-{
-    match *event {
-        Event::Assign(_) => active,
-        Event::Exec(position) => position,
-        Event::Transfer(position, _) => position,
-        Event::Drain(position, _) => position,
-        Event::Squash(position) => position,
-        Event::Retire => 0,
-        Event::Fault => 0,
-        Event::Drop(position) => position,
-    }
-}
+use run_picture::queue::position_of;
 
 /// Whether an event ends a step that began with `active` units at work.
 fn ends_step(active: u32, event: &Event) -> bool
     ensures { result ≡ ends_step_of active event.now }
 {
-    position_of(active, event) == 0
+    position_of(u64::from(active), *event) == 0
 }
 
 /// Whether the unit at a position does one of the events of a step.
 pub(crate) fn acts(active: u32, position: u32, events: &[Event]) -> bool
     ensures { result ≡ acts_in active position events.now }
 {
-    events
-        .iter()
-        .any(|event| position_of(active, event) == position)
+    events.iter().any(|event| position_of(u64::from(active), *event) == u64::from(position))
 }
 
 /// The index of the first event that ends a step; `None` where none does.

@@ -1,12 +1,11 @@
 //! Waits counted.
 
-ghost use Rattle.std.specs.Prelude.{◌≡◌, ◌+◌, ◌^◌, ◌<◌, ◌≤◌, List, length, position as position_by, IfOk, OnOk};
+ghost use Rattle.std.specs.Prelude.{◌≡◌, ◌+◌, ◌^◌, ◌<◌, ◌≤◌, length, position as position_by, IfOk, OnOk};
 ghost use Rattle.std.specs.List.{fold};
 ghost use Rattle.machine_model.specs.Machine.{State};
 ghost use Rattle.machine_model.specs.Answer.{most_events};
 ghost use Rattle.machine_model.specs.Replay.{Replays};
-ghost use Rattle.unit_waits.specs.declared.waiting.Waiting.{Waiting};
-ghost use Rattle.unit_waits.specs.Counts.{HaveRoom, all_waits, counted, counts_of, is_alike as is_alike_to};
+ghost use Rattle.unit_waits.specs.Counts.{all_waits, counted, counts_of, is_alike as is_alike_to};
 ghost use Rattle.unit_waits.specs.Waits.{waits as waits_of};
 
 use crate::acting::{behind, step_of};
@@ -32,7 +31,7 @@ fn index_alike(counts: &[Count], waiting: &Waiting) -> Option<usize>
 
 /// Counts a wait.
 fn add(counts: &mut Vec<Count>, waiting: &Waiting) -> Result<(), AllocError>
-    requires { HaveRoom counts.old.items }
+    requires { all_waits counts.old.items + 1 < 2 ^ 32 }
     ensures { OnOk result (counts.new.items ≡ counted counts.old.items waiting.now) }
 {
     let Some(index) = index_alike(counts, waiting) else {
@@ -52,7 +51,7 @@ fn add(counts: &mut Vec<Count>, waiting: &Waiting) -> Result<(), AllocError>
 
 /// Counts the waits of a step.
 fn add_all(counts: &mut Vec<Count>, waits: &[Waiting]) -> Result<(), AllocError>
-    requires { (before : List Waiting) × (counts.old.items ≡ counts_of before) × (length before + length waits.now < 2 ^ 32) }
+    requires { all_waits counts.old.items + length waits.now < 2 ^ 32 }
     ensures { OnOk result (counts.new.items ≡ fold counted counts.old.items waits.now) }
 {
     for waiting in waits {

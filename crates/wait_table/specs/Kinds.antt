@@ -1,5 +1,6 @@
 -- What waits are for, and how many there are of each kind.
-use Rattle.std.specs.Prelude.{ℕ, ◌+◌, Bool, true, false, not, if◌then◌else◌, List, [], ◌∷◌}
+use Rattle.std.specs.Prelude.{ℕ, Bool, true, false, not, if◌then◌else◌, List}
+use Rattle.std.specs.List.{sum_by}
 use Rattle.unit_waits.specs.declared.waiting.Reason.{Reason}
 use Rattle.unit_waits.specs.declared.waiting.Reason.TheVariants.{NeedsRegister, NeedsHead, HasToPass, HasFinished}
 use Rattle.unit_waits.specs.declared.count.Count.{Count}
@@ -35,5 +36,4 @@ abbrev pub part : Kind → Count → ℕ
 part kind c = if is_of kind c.first.reason then c.waits else 0
 
 abbrev pub waits_of : Kind → List Count → ℕ
-waits_of kind [] = 0
-waits_of kind (c ∷ cs) = part kind c + waits_of kind cs
+waits_of kind counts = sum_by (part kind) counts

@@ -37,11 +37,8 @@ fn is_for_unsent(reason: &Reason) -> bool
     ensures { result ≡ is_for_unsent_of reason.now }
 {
     match reason {
-        Reason::NeedsRegister(_, owed) => !owed.is_sent,
-        Reason::HasToPass(_, owed) => !owed.is_sent,
-        Reason::NeedsHead => false,
-        Reason::HasFinished => false,
-        Reason::CouldGoOn => false,
+        Reason::NeedsRegister(_, owed) | Reason::HasToPass(_, owed) => !owed.is_sent,
+        _ => false,
     }
 }
 
@@ -50,11 +47,8 @@ fn is_for_sent(reason: &Reason) -> bool
     ensures { result ≡ is_for_sent_of reason.now }
 {
     match reason {
-        Reason::NeedsRegister(_, owed) => owed.is_sent,
-        Reason::HasToPass(_, owed) => owed.is_sent,
-        Reason::NeedsHead => false,
-        Reason::HasFinished => false,
-        Reason::CouldGoOn => false,
+        Reason::NeedsRegister(_, owed) | Reason::HasToPass(_, owed) => owed.is_sent,
+        _ => false,
     }
 }
 
@@ -63,11 +57,8 @@ fn is_for_head(reason: &Reason) -> bool
     ensures { result ≡ is_for_head_of reason.now }
 {
     match reason {
-        Reason::NeedsHead => true,
-        Reason::HasFinished => true,
-        Reason::NeedsRegister(_, _) => false,
-        Reason::HasToPass(_, _) => false,
-        Reason::CouldGoOn => false,
+        Reason::NeedsHead | Reason::HasFinished => true,
+        _ => false,
     }
 }
 
@@ -87,9 +78,5 @@ pub(crate) fn waits_of(kind: Kind, counts: &[Count]) -> u32
     requires { all_waits_of counts.now ≤ 16000000 }
     ensures { result ≡ waits_of_kind kind counts.now }
 {
-    let mut waits = 0;
-    for count in counts {
-        waits += part_of(kind, count);
-    }
-    waits
+    counts.iter().map(|count| part_of(kind, count)).sum()
 }

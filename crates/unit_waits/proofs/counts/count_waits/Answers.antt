@@ -50,7 +50,9 @@ add_all-requires c =
     let few = c.in_ok-in_step.ensures.few in
     let within = l.invariant.on.within in
     let here = ap (λ (ws : List Waiting). length ws) c.as_slice.ensures.value in
-    (l.invariant.waited, l.invariant.counts, omega (arith, few, within, here, l.invariant.few, c.requires.room))
+    let all = ap all_waits l.invariant.counts in
+    let sum = all_counted l.invariant.waited in
+    omega (arith, few, within, here, all, sum, l.invariant.few, c.requires.room)
 
 pub loop-start-preserved : goal.loop-start-preserved
 loop-start-preserved c =
