@@ -16,6 +16,14 @@ apply_all-requires-clause-replay c =
     let l = c.loop-start in
     rest_allowed c.next_is_after.ensures c.args.accepted.now c.args.units c.args.history.now c.behind-left.result.now l.start l.time l.machine l.invariant c.behind-left.ensures
 
+pub apply_all-requires-clause-room : goal.apply_all-requires-clause-room
+apply_all-requires-clause-room c =
+    let l = c.loop-start in
+    let count = l.invariant.count in
+    let within = l.invariant.within in
+    let long = ap (λ (es : List Event). length es) c.behind-left.ensures in
+    omega (arith, count, within, long, length-drop l.start c.args.history.now, c.requires.room)
+
 pub apply_all-requires-in-loop-start-clause-replay : goal.apply_all-requires-in-loop-start-clause-replay
 apply_all-requires-in-loop-start-clause-replay c =
     let l = c.loop-start in
