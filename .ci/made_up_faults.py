@@ -32,8 +32,8 @@ ALLOWED = {
     # What a refused push gives, without the value that it hands back.
     "parallel_check/src/checking.rt": 1,
     # A write to memory failed, which it does for want of it alone.
+    "event_trace/src/streaming.rt": 1,
     "program_edge/src/reports.rt": 1,
-    "verdict_report/src/replaying.rt": 1,
     # Noted when a call or a thread was refused.
     "threaded_runner/src/desk.rt": 1,
 }

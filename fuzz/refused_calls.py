@@ -36,7 +36,7 @@ NAME = "calls_of_libraries"
 BELOW = ("mips_instructions mips_plain task_descriptor annotated_asm diagnostics text_diagnostics canonical_text task_graph "
          "mask_certificate mark_checker annotator finding_paths mark_diagnostics input_diagnostics machine_model register_ring unit_core sequencer "
          "parallel_check threaded_runner unit_turns event_script text_pieces jobs command_line verdict_report "
-         "task_lives run_picture event_trace event_json speed_curve diagnostic_log")
+         "task_lives run_picture event_trace speed_curve diagnostic_log")
 
 SOURCE = r"""
 #define _GNU_SOURCE

@@ -1,8 +1,8 @@
 //! Where a text of a command is.
 
-use crate::json_text::{JsonText, Written};
 use diagnostics::diagnostic::Source;
 use diagnostics::files::Files;
+use json_text::{JsonText, Written};
 use percent_encoding::{AsciiSet, NON_ALPHANUMERIC, ascii_set, percent_encode};
 use std::alloc::{AllocError, Global};
 

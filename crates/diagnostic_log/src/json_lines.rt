@@ -1,10 +1,10 @@
 //! Diagnostics as lines of JSON: an object for each.
 
-use crate::json_text::{JsonText, Written};
 use crate::paths::told;
 use crate::results::severity_word;
 use diagnostics::diagnostic::{Diagnostic, Help, Note, Severity, Source, Span};
 use diagnostics::files::Files;
+use json_text::{JsonText, Written};
 use std::alloc::{AllocError, Global};
 
 /// Adds where a part of a line is, or that none is meant.

@@ -5,7 +5,6 @@
 mod artifact;
 mod columns;
 pub mod json_lines;
-mod json_text;
 mod paths;
 mod results;
 mod rules;

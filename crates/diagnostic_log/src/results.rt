@@ -2,11 +2,11 @@
 
 use crate::artifact::{Artifacts, write_artifact};
 use crate::columns::Columns;
-use crate::json_text::{JsonText, Written};
 use crate::paths::told;
 use diagnostics::code::Code;
 use diagnostics::diagnostic::{Diagnostic, Help, Note, Severity, Source, Span};
 use diagnostics::files::Files;
+use json_text::{JsonText, Written};
 use std::alloc::Global;
 
 /// How severe a diagnostic is, in the word of the formats.

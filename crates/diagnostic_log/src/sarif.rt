@@ -2,12 +2,12 @@
 
 use crate::artifact::{Artifact, Artifacts, write_artifact};
 use crate::columns::Columns;
-use crate::json_text::{JsonText, Written};
 use crate::results::Results;
 use crate::rules::{rule_level, rule_section, rule_short};
 use diagnostics::code::Code;
 use diagnostics::diagnostic::{Diagnostic, Severity, Source};
 use diagnostics::files::Files;
+use json_text::{JsonText, Written};
 use std::alloc::{AllocError, Global};
 
 /// The rules of some diagnostics, each once.

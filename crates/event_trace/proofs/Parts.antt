@@ -47,16 +47,3 @@ four_parts old one two three four p q r s first second third fourth =
     fourth
     ∙ ap (λ (front : List Change). front ++ s) (third ∙ ap (λ (front : List Change). front ++ r) (second ∙ ap (λ (front : List Change). front ++ q) first))
     ∙ append_assoc ((old ++ p) ++ q) r s ∙ append_assoc (old ++ p) q (r ++ s) ∙ append_assoc old p (q ++ (r ++ s))
-
--- the parts of the end of a trace, written one after the other
-pub end_parts : (old one two three opening standing registers memory : List ℕ)
-    → one ≡ old ++ (opening ++ (standing ++ 10 ∷ [])) → two ≡ one ++ registers → three ≡ two ++ memory
-    → three ≡ old ++ (opening ++ (standing ++ (10 ∷ (registers ++ memory))))
-end_parts old one two three opening standing registers memory first second third =
-    third ∙ ap (λ (front : List ℕ). front ++ memory) (second ∙ ap (λ (front : List ℕ). front ++ registers) first) ∙ simp append_assoc
-
--- three parts, written one after the other
-pub three_parts : (old one two three p q r : List ℕ) → one ≡ old ++ p → two ≡ one ++ q → three ≡ two ++ r → three ≡ old ++ (p ++ (q ++ r))
-three_parts old one two three p q r first second third =
-    third ∙ ap (λ (front : List ℕ). front ++ r) (second ∙ ap (λ (front : List ℕ). front ++ q) first)
-    ∙ append_assoc (old ++ p) q r ∙ append_assoc old p (q ++ r)

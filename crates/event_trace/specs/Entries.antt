@@ -1,19 +1,17 @@
 -- Events one after the other: the model's answer to each, and what it changed between the states
 -- before and after it.
-use Rattle.std.specs.Prelude.{◌≡◌, ℕ, suc, List, [], ◌++◌, ◌∷◌, Result, Ok, Err}
+use Rattle.std.specs.Prelude.{◌≡◌, ℕ, suc, List, [], Result, Ok, Err}
 use Rattle.task_descriptor.specs.Listing.{Listing}
 use Rattle.machine_model.specs.Machine.{State}
-use Rattle.machine_model.specs.Answer.{after, answer}
+use Rattle.machine_model.specs.Answer.{after}
 use Rattle.machine_model.specs.declared.event.Event.{Event}
 use Rattle.machine_model.specs.declared.event.Refused.{Refused}
 use Rattle.annotated_asm.specs.declared.position.Position.{Position}
 use Rattle.annotated_asm.specs.Sources.{Sources, sources_of}
 use Rattle.annotated_asm.specs.declared.fault.AsmFault.{AsmFault}
-use Rattle.event_trace.specs.declared.change.Change.{Change}
 use Rattle.event_trace.specs.declared.told.Told.{Told}
 use Rattle.event_trace.specs.declared.told.Told.TheVariants as told
 use Rattle.event_trace.specs.Changes.{changes_of}
-use Rattle.event_trace.specs.Ring.{RingView, ring_in}
 
 -- the positions of the instructions in a program text; empty if the text is not a program
 abbrev pub places_in : Result Sources AsmFault → List Position
@@ -37,22 +35,3 @@ abbrev pub Tells : Listing → State → Event → Result (Unit {0}) Refused →
 Tells p s e (Ok done) (told.Taken changes) = changes.items ≡ changes_of p s e (after p s e)
 Tells p s e (Err why) (told.Refused refusal) = refusal ≡ why
 Tells p s e answer other = ⊥
-
--- the text of that report in a form: `taken` is the form's text for an event that was allowed, `refused` for one that
--- was refused
-abbrev pub told_of : (taken : ℕ → RingView → Event → List Change → List ℕ) (refused : ℕ → RingView → Event → Refused → List ℕ) → (number : ℕ) → RingView → Event → Told → List ℕ
-told_of taken refused number ring e (told.Taken changes) = taken number ring e changes.items
-told_of taken refused number ring e (told.Refused refusal) = refused number ring e refusal
-
--- and by its answer in a state of `units` units
-abbrev pub entry_of : (taken : ℕ → RingView → Event → List Change → List ℕ) (refused : ℕ → RingView → Event → Refused → List ℕ) → Listing → (units number : ℕ) → State → Event → Result (Unit {0}) Refused → List ℕ
-entry_of taken refused p units number s e (Ok done) = taken number (ring_in units s) e (changes_of p s e (after p s e))
-entry_of taken refused p units number s e (Err why) = refused number (ring_in units s) e why
-
--- The text for events from a state on, with n events allowed before them; the first has this number. `tell` is the
--- text for one event, by its number, the state before it and its answer.
-abbrev pub entries_from : (tell : ℕ → State → Event → Result (Unit {0}) Refused → List ℕ) → Listing → (units number n : ℕ) → State → List Event → List ℕ
-entries_from tell p units number n s [] = []
-entries_from tell p units number n s (e ∷ es) =
-    tell number s e (answer p units s n e)
-    ++ entries_from tell p units (suc number) (count_behind n (answer p units s n e)) (state_behind p s e (answer p units s n e)) es

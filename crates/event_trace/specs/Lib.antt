@@ -1,11 +1,11 @@
 pub mod Ring
 pub mod Changes
 pub mod Foresight
-pub mod TraceText
 pub mod Entries
 pub mod Following
 pub mod Ending
-pub mod Trace
+pub mod Times
+pub mod Timeline
 pub mod Seen
 pub mod LivesTold
 pub mod Laws

@@ -1,4 +1,6 @@
-//! The trace of a machine: each event with its answer, and under it what it changed.
+//! The trace of a machine: each event with its answer and what it changed, in words or as lines of JSON, and how the machine
+//! then stands; and a run as a timeline. What an event changed, how a machine stands and what a timeline has is proved; how
+//! these are written is not.
 #![tactic(auto)]
 
 pub mod change;
@@ -8,13 +10,17 @@ mod foreseen;
 mod foresight;
 mod instruction;
 pub mod laws;
+mod objects;
 pub mod places;
 mod registers;
 pub mod ring;
+pub mod source;
 pub mod streaming;
 pub mod telling;
 pub mod text;
+pub mod timeline;
+pub mod timeline_text;
+mod times;
 pub mod told;
-pub mod trace;
 pub mod unit_change;
 pub mod walk;

@@ -1,154 +1,133 @@
-//! The text of events on a walk, in some form.
+//! Telling events one after the other, in some form.
 
-use crate::change::Change;
+ghost use Rattle.std.specs.Prelude.{◌≡◌, ◌+◌, ◌<◌, ◌^◌, OnOk};
+
+use crate::ending::End;
+use crate::objects;
 use crate::ring::Ring;
+use crate::source::EventSource;
+use crate::text::{write_end, write_refused, write_taken};
 use crate::told::Told;
-use crate::walk::Walk;
-use machine_model::event::{Event, Refused};
-use mark_checker::accept::Accepted;
-use sequencer::machine::Machine;
+use annotated_asm::position::Position;
+use json_text::JsonText;
+use machine_model::event::Event;
+use shown_names::name::shown_name;
 use std::alloc::{AllocError, Global};
+use task_descriptor::program::Program;
 
-/// A form of the text for each event of a trace.
-pub trait Telling {
-    ghost use Rattle.std.specs.Prelude.{ℕ, List, ◌≡◌, ◌++◌, OnOk};
-    ghost use Rattle.std.specs.String.{string_bytes};
-    ghost use Rattle.machine_model.specs.declared.event.Event.{Event};
-    ghost use Rattle.machine_model.specs.declared.event.Refused.{Refused};
-    ghost use Rattle.event_trace.specs.declared.change.Change.{Change};
-    ghost use Rattle.event_trace.specs.Ring.{RingView};
+/// The form of a trace.
+#[derive(Clone, Copy, Debug)]
+pub enum TraceForm<'n> {
+    /// Lines for a reader: each event in the words of a script, after its number and with its answer, and under one that
+    /// was allowed what it changed; and how the machine then stands. Instructions are named by the lines of the program
+    /// text.
+    Words,
+    /// Lines of JSON: an object for what the lines are, one for each event, with its number, its step if the run went in
+    /// steps, its answer and what it changed, and one for how the machine then stands. Instructions are told by their index
+    /// and by the lines of the program text.
+    Json {
+        /// What the program is called, which stands there as names are shown. It may be empty.
+        name: &'n str,
+        /// Who chose the events.
+        source: EventSource,
+        /// Whether the last line says that the budget was spent, and not how the run stands.
+        is_out_of_budget: bool,
+    },
+}
 
-    // The text for event `n`, which was allowed: `ring` is the ring before it, `changes` what it changed.
-    ghost taken: { Self → ℕ → RingView → Event → List Change → List ℕ };
+/// The part of a trace that is not written yet, and how many events were told so far.
+#[derive(Drop)]
+pub(crate) struct Pending {
+    pub text: String,
+    pub told: usize,
+}
 
-    // The text for event `n`, which was refused: `ring` is the ring before it, `refusal` the reason.
-    ghost refused: { Self → ℕ → RingView → Event → Refused → List ℕ };
+impl TraceForm<'_> {
+    /// Who chose the events, as far as the form tells it.
+    pub(crate) fn source(&self) -> EventSource {
+        match self {
+            TraceForm::Words => EventSource::Script,
+            TraceForm::Json { source, .. } => *source,
+        }
+    }
+}
 
-    /// Adds the event of this number, which the machine took, and what it changed. `ring` is the ring before it.
-    /// An error says that memory was refused.
-    fn write_taken(
+/// What events are told by: the program with the places of its instructions in its text, the steps of the events, if they
+/// are told, and the form.
+#[derive(Drop)]
+pub(crate) struct Teller<'p, 't, 'n> {
+    pub alloc: Global,
+    pub program: &'p Program,
+    pub places: &'t [Position],
+    pub steps: &'t [usize],
+    pub form: TraceForm<'n>,
+}
+
+impl Teller<'_, '_, '_> {
+    /// Adds what comes before the events of a run on `units` units.
+    pub(crate) fn tell_start(&self, pending: &mut Pending, units: u32) -> Result<(), AllocError>
+        ensures { OnOk result (pending.new.told ≡ pending.old.told) }
+    {
+        if let TraceForm::Json { name, source, .. } = self.form {
+            let shown = shown_name(self.alloc, name)?;
+            let mut out = JsonText::new(self.alloc);
+            self.write_start(&mut out, shown.as_str(), source, units)?;
+            add_line(&mut pending.text, out)?;
+        }
+        Ok(())
+    }
+
+    /// Adds the next event, with what a machine answered to it and what it changed; `ring` is the ring before it.
+    pub(crate) fn tell(
         &self,
-        text: &mut String,
-        number: usize,
+        pending: &mut Pending,
         ring: &Ring,
         event: Event,
-        changes: &[Change],
+        told: &Told,
     ) -> Result<(), AllocError>
-        ensures { OnOk result (string_bytes text.new ≡ string_bytes text.old ++ taken self.now number ring.now event changes.now) };
-
-    /// Adds the event of this number, which the machine refused, and the reason. `ring` is the ring before it. An
-    /// error says that memory was refused.
-    fn write_refused(
-        &self,
-        text: &mut String,
-        number: usize,
-        ring: &Ring,
-        event: Event,
-        refusal: Refused,
-    ) -> Result<(), AllocError>
-        ensures { OnOk result (string_bytes text.new ≡ string_bytes text.old ++ refused self.now number ring.now event refusal) };
-}
-
-ghost use Rattle.std.specs.Prelude.{◌≡◌, ◌++◌, ◌<◌, ◌≤◌, length, IfOk, OnOk};
-ghost use Rattle.std.specs.String.{string_bytes};
-ghost use Rattle.machine_model.specs.Answer.{play};
-ghost use Rattle.machine_model.specs.Machine.{opening};
-ghost use Rattle.sequencer.specs.Machines.{answer_to, state, units_of};
-ghost use Rattle.event_trace.specs.Entries.{entries_from, entry_of, told_of};
-ghost use Rattle.event_trace.specs.Following.{GoesOn, state_from};
-
-/// The text for each of some events on a machine of `units` units that is at the start of an accepted program, and
-/// the machine as the events leave it. An error says that memory was refused.
-pub fn entries<'a, T: Telling>(
-    alloc: Global,
-    accepted: &'a Accepted,
-    units: u32,
-    events: &[Event],
-    telling: &T,
-) -> Result<(String, Machine<'a>), AllocError>
-    requires some { 0 < units }
-    requires few { units ≤ 16 }
-    ensures told { IfOk result (λ left. string_bytes left.0
-        ≡ entries_from (entry_of (T.taken telling.now) (T.refused telling.now) accepted.now.program units) accepted.now.program units 1 0 (opening accepted.now.program) events.now) }
-    ensures machine { IfOk result (λ left. state left.1 ≡ (play accepted.now.program units events.now).state) }
-{
-    let mut text = String::new(alloc);
-    let machine = add_entries(alloc, &mut text, accepted, units, events, telling)?;
-    Ok((text, machine))
-}
-
-/// Adds the text for each of some events on a machine of `units` units that is at the start of an accepted program.
-/// Answers the machine as the events leave it. An error says that memory was refused.
-pub fn add_entries<'a, T: Telling>(
-    alloc: Global,
-    text: &mut String,
-    accepted: &'a Accepted,
-    units: u32,
-    events: &[Event],
-    telling: &T,
-) -> Result<Machine<'a>, AllocError>
-    requires some { 0 < units }
-    requires few { units ≤ 16 }
-    ensures told { OnOk result (string_bytes text.new ≡ string_bytes text.old
-        ++ entries_from (entry_of (T.taken telling.now) (T.refused telling.now) accepted.now.program units) accepted.now.program units 1 0 (opening accepted.now.program) events.now) }
-    ensures machine { IfOk result (λ machine. state machine ≡ (play accepted.now.program units events.now).state) }
-{
-    let start = Walk::new(alloc, accepted, units)?;
-    let walk = write_entries(alloc, text, start, events, telling)?;
-    Ok(walk.into_machine())
-}
-
-/// Adds the text for some events on a walk, and answers the walk after them.
-fn write_entries<'a, T: Telling>(
-    alloc: Global,
-    text: &mut String,
-    mut walk: Walk<'a>,
-    events: &[Event],
-    telling: &T,
-) -> Result<Walk<'a>, AllocError>
-    ensures left { IfOk result (λ next. state next
-        ≡ state_from walk.entry.accepted.program (units_of walk.entry) (length walk.entry.history) (state walk.entry) events.now) }
-    ensures told { OnOk result (string_bytes text.new ≡ string_bytes text.old
-        ++ entries_from (entry_of (T.taken telling.now) (T.refused telling.now) walk.entry.accepted.program (units_of walk.entry)) walk.entry.accepted.program (units_of walk.entry) 1 (length walk.entry.history) (state walk.entry) events.now) }
-{
-    for (index, event) in events.iter().enumerate() {
-        walk = write_entry(alloc, text, walk, index + 1, event, telling)?;
+        requires { pending.old.told + 1 < 2 ^ 64 }
+        ensures { OnOk result (pending.new.told ≡ pending.old.told + 1) }
+    {
+        let step = self.steps.get(pending.told).copied();
+        pending.told += 1;
+        let number = pending.told;
+        let (program, places) = (self.program, self.places);
+        match self.form {
+            TraceForm::Words => {
+                let text = &mut pending.text;
+                match told {
+                    Told::Taken(changes) => {
+                        write_taken(text, program, places, number, ring, event, changes)
+                    }
+                    Told::Refused(refusal) => write_refused(text, program, number, event, *refusal),
+                }
+            }
+            TraceForm::Json { .. } => {
+                let mut out = JsonText::new(self.alloc);
+                self.write_event(&mut out, number, step, ring, event, told)?;
+                add_line(&mut pending.text, out)
+            }
+        }
     }
-    Ok(walk)
-}
 
-/// Adds the text for the next event on a walk.
-pub(crate) fn write_entry<'a, T: Telling>(
-    alloc: Global,
-    text: &mut String,
-    walk: Walk<'a>,
-    number: usize,
-    event: &Event,
-    telling: &T,
-) -> Result<Walk<'a>, AllocError>
-    ensures on { IfOk result (λ next. GoesOn walk.entry event.now next) }
-    ensures told { OnOk result (string_bytes text.new ≡ string_bytes text.old
-        ++ entry_of (T.taken telling.now) (T.refused telling.now) walk.entry.accepted.program (units_of walk.entry) number (state walk.entry) event.now (answer_to walk.entry event.now)) }
-{
-    let ring = walk.ring();
-    let (next, told) = walk.step(alloc, event)?;
-    write_told(text, number, &ring, *event, &told, telling)?;
-    Ok(next)
-}
-
-/// Adds the text for the event of this number; `ring` is the ring before it.
-fn write_told<T: Telling>(
-    text: &mut String,
-    number: usize,
-    ring: &Ring,
-    event: Event,
-    told: &Told,
-    telling: &T,
-) -> Result<(), AllocError>
-    ensures { OnOk result (string_bytes text.new ≡ string_bytes text.old ++ told_of (T.taken telling.now) (T.refused telling.now) number ring.now event told.now) }
-{
-    match told {
-        Told::Taken(changes) => telling.write_taken(text, number, ring, event, changes),
-        Told::Refused(refusal) => telling.write_refused(text, number, ring, event, *refusal),
+    /// Adds how the run stands after the events.
+    pub(crate) fn tell_end(&self, pending: &mut Pending, end: &End) -> Result<(), AllocError> {
+        match self.form {
+            TraceForm::Words => write_end(&mut pending.text, end),
+            TraceForm::Json {
+                is_out_of_budget,
+                ..
+            } => {
+                let mut out = JsonText::new(self.alloc);
+                objects::write_end(&mut out, end, is_out_of_budget)?;
+                add_line(&mut pending.text, out)
+            }
+        }
     }
+}
+
+/// Adds a text of JSON as a line.
+fn add_line(text: &mut String, out: JsonText) -> Result<(), AllocError> {
+    let line = out.into_string();
+    writeln!(text, "{line}")
 }

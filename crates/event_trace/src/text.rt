@@ -1,11 +1,8 @@
-//! The text of a trace, which names the lines of the program text.
-
-ghost use Rattle.std.specs.Prelude.{◌≡◌, ◌++◌, flat_map, OnOk, codes};
-ghost use Rattle.std.specs.Fmt.{decimal};
-ghost use Rattle.std.specs.String.{string_bytes};
-ghost use Rattle.event_trace.specs.TraceText.{address_text, place_text, exit_text, register_text, ending_text, unit_text, unit_name, change_text, change_line, numbered_event, taken_text, refused_text};
+//! Events, what they changed and how a run stands, in words that name the lines of the program text. Each error says
+//! that memory was refused.
 
 use crate::change::Change;
+use crate::ending::End;
 use crate::ring::Ring;
 use crate::unit_change::UnitChange;
 use annotated_asm::position::Position;
@@ -16,16 +13,12 @@ use std::alloc::AllocError;
 use task_descriptor::program::Program;
 
 /// Adds an address.
-pub fn write_address(text: &mut String, address: u32) -> Result<(), AllocError>
-    ensures { OnOk result (string_bytes text.new ≡ string_bytes text.old ++ address_text address) }
-{
+pub fn write_address(text: &mut String, address: u32) -> Result<(), AllocError> {
     write!(text, "0x{address:x}")
 }
 
 /// Adds where the instruction of this index stands.
-pub fn write_place(text: &mut String, places: &[Position], index: u32) -> Result<(), AllocError>
-    ensures { OnOk result (string_bytes text.new ≡ string_bytes text.old ++ place_text places.now index) }
-{
+pub fn write_place(text: &mut String, places: &[Position], index: u32) -> Result<(), AllocError> {
     match places.get(index as usize) {
         Some(place) => {
             let line = place.line;
@@ -41,9 +34,7 @@ pub fn write_exit(
     program: &Program,
     places: &[Position],
     address: u32,
-) -> Result<(), AllocError>
-    ensures { OnOk result (string_bytes text.new ≡ string_bytes text.old ++ exit_text program.now places.now address) }
-{
+) -> Result<(), AllocError> {
     match program.index(address) {
         Some(index) => write_place(text, places, index),
         None => write_address(text, address),
@@ -51,25 +42,18 @@ pub fn write_exit(
 }
 
 /// Adds a register with its word.
-pub fn write_register(text: &mut String, register: Reg, word: u32) -> Result<(), AllocError>
-    ensures { OnOk result (string_bytes text.new ≡ string_bytes text.old ++ register_text register word) }
-{
+pub fn write_register(text: &mut String, register: Reg, word: u32) -> Result<(), AllocError> {
     let number = register.get();
     write!(text, "${number} = {word}")
 }
 
 /// Adds how a run stands.
-pub fn write_ending(text: &mut String, standing: Standing) -> Result<(), AllocError>
-    ensures { OnOk result (string_bytes text.new ≡ string_bytes text.old ++ ending_text standing) }
-{
+pub fn write_ending(text: &mut String, standing: Standing) -> Result<(), AllocError> {
     match standing {
-        Standing::Running => write!(text, "the run goes on"),
-        Standing::Halted => write!(text, "the run has halted"),
+        Standing::Running => text.push_str("the run goes on"),
+        Standing::Halted => text.push_str("the run has halted"),
         Standing::Trapped(trap) => write!(text, "the run is trapped: {trap}"),
-        Standing::Unlisted(address) => {
-            write!(text, "the run is unlisted: ")?;
-            write_address(text, address)
-        }
+        Standing::Unlisted(address) => write!(text, "the run is unlisted: 0x{address:x}"),
     }
 }
 
@@ -79,157 +63,14 @@ pub fn write_unit(
     program: &Program,
     unit: usize,
     task: u32,
-) -> Result<(), AllocError>
-    ensures { OnOk result (string_bytes text.new ≡ string_bytes text.old ++ unit_name program.now unit task) }
-{
+) -> Result<(), AllocError> {
     let name = task_name(program, task);
     write!(text, "unit {unit}, task {name}")
 }
 
-/// Adds what changed at a unit.
-fn write_unit_change(
-    text: &mut String,
-    program: &Program,
-    places: &[Position],
-    change: UnitChange,
-) -> Result<(), AllocError>
-    ensures { OnOk result (string_bytes text.new ≡ string_bytes text.old ++ unit_text program.now places.now change) }
-{
-    match change {
-        UnitChange::Began { index } => {
-            write!(text, "begins at ")?;
-            write_place(text, places, index)
-        }
-        UnitChange::Executed { index } => {
-            write!(text, "executes ")?;
-            write_place(text, places, index)
-        }
-        UnitChange::Arrived { register, word } => {
-            write!(text, "takes ")?;
-            write_register(text, register, word)
-        }
-        UnitChange::Drained { register, word } => {
-            write!(text, "sends ")?;
-            write_register(text, register, word)
-        }
-        UnitChange::Squashed => write!(text, "is squashed"),
-        UnitChange::Dropped => write!(text, "is dropped"),
-        UnitChange::Retired { exit } => {
-            write!(text, "retires; its exit is ")?;
-            write_exit(text, program, places, exit)
-        }
-        UnitChange::BecameHead => write!(text, "becomes the head"),
-    }
-}
-
-/// Adds a load or a store: its verb, its word, a word that joins, and its address.
-fn write_access(
-    text: &mut String,
-    verb: &str,
-    word: u32,
-    joins: &str,
-    address: u32,
-) -> Result<(), AllocError>
-    ensures { OnOk result (string_bytes text.new ≡ string_bytes text.old ++ (verb.now ++ (codes " " ++ (decimal word ++ (codes " " ++ (joins.now ++ (codes " " ++ address_text address))))))) }
-{
-    write!(text, "{verb} {word} {joins} ")?;
-    write_address(text, address)
-}
-
-/// Adds what an event changed, on its line.
-fn write_change(
-    text: &mut String,
-    program: &Program,
-    places: &[Position],
-    ring: &Ring,
-    change: Change,
-) -> Result<(), AllocError>
-    ensures { OnOk result (string_bytes text.new ≡ string_bytes text.old ++ change_text program.now places.now ring.now change) }
-{
-    match change {
-        Change::AtUnit {
-            position,
-            task,
-            change,
-        } => {
-            write_unit(text, program, ring.number_at(position), task)?;
-            write!(text, ": ")?;
-            write_unit_change(text, program, places, change)
-        }
-        Change::Took { register, word } => {
-            write!(text, "takes ")?;
-            write_register(text, register, word)
-        }
-        Change::Loaded { address, word } => write_access(text, "loads", word, "from", address),
-        Change::Stored { address, word, .. } => write_access(text, "stores", word, "at", address),
-        Change::Wrote { register, word } => {
-            write!(text, "writes ")?;
-            write_register(text, register, word)
-        }
-        Change::Sent { register, word } => {
-            write!(text, "sends ")?;
-            write_register(text, register, word)
-        }
-        Change::PutOut { word } => write!(text, "puts out {word}"),
-        Change::MovedTo { index } => {
-            write!(text, "goes on at ")?;
-            write_place(text, places, index)
-        }
-        Change::StoppedAt { address } => {
-            write!(text, "stops; its exit is ")?;
-            write_exit(text, program, places, address)
-        }
-        Change::Ended { standing } => write_ending(text, standing),
-    }
-}
-
-/// Adds what an event changed, one change on a line.
-fn write_changes(
-    text: &mut String,
-    program: &Program,
-    places: &[Position],
-    ring: &Ring,
-    changes: &[Change],
-) -> Result<(), AllocError>
-    ensures { OnOk result (string_bytes text.new ≡ string_bytes text.old ++ flat_map (change_line program.now places.now ring.now) changes.now) }
-{
-    for change in changes {
-        write_line(text, program, places, ring, *change)?;
-    }
-    Ok(())
-}
-
-/// Adds a change on a line of its own.
-fn write_line(
-    text: &mut String,
-    program: &Program,
-    places: &[Position],
-    ring: &Ring,
-    change: Change,
-) -> Result<(), AllocError>
-    ensures { OnOk result (string_bytes text.new ≡ string_bytes text.old ++ change_line program.now places.now ring.now change) }
-{
-    write!(text, "    ")?;
-    write_change(text, program, places, ring, change)?;
-    writeln!(text, "")
-}
-
-/// Adds the event of this number in the words of a script.
-fn write_numbered(
-    text: &mut String,
-    program: &Program,
-    number: usize,
-    event: Event,
-) -> Result<(), AllocError>
-    ensures { OnOk result (string_bytes text.new ≡ string_bytes text.old ++ numbered_event program.now number event) }
-{
-    write!(text, "{number} ")?;
-    write_event(text, program, event)
-}
-
 /// Adds the event of this number, which the machine took, in the words of a script, and under it what it
 /// changed. `places` has for each instruction of the program where it stands in the program text; one that
-/// it lacks is told by its index. `ring` is the ring before the event. An error says that memory was refused.
+/// it lacks is told by its index. `ring` is the ring before the event.
 pub fn write_taken(
     text: &mut String,
     program: &Program,
@@ -238,25 +79,118 @@ pub fn write_taken(
     ring: &Ring,
     event: Event,
     changes: &[Change],
-) -> Result<(), AllocError>
-    ensures { OnOk result (string_bytes text.new ≡ string_bytes text.old ++ taken_text program.now places.now number ring.now event changes.now) }
-{
-    write_numbered(text, program, number, event)?;
-    writeln!(text, ": ok")?;
-    write_changes(text, program, places, ring, changes)
+) -> Result<(), AllocError> {
+    write!(text, "{number} ")?;
+    write_event(text, program, event)?;
+    text.push_str(": ok\n")?;
+    for change in changes {
+        text.push_str("    ")?;
+        write_change(text, program, places, ring, *change)?;
+        text.push_str("\n")?;
+    }
+    Ok(())
 }
 
-/// Adds the event of this number, which the machine refused, in the words of a script, and the reason. An
-/// error says that memory was refused.
+/// Adds the event of this number, which the machine refused, in the words of a script, and the reason.
 pub fn write_refused(
     text: &mut String,
     program: &Program,
     number: usize,
     event: Event,
     refusal: Refused,
-) -> Result<(), AllocError>
-    ensures { OnOk result (string_bytes text.new ≡ string_bytes text.old ++ refused_text program.now number event refusal) }
-{
-    write_numbered(text, program, number, event)?;
+) -> Result<(), AllocError> {
+    write!(text, "{number} ")?;
+    write_event(text, program, event)?;
     writeln!(text, ": refused {refusal}")
+}
+
+/// Adds what an event changed.
+fn write_change(
+    text: &mut String,
+    program: &Program,
+    places: &[Position],
+    ring: &Ring,
+    change: Change,
+) -> Result<(), AllocError> {
+    match change {
+        Change::AtUnit {
+            position,
+            task,
+            change,
+        } => {
+            write_unit(text, program, ring.number_at(position), task)?;
+            text.push_str(": ")?;
+            write_unit_change(text, program, places, change)
+        }
+        Change::Took { register, word } => write_value(text, "takes ", register, word),
+        Change::Loaded { address, word } => write!(text, "loads {word} from 0x{address:x}"),
+        Change::Stored { address, word, .. } => write!(text, "stores {word} at 0x{address:x}"),
+        Change::Wrote { register, word } => write_value(text, "writes ", register, word),
+        Change::Sent { register, word } => write_value(text, "sends ", register, word),
+        Change::PutOut { word } => write!(text, "puts out {word}"),
+        Change::MovedTo { index } => {
+            text.push_str("goes on at ")?;
+            write_place(text, places, index)
+        }
+        Change::StoppedAt { address } => {
+            text.push_str("stops; its exit is ")?;
+            write_exit(text, program, places, address)
+        }
+        Change::Ended { standing } => write_ending(text, standing),
+    }
+}
+
+/// Adds what changed at a unit.
+fn write_unit_change(
+    text: &mut String,
+    program: &Program,
+    places: &[Position],
+    change: UnitChange,
+) -> Result<(), AllocError> {
+    match change {
+        UnitChange::Began { index } => {
+            text.push_str("begins at ")?;
+            write_place(text, places, index)
+        }
+        UnitChange::Executed { index } => {
+            text.push_str("executes ")?;
+            write_place(text, places, index)
+        }
+        UnitChange::Arrived { register, word } => write_value(text, "takes ", register, word),
+        UnitChange::Drained { register, word } => write_value(text, "sends ", register, word),
+        UnitChange::Squashed => text.push_str("is squashed"),
+        UnitChange::Dropped => text.push_str("is dropped"),
+        UnitChange::Retired { exit } => {
+            text.push_str("retires; its exit is ")?;
+            write_exit(text, program, places, exit)
+        }
+        UnitChange::BecameHead => text.push_str("becomes the head"),
+    }
+}
+
+/// Adds what was done with a register and its word.
+fn write_value(text: &mut String, verb: &str, register: Reg, word: u32) -> Result<(), AllocError> {
+    text.push_str(verb)?;
+    write_register(text, register, word)
+}
+
+/// Adds how a run stands, and its registers and words of memory.
+pub(crate) fn write_end(text: &mut String, end: &End) -> Result<(), AllocError> {
+    text.push_str("at the end: ")?;
+    write_ending(text, end.standing)?;
+    text.push_str("\n")?;
+    for held in &end.registers {
+        write_value(text, "    ", held.register, held.word)?;
+        text.push_str("\n")?;
+    }
+    write_memory(text, end)
+}
+
+/// Adds the words of memory.
+fn write_memory(text: &mut String, end: &End) -> Result<(), AllocError> {
+    for changed in &end.memory {
+        let (address, word) = (changed.address, changed.word);
+        writeln!(text, "    0x{address:x} = {word}")?;
+    }
+    Ok(())
 }

@@ -1,14 +1,13 @@
 -- Waits counted one by one.
-use Rattle.std.proofs.Common.{◌≡◌, ℕ, zero, suc, ◌+◌, ◌^◌, ◌<◌, ◌≤◌, Bool, true, false, cond, List, [], ◌∷◌, ◌++◌, length, get_or, take, refl, sym, ap, subst, ◌∙◌, arith, Some, None}
+use Rattle.std.proofs.Common.{◌≡◌, ℕ, zero, suc, ◌+◌, ◌^◌, ◌<◌, ◌≤◌, Bool, true, false, cond, List, [], ◌∷◌, ◌++◌, length, get_or, refl, sym, ap, ◌∙◌, arith, Some, None}
 use Rattle.std.specs.Prelude.{slice_set}
 use Rattle.std.specs.List.{fold, position, position_or_len}
 use Rattle.std.proofs.lemmas.Grind.{common_steps}
-use Rattle.std.proofs.lemmas.List.{take_all}
-use Rattle.std.proofs.lemmas.List.Sums.{fails_before_first, fold-append}
+use Rattle.std.proofs.lemmas.List.Sums.{fails_before_first, fold-append, get_or-le-sum_by, sum_by-cons}
 use Rattle.std.proofs.lemmas.List.Quantifiers.{position-Some}
 use Rattle.unit_waits.specs.declared.count.Count.{Count}
 use Rattle.unit_waits.specs.declared.waiting.Waiting.{Waiting}
-use Rattle.unit_waits.specs.Counts.{HaveRoom, all_waits, counted, counts_of, is_alike}
+use Rattle.unit_waits.specs.Counts.{all_waits, counted, counts_of, is_alike}
 
 abbrev pub one : Waiting → Count
 one w = record { first = w; waits = 1 }
@@ -47,16 +46,19 @@ counted_new cs w none =
 
 -- all counts together are as many as the waits
 
+all_with : (c : Count) (cs : List Count) → all_waits (c ∷ cs) ≡ c.waits + all_waits cs
+all_with c cs = sum_by-cons (λ (x : Count). x.waits) c cs
+
 one_more_by : (b : Bool) (c : Count) (cs : List Count) (w : Waiting) → all_waits (counted cs w) ≡ all_waits cs + 1
     → all_waits (cond b (with_one c ∷ cs) (c ∷ counted cs w)) ≡ all_waits (c ∷ cs) + 1
-one_more_by true c cs w rest = omega arith
-one_more_by false c cs w rest = omega (arith, rest)
+one_more_by true c cs w rest = omega (arith, all_with (with_one c) cs, all_with c cs)
+one_more_by false c cs w rest = omega (arith, rest, all_with c (counted cs w), all_with c cs)
 
 one_more : (cs : List Count) (w : Waiting) → all_waits (counted cs w) ≡ all_waits cs + 1
-one_more [] w = omega arith
+one_more [] w = refl
 one_more (c ∷ cs) w = one_more_by (is_alike c.first w) c cs w (one_more cs w)
 
-all_more : (cs : List Count) (ws : List Waiting) → all_waits (fold counted cs ws) ≡ all_waits cs + length ws
+pub all_more : (cs : List Count) (ws : List Waiting) → all_waits (fold counted cs ws) ≡ all_waits cs + length ws
 all_more cs [] = omega arith
 all_more cs (w ∷ ws) =
     let rest = all_more (counted cs w) ws in
@@ -66,22 +68,13 @@ all_more cs (w ∷ ws) =
 pub all_counted : (ws : List Waiting) → all_waits (counts_of ws) ≡ length ws
 all_counted ws = let all = all_more [] ws in omega (arith, all)
 
-room_below : (cs : List Count) → all_waits cs + 1 < 2 ^ 32 → HaveRoom cs
-room_below [] few = tt
-room_below (c ∷ cs) few = (omega (arith, few), room_below cs (omega (arith, few)))
-
-pub counts_have_room : (ws : List Waiting) → length ws + 1 < 2 ^ 32 → HaveRoom (counts_of ws)
-counts_have_room ws few = let all = all_counted ws in room_below (counts_of ws) (omega (arith, few, all))
-
-room_at : (cs : List Count) (i : ℕ) (d : Count) → i < length cs → HaveRoom cs → (get_or cs i d).waits + 1 < 2 ^ 32
-room_at [] i d within h = absurd (omega (arith, within))
-room_at (c ∷ cs) zero d within h = h.0
-room_at (c ∷ cs) (suc i) d within h = room_at cs i d (omega (arith, within)) h.1
-
-pub room_found : (cs : List Count) (w : Waiting) (i : ℕ) (c : Count) → position (λ x. is_alike x.first w) cs ≡ Some i → c ≡ get_or cs i c → HaveRoom cs → c.waits + 1 < 2 ^ 32
-room_found cs w i c found is h =
+-- a count is one of them
+pub room_found : (cs : List Count) (w : Waiting) (i : ℕ) (c : Count) → position (λ x. is_alike x.first w) cs ≡ Some i → c ≡ get_or cs i c → all_waits cs + 1 < 2 ^ 32 → c.waits + 1 < 2 ^ 32
+room_found cs w i c found is few =
     let first = position-Some (λ (x : Count). is_alike x.first w) cs i c found in
-    subst (λ (x : Count). x.waits + 1 < 2 ^ 32) (sym is) (room_at cs i c first.0 h)
+    let most = get_or-le-sum_by (λ (x : Count). x.waits) cs i c first.0 in
+    let same : c.waits ≡ (get_or cs i c).waits = ap (λ (x : Count). x.waits) is in
+    omega (arith, most, same, few)
 
 -- the counts of some waits and then others
 pub counts_on : (before more : List Waiting) → counts_of (before ++ more) ≡ fold counted (counts_of before) more

@@ -2,9 +2,6 @@ pub mod InOrder
 pub mod Walking
 pub mod Applying
 pub mod Stepping
-pub mod Going
 pub mod Counting
 pub mod Ranges
 pub mod Masks
-pub mod Stepwise
-pub mod Underway

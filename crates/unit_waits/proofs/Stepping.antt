@@ -1,58 +1,159 @@
--- One step: its events are applied, and its waits are those of the machine before it.
-use Rattle.std.proofs.Common.{◌≡◌, ℕ, suc, ◌+◌, ◌<◌, ◌≤◌, List, [], ◌∷◌, ◌++◌, length, take, drop, Some, refl, sym, ap, subst, ◌∙◌, arith, add-one}
+-- A machine on its way over the steps of a history.
+use Rattle.std.proofs.Common.{◌≡◌, ℕ, suc, ◌+◌, ◌<◌, ◌≤◌, List, [], ◌++◌, length, take, drop, Some, None, refl, sym, ap, subst, ◌∙◌, arith, add-one, append_assoc, append-nil}
 use Rattle.std.specs.List.{position}
-use Rattle.std.proofs.lemmas.List.{take-append-drop, length-take-le}
+use Rattle.std.proofs.lemmas.List.{drop_all, drop-drop, length-drop, length-take-le, take-append-drop}
 use Rattle.std.proofs.lemmas.List.Quantifiers.{position-Some}
-use Rattle.task_descriptor.specs.Listing.{Listing}
-use Rattle.machine_model.specs.Machine.{State}
+use Rattle.machine_model.specs.Machine.{State, opening}
 use Rattle.machine_model.specs.Laws.{NextIsAfter}
-use Rattle.machine_model.specs.Replay.{ReplaysFrom}
+use Rattle.machine_model.specs.Replay.{Replays, ReplaysFrom}
 use Rattle.machine_model.specs.declared.event.Event.{Event}
 use Rattle.machine_model.specs.declared.event.Event.TheVariants.{Retire}
-use Rattle.sequencer.specs.Machines.{MachineView, state}
+use Rattle.mark_checker.specs.Places.{Checked}
+use Rattle.sequencer.specs.Machines.{MachineView, SameRing, state, units_of}
 use Rattle.unit_waits.specs.declared.waiting.Waiting.{Waiting}
-use Rattle.unit_waits.specs.Waits.{after_all, ends_step, waits_from, waits_in}
-use Rattle.unit_waits.specs.Steps.{IsStepDone}
-use Rattle.unit_waits.proofs.Applying.{replay_leaves}
-use Rattle.unit_waits.proofs.Walking.{step_found}
+use Rattle.unit_waits.specs.Waits.{after_all, ends_step, waits, waits_from, waits_in}
+use Rattle.unit_waits.specs.Steps.{IsStepOf}
+use Rattle.unit_waits.proofs.Applying.{HasApplied, all_applied, more_applied, next_allowed, none_applied, rest_left}
+use Rattle.unit_waits.proofs.Walking.{none_found, step_found}
 
--- a replay cut in two
-cut_list : (p : Listing) (units : ℕ) (s s' : State) (xs ys : List Event) → ReplaysFrom p units s (xs ++ ys) s' → (mid : State) × ReplaysFrom p units s xs mid × ReplaysFrom p units mid ys s'
-cut_list p units s s' [] ys h = (s, refl, h)
-cut_list p units s s' (x ∷ xs) ys h =
-    let rest = cut_list p units h.0 s' xs ys h.2 in
-    (rest.0, (h.0, h.1, rest.1), rest.2)
+-- the machine did `start` events, and comes to the step of this number
+pub record IsUnderway (a : Checked) (units : ℕ) (events : List Event) (start number : ℕ) (m : MachineView) : Type 0 where
+  pub over : m.accepted ≡ a
+  pub ring : units_of m ≡ units
+  pub count : length m.history ≡ start
+  pub within : start ≤ length events
+  pub few : number ≤ start + 1
+  pub first : MachineView
+  pub opens : state first ≡ opening a.program
+  pub applied : HasApplied first events start m
+  pub replay : (s : State) × ReplaysFrom first.accepted.program (units_of first) (state first) events s
 
-pub cut_replay : (p : Listing) (units : ℕ) (s s' : State) (n : ℕ) (es : List Event) → ReplaysFrom p units s es s' → (mid : State) × ReplaysFrom p units s (take n es) mid × ReplaysFrom p units mid (drop n es) s'
-cut_replay p units s s' n es h =
-    cut_list p units s s' (take n es) (drop n es) (subst (λ (xs : List Event). ReplaysFrom p units s xs s') (sym (take-append-drop n es)) h)
-
--- what comes after the first events
-behind : NextIsAfter → (p : Listing) (units : ℕ) (s t s' : State) (n : ℕ) (es : List Event) → t ≡ after_all p s (take n es)
-    → ReplaysFrom p units s es s' → ReplaysFrom p units t (drop n es) s'
-behind law p units s t s' n es is h =
-    let cut = cut_replay p units s s' n es h in
-    let same : cut.0 ≡ t = replay_leaves law p units s cut.0 (take n es) cut.1 ∙ sym is in
-    subst (λ (x : State). ReplaysFrom p units x (drop n es) s') same cut.2
-
-pub step_done : NextIsAfter → (p : Listing) (units number : ℕ) (old new : MachineView) (left : List Event) (i : ℕ) (front : List Event) (waited : List Waiting)
-    → position (λ e. ends_step (length (state old).queue) e) left ≡ Some i → front ≡ take (i + 1) left
-    → waited ≡ waits_in p units number (state old) front → length waited ≤ 16 → state new ≡ after_all p (state old) front
-    → length new.history ≡ length old.history + length front → (s : State) × ReplaysFrom p units (state old) left s
-    → IsStepDone p units number old left (i + 1) waited new
-step_done law p units number old new left i front waited found is waits few lands count replay =
-    let s = state old in
-    let inside = (position-Some (λ (e : Event). ends_step (length s.queue) e) left i Retire found).0 in
-    let long : length front ≡ i + 1 = ap (λ (es : List Event). length es) is ∙ length-take-le (i + 1) left (omega (arith, inside)) in
-    let now : state new ≡ after_all p s (take (i + 1) left) = lands ∙ ap (λ (es : List Event). after_all p s es) is in
+pub begins : (a : Checked) (units : ℕ) (events : List Event) (number : ℕ) (m : MachineView) → m.accepted ≡ a → units_of m ≡ units → m.history ≡ [] → state m ≡ opening a.program
+    → number ≤ 1 → (s : State) × Replays a.program units events s → IsUnderway a units events 0 number m
+begins a units events number m accepted ring none opens few replay =
+    let from = subst (λ (s : State). ReplaysFrom a.program units s events replay.0) (sym opens) replay.1 in
+    let over = subst (λ (c : Checked). ReplaysFrom c.program units (state m) events replay.0) (sym accepted) from in
     record {
-      some = omega arith;
-      within = omega (arith, inside);
-      all =
-          step_found p units number s Retire i left found
-          ∙ (λ j. waits_in p units number s (take (sym (add-one i) j) left) ++ waits_from p units (suc number) (after_all p s (take (sym (add-one i) j) left)) [] (drop (sym (add-one i) j) left))
-          ∙ (λ j. sym (waits ∙ ap (λ (es : List Event). waits_in p units number s es) is) j ++ waits_from p units (suc number) (sym now j) [] (drop (i + 1) left));
-      few = few;
-      count = count ∙ ap (λ (n : ℕ). length old.history + n) long;
-      replay = (replay.0, behind law p units s (state new) replay.0 (i + 1) left now replay.1);
+      over = accepted;
+      ring = ring;
+      count = ap (λ (es : List Event). length es) none;
+      within = omega arith;
+      few = omega (arith, few);
+      first = m;
+      opens = opens;
+      applied = none_applied m events;
+      replay = (replay.0, subst (λ (k : ℕ). ReplaysFrom m.accepted.program k (state m) events replay.0) (sym ring) over);
     }
+
+-- ---- the events of the next step
+
+step_wide : (active : ℕ) (left events : List Event) (step : IsStepOf active left events) → length events ≡ step.last + 1
+step_wide active left events step =
+    let inside = position-Some (λ (e : Event). ends_step active e) left step.last Retire step.found in
+    ap (λ (es : List Event). length es) step.are ∙ length-take-le (step.last + 1) left (omega (arith, inside.0))
+
+step_parts : (active start : ℕ) (all left events : List Event) (step : IsStepOf active left events) → left ≡ drop start all → drop start all ≡ events ++ drop (step.last + 1) left
+step_parts active start all left events step is =
+    sym is ∙ sym (take-append-drop (step.last + 1) left) ∙ ap (λ (es : List Event). es ++ drop (step.last + 1) left) (sym step.are)
+
+pub step_allowed : NextIsAfter → (a : Checked) (units active : ℕ) (all left events : List Event) (start number : ℕ) (m : MachineView)
+    → IsUnderway a units all start number m → left ≡ drop start all → IsStepOf active left events
+    → (s : State) × ReplaysFrom m.accepted.program (units_of m) (state m) events s
+step_allowed law a units active all left events start number m on is step =
+    next_allowed law on.first m all events (drop (step.last + 1) left) start on.applied (step_parts active start all left events step is) on.replay
+
+pub rest_allowed : NextIsAfter → (a : Checked) (units : ℕ) (all left : List Event) (start number : ℕ) (m : MachineView)
+    → IsUnderway a units all start number m → left ≡ drop start all
+    → (s : State) × ReplaysFrom m.accepted.program (units_of m) (state m) left s
+rest_allowed law a units all left start number m on is =
+    next_allowed law on.first m all left [] start on.applied (rest_left all left start is) on.replay
+
+pub step_on : (a : Checked) (units active : ℕ) (all left events : List Event) (start number : ℕ) (m m' : MachineView)
+    → IsUnderway a units all start number m → left ≡ drop start all → IsStepOf active left events
+    → 0 < length events → length events ≤ length left
+    → state m' ≡ after_all m.accepted.program (state m) events → length m'.history ≡ length m.history + length events → SameRing m m'
+    → IsUnderway a units all (start + length events) (number + 1) m'
+step_on a units active all left events start number m m' on is step some within applied counted ring =
+    let long : length left ≡ length (drop start all) = ap (λ (es : List Event). length es) is in
+    let cut = length-drop start all in
+    let before = on.within in
+    let count = on.count in
+    let few = on.few in
+    record {
+      over = ring.accepted ∙ on.over;
+      ring = ring.units ∙ on.ring;
+      count = omega (arith, counted, count);
+      within = omega (arith, within, long, cut, before);
+      few = omega (arith, some, few);
+      first = on.first;
+      opens = on.opens;
+      applied = more_applied on.first m m' all events (drop (step.last + 1) left) start on.applied (step_parts active start all left events step is) applied counted ring;
+      replay = on.replay;
+    }
+
+-- ---- who waited so far, and who waits in the steps that are left
+
+found_by : (active : ℕ) (m : MachineView) (es : List Event) (last : ℕ) → active ≡ length (state m).queue → position (λ e. ends_step active e) es ≡ Some last → position (λ e. ends_step (length (state m).queue) e) es ≡ Some last
+found_by active m es last same is = ap (λ (n : ℕ). position (λ e. ends_step n e) es) (sym same) ∙ is
+
+pub waits_more : (a : Checked) (units active : ℕ) (all left events : List Event) (start number : ℕ) (m m' : MachineView) (waited more whole : List Waiting)
+    → m.accepted ≡ a → left ≡ drop start all → active ≡ length (state m).queue → IsStepOf active left events
+    → more ≡ waits_in a.program units number (state m) events → state m' ≡ after_all m.accepted.program (state m) events
+    → waited ++ waits_from a.program units number (state m) [] (drop start all) ≡ whole
+    → (waited ++ more) ++ waits_from a.program units (number + 1) (state m') [] (drop (start + length events) all) ≡ whole
+waits_more a units active all left events start number m m' waited more whole over is same step waits applied before =
+    let p = a.program in
+    let s = state m in
+    let wide : length events ≡ suc step.last = step_wide active left events step ∙ add-one step.last in
+    let taken : take (suc step.last) left ≡ events = ap (λ (k : ℕ). take k left) (sym (add-one step.last)) ∙ sym step.are in
+    let behind : drop (suc step.last) left ≡ drop (start + length events) all =
+    ap (λ (k : ℕ). drop k left) (sym wide) ∙ ap (λ (es : List Event). drop (length events) es) is ∙ drop-drop (length events) start all in
+    let now : state m' ≡ after_all p s events = applied ∙ ap (λ (c : Checked). after_all c.program s events) over in
+    let rest : List Waiting = waits_from p units (number + 1) (state m') [] (drop (start + length events) all) in
+    let here : waits_from p units number s [] (drop start all) ≡ more ++ rest =
+    ap (λ (es : List Event). waits_from p units number s [] es) (sym is)
+    ∙ step_found p units number s Retire step.last left (found_by active m left step.last same step.found)
+    ∙ (λ j. waits_in p units number s (taken j) ++ waits_from p units (sym (add-one number) j) (after_all p s (taken j)) [] (behind j))
+    ∙ (λ j. sym waits j ++ waits_from p units (number + 1) (sym now j) [] (drop (start + length events) all)) in
+    append_assoc waited more rest ∙ ap (λ (ws : List Waiting). waited ++ ws) (sym here) ∙ before
+
+none_waits : (waited left whole : List Waiting) → left ≡ [] → waited ++ left ≡ whole → waited ≡ whole
+none_waits waited left whole none before = sym (append-nil waited) ∙ ap (λ (ws : List Waiting). waited ++ ws) (sym none) ∙ before
+
+-- no step is left
+pub waits_done : (a : Checked) (units active : ℕ) (all left : List Event) (start number : ℕ) (m : MachineView) (waited whole : List Waiting)
+    → left ≡ drop start all → active ≡ length (state m).queue → position (λ e. ends_step active e) left ≡ None
+    → waited ++ waits_from a.program units number (state m) [] (drop start all) ≡ whole → waited ≡ whole
+waits_done a units active all left start number m waited whole is same none before =
+    let found : position (λ e. ends_step (length (state m).queue) e) (drop start all) ≡ None =
+    (λ j. position (λ e. ends_step (sym same j) e) (sym is j)) ∙ none in
+    none_waits waited (waits_from a.program units number (state m) [] (drop start all)) whole (none_found a.program units number (state m) Retire (drop start all) found) before
+
+-- no event is left
+pub waits_all : (a : Checked) (units : ℕ) (all : List Event) (start number : ℕ) (m : MachineView) (waited whole : List Waiting)
+    → length all ≤ start → waited ++ waits_from a.program units number (state m) [] (drop start all) ≡ whole → waited ≡ whole
+waits_all a units all start number m waited whole past before =
+    none_waits waited (waits_from a.program units number (state m) [] (drop start all)) whole
+    (ap (λ (es : List Event). waits_from a.program units number (state m) [] es) (drop_all start all past)) before
+
+-- ---- where the machine stands at the end
+
+pub ends_at : (a : Checked) (units : ℕ) (all : List Event) (start number : ℕ) (m : MachineView)
+    → IsUnderway a units all start number m → length all ≤ start → state m ≡ after_all a.program (opening a.program) all
+ends_at a units all start number m on past =
+    all_applied on.first m all start past on.applied
+    ∙ ap (λ (c : Checked). after_all c.program (state on.first) all) (sym on.applied.kept.accepted ∙ on.over)
+    ∙ ap (λ (s : State). after_all a.program s all) on.opens
+
+pub ends_with_rest : (a : Checked) (units : ℕ) (all left : List Event) (start number : ℕ) (m m' : MachineView)
+    → IsUnderway a units all start number m → left ≡ drop start all
+    → state m' ≡ after_all m.accepted.program (state m) left → length m'.history ≡ length m.history + length left → SameRing m m'
+    → state m' ≡ after_all a.program (opening a.program) all
+ends_with_rest a units all left start number m m' on is applied counted ring =
+    let has = more_applied on.first m m' all left [] start on.applied (rest_left all left start is) applied counted ring in
+    let long : length left ≡ length (drop start all) = ap (λ (es : List Event). length es) is in
+    let cut = length-drop start all in
+    let before = on.within in
+    all_applied on.first m' all (start + length left) (omega (arith, long, cut, before)) has
+    ∙ ap (λ (c : Checked). after_all c.program (state on.first) all) (sym on.applied.kept.accepted ∙ on.over)
+    ∙ ap (λ (s : State). after_all a.program s all) on.opens

@@ -1,7 +1,7 @@
 -- Waits counted: those of one task, at one place and for one reason together, ordered by the first
 -- of each.
-use Rattle.std.specs.Prelude.{ℕ, ◌+◌, ◌^◌, ◌<◌, Bool, true, false, not, ◌&&◌, nat_eq, if◌then◌else◌, List, [], ◌∷◌}
-use Rattle.std.specs.List.{fold}
+use Rattle.std.specs.Prelude.{ℕ, ◌+◌, Bool, true, false, not, ◌&&◌, nat_eq, if◌then◌else◌, List, [], ◌∷◌}
+use Rattle.std.specs.List.{fold, sum_by}
 use Rattle.machine_model.specs.declared.event.Spot.{Spot}
 use Rattle.machine_model.specs.declared.event.Spot.TheVariants.{Inside, Stopped}
 use Rattle.unit_waits.specs.declared.waiting.Owed.{Owed}
@@ -40,10 +40,4 @@ counts_of waits = fold counted [] waits
 
 -- how many waits some counts make together
 abbrev pub all_waits : List Count → ℕ
-all_waits [] = 0
-all_waits (c ∷ cs) = c.waits + all_waits cs
-
--- each can grow by one within the numbers' type; for private functions
-abbrev pub HaveRoom : List Count → Type 0
-HaveRoom [] = Unit {0}
-HaveRoom (c ∷ cs) = (c.waits + 1 < 2 ^ 32) × HaveRoom cs
+all_waits counts = sum_by (λ c. c.waits) counts

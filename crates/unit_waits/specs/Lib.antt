@@ -2,8 +2,5 @@ pub mod Reasons
 pub mod Waits
 pub mod Steps
 pub mod Counts
-pub mod Examples
 pub mod Signals
-pub mod Moments
-pub mod Waveform
-pub mod RunWaveformExamples
+pub mod Examples

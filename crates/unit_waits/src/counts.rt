@@ -1,21 +1,22 @@
 //! Waits counted.
 
-ghost use Rattle.std.specs.Prelude.{◌≡◌, ◌+◌, ◌^◌, ◌<◌, ◌≤◌, List, length, position as position_by, IfOk, OnOk};
+ghost use Rattle.std.specs.Prelude.{◌≡◌, ◌+◌, ◌^◌, ◌<◌, ◌≤◌, length, position as position_by, IfOk, OnOk};
 ghost use Rattle.std.specs.List.{fold};
 ghost use Rattle.machine_model.specs.Machine.{State};
 ghost use Rattle.machine_model.specs.Answer.{most_events};
 ghost use Rattle.machine_model.specs.Replay.{Replays};
-ghost use Rattle.unit_waits.specs.declared.waiting.Waiting.{Waiting};
-ghost use Rattle.unit_waits.specs.Counts.{HaveRoom, all_waits, counted, counts_of, is_alike as is_alike_to};
+ghost use Rattle.unit_waits.specs.Counts.{all_waits, counted, counts_of, is_alike as is_alike_to};
 ghost use Rattle.unit_waits.specs.Waits.{waits as waits_of};
 
-use crate::acting::{behind, last_of_step};
+use crate::acting::{behind, step_of};
 use crate::alike::is_alike;
 use crate::count::Count;
-use crate::steps::do_step;
+use crate::one_step::waits_in_step;
+use crate::steps::apply_all;
 use crate::waiting::Waiting;
 use crate::waits::machine_at_start;
 use machine_model::event::Event;
+use machine_model::laws::next_is_after;
 use mark_checker::accept::Accepted;
 use std::alloc::{AllocError, Global};
 
@@ -30,7 +31,7 @@ fn index_alike(counts: &[Count], waiting: &Waiting) -> Option<usize>
 
 /// Counts a wait.
 fn add(counts: &mut Vec<Count>, waiting: &Waiting) -> Result<(), AllocError>
-    requires { HaveRoom counts.old.items }
+    requires { all_waits counts.old.items + 1 < 2 ^ 32 }
     ensures { OnOk result (counts.new.items ≡ counted counts.old.items waiting.now) }
 {
     let Some(index) = index_alike(counts, waiting) else {
@@ -50,7 +51,7 @@ fn add(counts: &mut Vec<Count>, waiting: &Waiting) -> Result<(), AllocError>
 
 /// Counts the waits of a step.
 fn add_all(counts: &mut Vec<Count>, waits: &[Waiting]) -> Result<(), AllocError>
-    requires { (before : List Waiting) × (counts.old.items ≡ counts_of before) × (length before + length waits.now < 2 ^ 32) }
+    requires { all_waits counts.old.items + length waits.now < 2 ^ 32 }
     ensures { OnOk result (counts.new.items ≡ fold counted counts.old.items waits.now) }
 {
     for waiting in waits {
@@ -75,18 +76,20 @@ pub fn count_waits(
     ensures few { IfOk result (λ counts. all_waits counts.items ≤ 16000000) }
     ensures exact { IfOk result (λ counts. counts.items ≡ counts_of (waits_of accepted.now.program units history.now)) }
 {
+    next_is_after();
     let mut machine = machine_at_start(alloc, accepted, units)?;
     let mut counts = Vec::new(alloc);
     let mut start = 0;
     let mut number = 1;
     while start < history.len() {
         let left = behind(history, start);
-        let Some(last) = last_of_step(machine.active(), left) else {
+        let Some(events) = step_of(machine.active(), left) else {
             return Ok(counts);
         };
-        let in_step = do_step(alloc, accepted, &mut machine, units, number, left, last)?;
+        let in_step = waits_in_step(alloc, accepted, &machine, units, number, events)?;
+        apply_all(&mut machine, events)?;
         add_all(&mut counts, in_step.as_slice())?;
-        start += last + 1;
+        start += events.len();
         number += 1;
     }
     Ok(counts)

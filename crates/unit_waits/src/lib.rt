@@ -2,18 +2,18 @@
 //! and a waveform of the run, as a Value Change Dump (IEEE 1364).
 #![tactic(auto)]
 
-pub mod acting;
-pub mod alike;
+mod acting;
+mod alike;
 mod changes;
 pub mod count;
 pub mod counts;
 mod header;
 mod one_step;
 mod placed;
-pub mod reasons;
+mod reasons;
 mod ring;
 mod signals;
-pub mod steps;
+mod steps;
 mod unit;
 pub mod waiting;
 pub mod waits;

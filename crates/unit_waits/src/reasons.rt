@@ -20,7 +20,7 @@ use unit_core::unit::Unit;
 use unit_core::wait::Wait;
 
 /// The number round the ring of the unit at a position.
-pub fn unit_at(machine: &Machine<'_>, units: u32, position: u32) -> u32
+pub(crate) fn unit_at(machine: &Machine<'_>, units: u32, position: u32) -> u32
     requires some { 0 < units }
     ensures { result ≡ unit_at_of units (state machine.now) position }
 {
@@ -163,7 +163,7 @@ fn reason_by(
 
 /// What holds back the unit at a position after the head: the first refusal of its next instruction, or, where it
 /// has stopped, what it still has to send.
-pub fn reason(
+pub(crate) fn reason(
     accepted: &Accepted,
     machine: &Machine<'_>,
     units: u32,

@@ -7,17 +7,19 @@ ghost use Rattle.machine_model.specs.Replay.{Replays};
 ghost use Rattle.sequencer.specs.Machines.{state, units_of};
 ghost use Rattle.unit_waits.specs.Waits.{waits as waits_of};
 
-use crate::acting::{behind, last_of_step};
-use crate::steps::do_step;
+use crate::acting::{behind, step_of};
+use crate::one_step::waits_in_step;
+use crate::steps::apply_all;
 use crate::waiting::Waiting;
 use limits::ranges::Units;
 use machine_model::event::Event;
+use machine_model::laws::next_is_after;
 use mark_checker::accept::Accepted;
 use sequencer::machine::Machine;
 use std::alloc::{AllocError, Global};
 
 /// A machine of `units` units, 1 to 16, at the start of an accepted program. An error means that memory was refused.
-pub fn machine_at_start<'a>(
+pub(crate) fn machine_at_start<'a>(
     alloc: Global,
     accepted: &'a Accepted,
     units: u32,
@@ -50,18 +52,20 @@ pub fn waits(
     requires room { length history.now ≤ most_events }
     ensures { IfOk result (λ waits. waits.items ≡ waits_of accepted.now.program units history.now) }
 {
+    next_is_after();
     let mut machine = machine_at_start(alloc, accepted, units)?;
     let mut waits = Vec::new(alloc);
     let mut start = 0;
     let mut number = 1;
     while start < history.len() {
         let left = behind(history, start);
-        let Some(last) = last_of_step(machine.active(), left) else {
+        let Some(events) = step_of(machine.active(), left) else {
             return Ok(waits);
         };
-        let in_step = do_step(alloc, accepted, &mut machine, units, number, left, last)?;
+        let in_step = waits_in_step(alloc, accepted, &machine, units, number, events)?;
+        apply_all(&mut machine, events)?;
         waits.extend_from_slice(in_step.as_slice())?;
-        start += last + 1;
+        start += events.len();
         number += 1;
     }
     Ok(waits)

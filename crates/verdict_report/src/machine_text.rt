@@ -4,8 +4,8 @@ ghost use Rattle.std.specs.String.{string_bytes};
 ghost use Rattle.sequencer.specs.Machines.{state, units_of};
 ghost use Rattle.verdict_report.specs.MachineText.{machine_text, retired_text, standing_status, standing_text};
 
-use event_json::clock::Clock;
-use event_json::timeline::timeline;
+use event_trace::source::EventSource;
+use event_trace::timeline_text::timeline;
 use limits::ranges::Units;
 use machine_model::event::Standing;
 use report_texts::plain_text::write_words;
@@ -89,11 +89,11 @@ pub fn picture_of(
     Ok(picture.into_bytes())
 }
 
-/// The history of a machine of `units` units, which runs this program, as a timeline by a clock.
+/// The history of a machine of `units` units, which runs this program, as a timeline.
 pub fn timeline_of(
     alloc: Global,
     units: Units,
-    clock: Clock,
+    source: EventSource,
     machine: &Machine<'_>,
     program: &Program,
 ) -> Result<Vec<u8>, AllocError>
@@ -101,7 +101,7 @@ pub fn timeline_of(
     requires units { units_of machine.now ≡ units }
 {
     histories_fit();
-    let timeline = timeline(alloc, program, units.get(), clock, machine.history())?;
+    let timeline = timeline(alloc, program, units.get(), source, machine.history())?;
     Ok(timeline.into_bytes())
 }
 

@@ -15,13 +15,12 @@ ghost use Rattle.verdict_report.specs.ReplayText.{IsEventsReport, IsReplayText, 
 use crate::event_text::{refused_script, write_answers};
 use crate::machine_text::{picture_of, standing_status_of, summary_of, timeline_of, write_machine};
 use crate::replay_form::{MachineForm, ReplayForm, ToldForm, form_of};
-use event_json::clock::Clock;
-use event_json::lines::stream_script;
 use event_script::fault::ScriptFault;
 use event_script::reading::read;
 use event_trace::ring::Ring;
-use event_trace::streaming::StreamFault;
-use event_trace::trace::stream_trace;
+use event_trace::source::EventSource;
+use event_trace::streaming::{StreamFault, stream_trace, trace};
+use event_trace::telling::TraceForm;
 use jobs::job::{CertificateSource, ReplayEmit, Texts};
 use limits::ranges::{Budget, Units};
 use machine_model::event::{Event, Refused};
@@ -143,11 +142,21 @@ fn told_report(
 ) -> Result<JobReport, AllocError>
     ensures { IfOk result (λ report. report.status ≡ told_status units accepted.now.program events.now) }
 {
-    let mut bytes = Vec::new(alloc);
-    match write_told(alloc, units, form, texts, accepted, events, &mut bytes) {
-        Ok(status) => Ok(JobReport::new(bytes, status)),
-        // What is written to memory fails only where there is no more of it.
-        Err(_) => Err(AllocError),
+    let text = texts.program.as_slice();
+    let form = trace_form(form, texts.name.as_str());
+    let (bytes, standing) = trace(alloc, accepted, units.get(), text, events, form)?;
+    Ok(JobReport::new(bytes, standing_status_of(standing)))
+}
+
+// How events are told of a program of this name.
+fn trace_form(form: ToldForm, name: &str) -> TraceForm<'_> {
+    match form {
+        ToldForm::Trace => TraceForm::Words,
+        ToldForm::Lines => TraceForm::Json {
+            name,
+            source: EventSource::Script,
+            is_out_of_budget: false,
+        },
     }
 }
 
@@ -169,13 +178,8 @@ pub(crate) fn write_told<W: Write>(
     ensures grows { Grows (W.contents writer.old) (W.contents writer.new) }
 {
     let text = texts.program.as_slice();
-    let name = texts.name.as_str();
-    let standing = match form {
-        ToldForm::Trace => stream_trace(alloc, writer, accepted, units.get(), text, events)?,
-        ToldForm::Lines => {
-            stream_script(alloc, writer, accepted, name, units.get(), text, events)?
-        }
-    };
+    let form = trace_form(form, texts.name.as_str());
+    let standing = stream_trace(alloc, writer, accepted, units.get(), text, events, form)?;
     Ok(standing_status_of(standing))
 }
 
@@ -228,7 +232,9 @@ fn bytes_of(
         MachineForm::Answers => answers_of(alloc, answers, machine),
         MachineForm::Summary => summary_of(alloc, units, machine, program),
         MachineForm::Picture => picture_of(alloc, units, name, "", machine, program),
-        MachineForm::Timeline => timeline_of(alloc, units, Clock::Events, machine, program),
+        MachineForm::Timeline => {
+            timeline_of(alloc, units, EventSource::Script, machine, program)
+        },
         MachineForm::State => state_of(alloc, units, text, accepted, machine),
     }
 }

@@ -1,5 +1,5 @@
 //! The job `run`.
-ghost use Rattle.std.specs.Prelude.{◌≡◌, ◌<◌, ◌≤◌, ◌^◌, Err, Ok, IfOk, OnErr, length};
+ghost use Rattle.std.specs.Prelude.{◌≡◌, ◌≤◌, Err, Ok, IfOk, OnErr};
 ghost use Rattle.sequencer.specs.Machines.{state, units_of};
 ghost use Rattle.verdict_report.specs.RunText.{IsRunReport, IsRunText, ending_status, ending_text};
 ghost use Rattle.report_texts.specs.CertificateTexts.{OfCertificate};
@@ -10,15 +10,12 @@ use crate::fault::ServeFault;
 use crate::machine_text::{picture_of, standing_status_of, summary_of, timeline_of, write_machine};
 use crate::ran::{Extent, Ran};
 use crate::scheduled::run_scheduled;
-use event_json::clock::Clock;
-use event_json::last_line::LastLine;
-use event_json::lines::lines;
-use event_json::source::EventSource;
 use event_script::writing::write;
-use event_trace::trace::trace;
+use event_trace::source::EventSource;
+use event_trace::streaming::trace;
+use event_trace::telling::TraceForm;
 use jobs::job::{CertificateSource, Prediction, RunEmit, Texts};
 use limits::ranges::Units;
-use machine_model::event::Event;
 use mark_checker::accept::Accepted;
 use report_texts::judging::{Judged, judge};
 use report_texts::plain_text::write_words;
@@ -35,7 +32,7 @@ use task_descriptor::program::Program;
 use task_lives::laws::histories_fit;
 use threaded_runner::report::How;
 use unit_waits::waveform::waveform;
-use wait_table::table::table;
+use wait_table::text::table;
 
 /// What `run` writes for a program text, the name of the program and the text of its certificate. Of the forms that no
 /// clause names only the status is known.
@@ -147,15 +144,18 @@ fn view_of(
         RunEmit::Summary => summary(alloc, units, ran, program),
         RunEmit::Picture => event_picture(alloc, units, name, predict, machine, program),
         RunEmit::StepPicture => step_picture(alloc, units, name, predict, machine, accepted),
-        RunEmit::Timeline => timeline_of(alloc, units, clock_of(ran), machine, program),
+        RunEmit::Timeline => timeline_of(alloc, units, source_of(ran), machine, program),
         _ => {
             let events = single_events(alloc, machine.history())?;
             match emit {
                 RunEmit::ScriptWithValues => write_valued(alloc, accepted, count, &events),
-                RunEmit::Json => json_of(alloc, units, name, ran, text, accepted, &events),
                 RunEmit::Waits => Ok(table(alloc, accepted, count, text, &events)?.into_bytes()),
                 RunEmit::Waveform => Ok(waveform(alloc, accepted, count, &events)?.into_bytes()),
-                _ => Ok(trace(alloc, accepted, count, text, &events)?.into_bytes()),
+                _ => {
+                    let form = trace_form(emit, name, ran);
+                    let (bytes, _) = trace(alloc, accepted, count, text, &events, form)?;
+                    Ok(bytes)
+                }
             }
         }
     }
@@ -180,38 +180,16 @@ fn summary(
     Ok(bytes)
 }
 
-// The trace of the run of a program of this name and text, as lines of JSON. The events of a run in steps are fewer
-// than 2^31.
-fn json_of(
-    alloc: Global,
-    units: Units,
-    name: &str,
-    ran: &Ran<'_>,
-    text: &[u8],
-    accepted: &Accepted,
-    events: &[Event],
-) -> Result<Vec<u8>, AllocError>
-    requires { length events.now < 2 ^ 31 }
-{
-    let source = match ran.steps {
-        None => EventSource::Threads,
-        Some(_) => EventSource::Steps,
-    };
-    let last = match ran.how {
-        How::Ended => LastLine::AsItStands,
-        How::OutOfBudget => LastLine::OutOfBudget,
-    };
-    let text = lines(
-        alloc,
-        accepted,
-        name,
-        source,
-        units.get(),
-        text,
-        events,
-        last,
-    )?;
-    Ok(text.into_bytes())
+// How the events are told of a run of a program of this name.
+fn trace_form<'n>(emit: RunEmit, name: &'n str, ran: &Ran<'_>) -> TraceForm<'n> {
+    match emit {
+        RunEmit::Json => TraceForm::Json {
+            name,
+            source: source_of(ran),
+            is_out_of_budget: matches!(ran.how, How::OutOfBudget),
+        },
+        _ => TraceForm::Words,
+    }
 }
 
 // The picture of the events of a run of a program of this name, with the predictor.
@@ -256,11 +234,11 @@ fn step_picture(
     Ok(picture.into_bytes())
 }
 
-// The clock of a run: its steps, if it went in steps, or else its events.
-fn clock_of(ran: &Ran<'_>) -> Clock {
+// Who chose the events of a run.
+fn source_of(ran: &Ran<'_>) -> EventSource {
     match ran.steps {
-        None => Clock::Events,
-        Some(_) => Clock::Steps,
+        None => EventSource::Threads,
+        Some(_) => EventSource::Steps,
     }
 }
 

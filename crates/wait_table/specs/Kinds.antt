@@ -1,8 +1,11 @@
--- The three kinds of reasons, and how many waits there are of each.
-use Rattle.std.specs.Prelude.{ℕ, ◌+◌, Bool, true, false, not, if◌then◌else◌, List, [], ◌∷◌}
+-- What waits are for, and how many there are of each kind.
+use Rattle.std.specs.Prelude.{ℕ, Bool, true, false, not, if◌then◌else◌, List}
+use Rattle.std.specs.List.{sum_by}
 use Rattle.unit_waits.specs.declared.waiting.Reason.{Reason}
 use Rattle.unit_waits.specs.declared.waiting.Reason.TheVariants.{NeedsRegister, NeedsHead, HasToPass, HasFinished}
 use Rattle.unit_waits.specs.declared.count.Count.{Count}
+use Rattle.wait_table.specs.declared.kinds.Kind.{Kind}
+use Rattle.wait_table.specs.declared.kinds.Kind.TheVariants.{Unsent, Sent, Head, Any}
 
 -- a register that was not sent
 abbrev pub is_for_unsent : Reason → Bool
@@ -22,7 +25,15 @@ is_for_head NeedsHead = true
 is_for_head HasFinished = true
 is_for_head other = false
 
--- the waits of which the reason passes a test
-abbrev pub waits_passing : (Reason → Bool) → List Count → ℕ
-waits_passing test [] = 0
-waits_passing test (c ∷ cs) = (if test c.first.reason then c.waits else 0) + waits_passing test cs
+abbrev pub is_of : Kind → Reason → Bool
+is_of Unsent = is_for_unsent
+is_of Sent = is_for_sent
+is_of Head = is_for_head
+is_of Any = λ reason. true
+
+-- the waits of a count that are of a kind
+abbrev pub part : Kind → Count → ℕ
+part kind c = if is_of kind c.first.reason then c.waits else 0
+
+abbrev pub waits_of : Kind → List Count → ℕ
+waits_of kind counts = sum_by (part kind) counts

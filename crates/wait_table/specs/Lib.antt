@@ -1,5 +1,3 @@
 pub mod Order
 pub mod Kinds
-pub mod Sums
-pub mod TableText
-pub mod Examples
+pub mod Table

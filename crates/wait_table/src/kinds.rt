@@ -2,15 +2,14 @@
 
 ghost use Rattle.std.specs.Prelude.{◌≡◌, ◌≤◌};
 ghost use Rattle.unit_waits.specs.Counts.{all_waits as all_waits_of};
-ghost use Rattle.wait_table.specs.Kinds.{is_for_head as is_for_head_of, is_for_sent as is_for_sent_of, is_for_unsent as is_for_unsent_of, waits_passing as waits_passing_of};
-ghost use Rattle.wait_table.specs.Sums.{part, test_of};
+ghost use Rattle.wait_table.specs.Kinds.{is_for_head as is_for_head_of, is_for_sent as is_for_sent_of, is_for_unsent as is_for_unsent_of, is_of as is_of_kind, part, waits_of as waits_of_kind};
 
 use unit_waits::count::Count;
 use unit_waits::waiting::Reason;
 
-/// What a reason is a wait for.
-#[derive(Clone, Copy)]
-pub(crate) enum Kind {
+/// What waits are for.
+#[derive(Clone, Copy, Debug, PartialEq, Eq)]
+pub enum Kind {
     /// A register that was not sent.
     Unsent,
     /// A register on its way.
@@ -22,10 +21,10 @@ pub(crate) enum Kind {
 }
 
 /// Whether a reason is of a kind.
-fn is_of(reason: &Reason, kind: &Kind) -> bool
-    ensures { result ≡ test_of kind.now reason.now }
+fn is_of(reason: &Reason, kind: Kind) -> bool
+    ensures { result ≡ is_of_kind kind reason.now }
 {
-    match *kind {
+    match kind {
         Kind::Unsent => is_for_unsent(reason),
         Kind::Sent => is_for_sent(reason),
         Kind::Head => is_for_head(reason),
@@ -38,11 +37,8 @@ fn is_for_unsent(reason: &Reason) -> bool
     ensures { result ≡ is_for_unsent_of reason.now }
 {
     match reason {
-        Reason::NeedsRegister(_, owed) => !owed.is_sent,
-        Reason::HasToPass(_, owed) => !owed.is_sent,
-        Reason::NeedsHead => false,
-        Reason::HasFinished => false,
-        Reason::CouldGoOn => false,
+        Reason::NeedsRegister(_, owed) | Reason::HasToPass(_, owed) => !owed.is_sent,
+        _ => false,
     }
 }
 
@@ -51,11 +47,8 @@ fn is_for_sent(reason: &Reason) -> bool
     ensures { result ≡ is_for_sent_of reason.now }
 {
     match reason {
-        Reason::NeedsRegister(_, owed) => owed.is_sent,
-        Reason::HasToPass(_, owed) => owed.is_sent,
-        Reason::NeedsHead => false,
-        Reason::HasFinished => false,
-        Reason::CouldGoOn => false,
+        Reason::NeedsRegister(_, owed) | Reason::HasToPass(_, owed) => owed.is_sent,
+        _ => false,
     }
 }
 
@@ -64,17 +57,14 @@ fn is_for_head(reason: &Reason) -> bool
     ensures { result ≡ is_for_head_of reason.now }
 {
     match reason {
-        Reason::NeedsHead => true,
-        Reason::HasFinished => true,
-        Reason::NeedsRegister(_, _) => false,
-        Reason::HasToPass(_, _) => false,
-        Reason::CouldGoOn => false,
+        Reason::NeedsHead | Reason::HasFinished => true,
+        _ => false,
     }
 }
 
 /// How many waits of a count are of a kind: all, or none.
-fn part_of(kind: &Kind, count: &Count) -> u32
-    ensures { result ≡ part kind.now count.now }
+fn part_of(kind: Kind, count: &Count) -> u32
+    ensures { result ≡ part kind count.now }
 {
     if is_of(&count.first.reason, kind) {
         count.waits
@@ -84,21 +74,9 @@ fn part_of(kind: &Kind, count: &Count) -> u32
 }
 
 /// How many waits are of a kind.
-pub(crate) fn waits_of(kind: &Kind, counts: &[Count]) -> u32
+pub(crate) fn waits_of(kind: Kind, counts: &[Count]) -> u32
     requires { all_waits_of counts.now ≤ 16000000 }
-    ensures { result ≡ waits_passing_of (test_of kind.now) counts.now }
+    ensures { result ≡ waits_of_kind kind counts.now }
 {
-    let mut waits = 0;
-    for count in counts {
-        waits += part_of(kind, count);
-    }
-    waits
-}
-
-/// How many waits there are.
-pub(crate) fn all_waits(counts: &[Count]) -> u32
-    requires { all_waits_of counts.now ≤ 16000000 }
-    ensures { result ≡ all_waits_of counts.now }
-{
-    waits_of(&Kind::Any, counts)
+    counts.iter().map(|count| part_of(kind, count)).sum()
 }

@@ -1,7 +1,8 @@
-//! The table of a run's waits: how often which task waited where, and for what.
+//! The waits of a run, counted: how often which task waited where, and for what; and their table. The counts are proved,
+//! how they are written is not.
 #![tactic(auto)]
 
-mod kinds;
+pub mod kinds;
 mod order;
 pub mod table;
-mod text;
+pub mod text;

@@ -1,7 +1,6 @@
 -- So many events were applied.
-use Rattle.std.proofs.Common.{drop}
 use Rattle.unit_waits.proofs.Applying.{HasApplied}
 use Rattle.unit_waits.proofs.steps.apply_all.Given as goal
 
 abbrev pub invariant-loop-event : goal.invariant-loop-event
-invariant-loop-event l = HasApplied l.initial.machine l.events l.event-index (drop l.event-index l.events) l.machine
+invariant-loop-event l = HasApplied l.initial.machine l.events l.event-index l.machine

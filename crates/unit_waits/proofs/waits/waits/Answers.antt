@@ -1,60 +1,79 @@
 -- One step more, or none is left.
-use Rattle.std.proofs.Common.{◌≡◌, ◌+◌, List, ◌++◌, length, drop, Some, None, sym, ap, subst, ◌∙◌, arith}
-use Rattle.std.specs.List.{position}
+use Rattle.std.proofs.Common.{List, [], ◌+◌, ◌++◌, length, drop, ap, ◌∙◌, arith}
 use Rattle.std.proofs.lemmas.List.{length-drop}
 use Rattle.unit_waits.specs.declared.waiting.Waiting.{Waiting}
-use Rattle.machine_model.specs.Replay.{ReplaysFrom}
+use Rattle.machine_model.specs.Machine.{State}
 use Rattle.machine_model.specs.declared.event.Event.{Event}
 use Rattle.sequencer.specs.Machines.{state}
-use Rattle.unit_waits.specs.Waits.{ends_step}
-use Rattle.unit_waits.specs.Steps.{IsStepDone}
-use Rattle.unit_waits.proofs.Going.{IsOn, last_by, none_left, step_on}
+use Rattle.unit_waits.specs.Waits.{waits, waits_from}
+use Rattle.unit_waits.proofs.Stepping.{begins, step_allowed, step_on, waits_all, waits_done, waits_more}
 use Rattle.unit_waits.proofs.waits.waits.Goals as goal
 
-pub do_step-requires-clause-over : goal.do_step-requires-clause-over
-do_step-requires-clause-over c = let l = c.loop-start in l.invariant.over
+pub loop-start-init : goal.loop-start-init
+loop-start-init c =
+    let machine = c.in_ok-machine.ensures in
+    let m = c.in_ok-machine.machine in
+    let p = c.args.accepted.now.program in
+    let events = c.args.history.now in
+    record {
+      on = begins c.args.accepted.now c.args.units events 1 m machine.accepted machine.units machine.history machine.opening (omega arith) c.requires.replay;
+      all =
+          ap (λ (ws : List Waiting). ws ++ waits_from p c.args.units 1 (state m) [] events) c.new-waits.ensures.items
+          ∙ ap (λ (s : State). waits_from p c.args.units 1 s [] events) machine.opening;
+    }
 
-pub do_step-requires-clause-units : goal.do_step-requires-clause-units
-do_step-requires-clause-units c = let l = c.loop-start in (c.requires.some, l.invariant.ring)
+pub waits_in_step-requires-clause-over : goal.waits_in_step-requires-clause-over
+waits_in_step-requires-clause-over c = c.loop-start.invariant.on.over
 
-pub do_step-requires-clause-last : goal.do_step-requires-clause-last
-do_step-requires-clause-last c =
+pub waits_in_step-requires-clause-units : goal.waits_in_step-requires-clause-units
+waits_in_step-requires-clause-units c = (c.requires.some, c.loop-start.invariant.on.ring)
+
+pub apply_all-requires-clause-replay : goal.apply_all-requires-clause-replay
+apply_all-requires-clause-replay c =
     let l = c.loop-start in
-    last_by c.active.result l.machine c.behind-left.result.now (Some c.in-Some.last) c.active.ensures.active (sym c.last_of_step.ensures ∙ c.in-Some.is)
+    step_allowed c.next_is_after.ensures c.args.accepted.now c.args.units c.active.result c.args.history.now c.behind-left.result.now c.in-Some.events.now l.start l.number l.machine
+    l.invariant.on c.behind-left.ensures c.in-Some.ensures.step
 
-pub do_step-requires-clause-replay : goal.do_step-requires-clause-replay
-do_step-requires-clause-replay c =
+pub apply_all-requires-clause-room : goal.apply_all-requires-clause-room
+apply_all-requires-clause-room c =
     let l = c.loop-start in
-    let replay = l.invariant.replay in
-    (replay.0, subst (λ (es : List Event). ReplaysFrom c.args.accepted.now.program c.args.units (state l.machine) es replay.0) (sym c.behind-left.ensures) replay.1)
-
-pub do_step-requires-clause-room : goal.do_step-requires-clause-room
-do_step-requires-clause-room c =
-    let l = c.loop-start in
-    let count = l.invariant.count in
-    let within = l.invariant.within in
+    let count = l.invariant.on.count in
+    let within = l.invariant.on.within in
     let long = ap (λ (es : List Event). length es) c.behind-left.ensures in
-    omega (arith, count, within, long, length-drop l.start c.args.history.now, c.requires.room)
-
-pub returns-in_default : goal.returns-in_default
-returns-in_default c =
-    let l = c.loop-start in
-    let none =
-    ap (λ (es : List Event). position (λ e. ends_step c.active.result e) es) (sym c.behind-left.ensures) ∙ sym c.last_of_step.ensures ∙ c.in_default.is in
-    none_left c.args.accepted.now c.args.units c.args.history.now l.start l.number l.waits.items l.machine l.invariant
-    (last_by c.active.result l.machine (drop l.start c.args.history.now) None c.active.ensures.active none)
+    omega (arith, count, within, long, length-drop l.start c.args.history.now, c.in-Some.ensures.within, c.requires.room)
 
 pub loop-start-preserved : goal.loop-start-preserved
 loop-start-preserved c =
     let l = c.loop-start in
     let a = c.args.accepted.now in
-    let events = c.args.history.now in
-    let new = c.do_step.new.machine in
+    let all = c.args.history.now in
+    let left = c.behind-left.result.now in
+    let events = c.in-Some.events.now in
+    let step = c.in-Some.ensures in
+    let new = c.apply_all.new.machine in
     let in_step = c.in_ok-in_step.in_step.items in
-    let within = l.invariant.within in
-    let done =
-    subst (λ (es : List Event). IsStepDone a.program c.args.units l.number l.machine es (c.in-Some.last + 1) in_step new) c.behind-left.ensures c.in_ok-in_step.ensures.done in
-    let long : length (drop l.start events) + l.start ≡ length events = omega (arith, length-drop l.start events, within) in
-    let more = c.in_ok-extend_from_slice.ensures.items ∙ ap (λ (ws : List Waiting). l.waits.items ++ ws) c.as_slice.ensures.value in
-    subst (λ (ws : List Waiting). IsOn a c.args.units events (l.start + (c.in-Some.last + 1)) (l.number + 1) ws new) (sym more)
-    (step_on a c.args.units events l.start l.number (c.in-Some.last + 1) l.waits.items in_step l.machine new l.invariant done c.do_step.ensures.kept long)
+    let applied = c.in_ok-apply_all.ensures in
+    let longer = c.in_ok-extend_from_slice.ensures.items ∙ ap (λ (ws : List Waiting). l.waits.items ++ ws) c.as_slice.ensures.value in
+    record {
+      on =
+          step_on a c.args.units c.active.result all left events l.start l.number l.machine new
+          l.invariant.on c.behind-left.ensures step.step step.some step.within applied.state applied.count c.apply_all.ensures.kept;
+      all =
+          ap (λ (ws : List Waiting). ws ++ waits_from a.program c.args.units (l.number + 1) (state new) [] (drop (l.start + length events) all)) longer
+          ∙ waits_more a c.args.units c.active.result all left events l.start l.number l.machine new l.waits.items in_step (waits a.program c.args.units all)
+          l.invariant.on.over c.behind-left.ensures c.active.ensures.active step.step c.in_ok-in_step.ensures.exact applied.state l.invariant.all;
+    }
+
+pub returns-in_default : goal.returns-in_default
+returns-in_default c =
+    let l = c.loop-start in
+    let a = c.args.accepted.now in
+    waits_done a c.args.units c.active.result c.args.history.now c.behind-left.result.now l.start l.number l.machine l.waits.items (waits a.program c.args.units c.args.history.now)
+    c.behind-left.ensures c.active.ensures.active c.in_default.ensures.step l.invariant.all
+
+pub returns : goal.returns
+returns c =
+    let l = c.loop-start in
+    let a = c.args.accepted.now in
+    waits_all a c.args.units c.args.history.now l.start l.number l.machine l.waits.items (waits a.program c.args.units c.args.history.now)
+    c.loop-start-test.false l.invariant.all

@@ -1,26 +1,22 @@
--- One count more.
-use Rattle.std.proofs.Common.{◌+◌, ℕ, ◌∙◌, take, sym, ap, arith}
-use Rattle.wait_table.specs.Kinds.{waits_passing}
-use Rattle.wait_table.specs.Sums.{test_of}
-use Rattle.wait_table.proofs.Passing.{passing_all, passing_fits, passing_more}
+-- There are no more waits of a kind than there are.
+use Rattle.std.proofs.Common.{◌≡◌, ℕ, ◌≤◌, Bool, true, false, cond, List, [], ◌∷◌, arith}
+use Rattle.std.specs.List.{sum_by}
+use Rattle.std.proofs.lemmas.List.Sums.{sum_by-cons}
+use Rattle.unit_waits.specs.declared.count.Count.{Count}
+use Rattle.unit_waits.specs.Counts.{all_waits}
+use Rattle.wait_table.specs.Kinds.{is_of, part, waits_of}
+use Rattle.wait_table.specs.declared.kinds.Kind.{Kind}
 use Rattle.wait_table.proofs.kinds.waits_of.Goals as goal
 
-pub overflow_add-waits : goal.overflow_add-waits
-overflow_add-waits c =
-    let l = c.loop-count in
-    let part = c.part_of-waits.ensures in
-    let fits = passing_fits (test_of c.args.kind.now) l.count-index c.args.counts.now c.count-item.result c.loop-count-test.true c.count-item.is in
-    omega (arith, l.invariant, part, fits, c.requires)
+all_or_none : (b : Bool) (n : ℕ) → cond b n 0 ≤ n
+all_or_none true n = omega arith
+all_or_none false n = omega arith
 
-pub loop-count-preserved : goal.loop-count-preserved
-loop-count-preserved c =
-    let l = c.loop-count in
-    let test = test_of c.args.kind.now in
-    ap (λ (n : ℕ). n + c.part_of-waits.result) l.invariant
-    ∙ ap (λ (n : ℕ). waits_passing test (take l.count-index c.args.counts.now) + n) c.part_of-waits.ensures
-    ∙ sym (passing_more test l.count-index c.args.counts.now c.count-item.result c.loop-count-test.true c.count-item.is)
+within_all : (kind : Kind) (cs : List Count) → waits_of kind cs ≤ all_waits cs
+within_all kind [] = omega arith
+within_all kind (c ∷ cs) =
+    let here = all_or_none (is_of kind c.first.reason) c.waits in
+    omega (arith, here, within_all kind cs, sum_by-cons (part kind) c cs, sum_by-cons (λ (x : Count). x.waits) c cs)
 
-pub returns : goal.returns
-returns c =
-    let l = c.loop-count in
-    l.invariant ∙ passing_all (test_of c.args.kind.now) l.count-index c.args.counts.now (omega (arith, c.loop-count-test.false))
+pub sum-requires : goal.sum-requires
+sum-requires c = omega (arith, within_all c.args.kind c.args.counts.now, c.requires)

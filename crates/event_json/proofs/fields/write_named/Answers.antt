@@ -1,6 +1,0 @@
--- What is written piece by piece stands after what there was.
-use Rattle.std.proofs.Common.{append_assoc}
-use Rattle.event_json.proofs.fields.write_named.Goals as goal
-
-pub returns : goal.returns
-returns c = simp (c.in_ok-number.ensures, append_assoc) at c.text.ensures

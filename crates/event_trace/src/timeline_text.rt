@@ -1,0 +1,149 @@
+//! A timeline as one object of JSON in the Trace Event Format, which Perfetto and the viewer of Chrome open: the run is a
+//! process, and each unit a thread of it. Each error says that memory was refused.
+
+ghost use Rattle.std.specs.Prelude.{◌<◌, ◌≤◌, length};
+ghost use Rattle.machine_model.specs.Answer.{most_events};
+ghost use Rattle.machine_model.specs.Runs.{events_of};
+ghost use Rattle.task_lives.specs.Lives.{AllFit};
+
+use crate::source::EventSource;
+use crate::timeline::{Mark, Slice, timeline_of};
+use event_script::writing::task_name;
+use json_text::{JsonText, Written};
+use machine_model::event::EventRun;
+use std::alloc::{AllocError, Global};
+use task_descriptor::program::Program;
+use task_lives::life::Ending;
+
+/// The history of a run of a program on `units` units, at least one, as its timeline (`timeline_of`), on a line.
+pub fn timeline(
+    alloc: Global,
+    program: &Program,
+    units: u32,
+    source: EventSource,
+    runs: &[EventRun],
+) -> Result<String, AllocError>
+    requires some { 0 < units }
+    requires room { length (events_of runs.now) ≤ most_events }
+    requires fit { AllFit 0 (events_of runs.now) }
+{
+    let timeline = timeline_of(alloc, units, source, runs)?;
+    let mut out = JsonText::new(alloc);
+    out.begin()?;
+    out.list("traceEvents")?;
+    write_lanes(alloc, &mut out, units)?;
+    write_slices(&mut out, program, &timeline.slices)?;
+    write_marks(alloc, &mut out, &timeline.marks)?;
+    out.end_list()?;
+    out.text("displayTimeUnit", "ms")?;
+    out.end()?;
+    let mut text = out.into_string();
+    text.push_str("\n")?;
+    Ok(text)
+}
+
+/// Begins an entry: its name, its kind, and the unit.
+fn begin_entry(out: &mut JsonText, name: &str, kind: &str, unit: u32) -> Written {
+    out.begin()?;
+    out.text("name", name)?;
+    out.text("ph", kind)?;
+    out.number("pid", 1)?;
+    out.number("tid", unit as usize)
+}
+
+/// Begins an entry of some time, in microseconds.
+fn begin_timed(
+    out: &mut JsonText,
+    name: &str,
+    category: &str,
+    kind: &str,
+    unit: u32,
+    time: usize,
+) -> Written {
+    begin_entry(out, name, kind, unit)?;
+    out.text("cat", category)?;
+    out.number("ts", time)
+}
+
+/// Adds the names of the run and of its units, whose lanes stand in the order of their numbers.
+fn write_lanes(alloc: Global, out: &mut JsonText, units: u32) -> Written {
+    write_naming(out, "process_name", 0, "multiscalar run")?;
+    for unit in 0..units {
+        let name = format!(in alloc; "unit {unit}")?;
+        write_naming(out, "thread_name", unit, name.as_str())?;
+        begin_entry(out, "thread_sort_index", "M", unit)?;
+        out.object("args")?;
+        out.number("sort_index", unit as usize)?;
+        out.end()?;
+        out.end()?;
+    }
+    Ok(())
+}
+
+/// Adds the name of a thing.
+fn write_naming(out: &mut JsonText, what: &str, unit: u32, name: &str) -> Written {
+    begin_entry(out, what, "M", unit)?;
+    out.object("args")?;
+    out.text("name", name)?;
+    out.end()?;
+    out.end()
+}
+
+/// Adds the slice of each life.
+fn write_slices(out: &mut JsonText, program: &Program, slices: &[Slice]) -> Written {
+    for slice in slices {
+        let life = slice.life;
+        let name = task_name(program, life.task);
+        begin_timed(out, name, "task", "X", life.unit, slice.begin)?;
+        let duration = slice.last.saturating_sub(slice.begin).saturating_add(1);
+        out.number("dur", duration)?;
+        out.object("args")?;
+        out.text("task", name)?;
+        out.number("instructions", life.executed as usize)?;
+        out.text("ending", ending_word(life.ending))?;
+        out.end()?;
+        out.end()?;
+    }
+    Ok(())
+}
+
+/// How a life ended, in a word.
+fn ending_word(ending: Ending) -> &'static str {
+    match ending {
+        Ending::Retired => "retired",
+        Ending::Squashed => "squashed",
+        Ending::Dropped => "dropped",
+        Ending::Unfinished => "unfinished",
+    }
+}
+
+/// Adds what happens at one time: an arrow from the slice of one unit to the slice around its end, tied by the number of
+/// the event to the slices that begin before it in the text; an instant on a unit's lane.
+fn write_marks(alloc: Global, out: &mut JsonText, marks: &[Mark]) -> Written {
+    for mark in marks {
+        match *mark {
+            Mark::Arrow {
+                event,
+                register,
+                from,
+                to,
+                time,
+            } => {
+                let number = register.get();
+                let name = format!(in alloc; "${number}")?;
+                begin_timed(out, name.as_str(), "transfer", "s", from, time)?;
+                out.number("id", event as usize)?;
+                out.end()?;
+                begin_timed(out, name.as_str(), "transfer", "f", to, time)?;
+                out.number("id", event as usize)?;
+                out.text("bp", "e")?;
+            }
+            Mark::Squash { unit, time } => {
+                begin_timed(out, "squash", "squash", "i", unit, time)?;
+                out.text("s", "t")?;
+            }
+        }
+        out.end()?;
+    }
+    Ok(())
+}
