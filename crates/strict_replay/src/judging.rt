@@ -184,8 +184,8 @@ impl Referee<'_, '_> {
                 let (program, places) = (self.program, self.places);
                 write_taken(&mut text, program, places, number, ring, event, changes)?;
             }
-            Told::Refused(refusal) => {
-                write_refused(&mut text, self.program, number, event, *refusal)?;
+            Told::Refused(reason) => {
+                write_refused(&mut text, self.program, number, event, *reason)?;
             }
         }
         self.write_after(&mut text, next)?;
