@@ -78,18 +78,23 @@ def writes_json(program):
     return b"json" in subprocess.run([program, "replay", "--help"], capture_output=True).stdout
 
 
-def ran(program, words, folder, most=None):
-    """A run, with the greatest memory in millions of bytes. If it may take so many seconds of the processor, it is ended some two after them."""
+def ran(program, words, folder, most=None, at_terminal=False):
+    """A run, with the greatest memory in millions of bytes. If it may take so many seconds of the processor, it is ended some two after them.
+    At a terminal, what it tells there is not read: a line or two."""
     out, told = folder / "out", folder / "told"
     begin = time.monotonic()
+    ours, its = os.openpty() if at_terminal else (None, None)
     process = os.fork()
     if process == 0:
         if most is not None:
             resource.setrlimit(resource.RLIMIT_CPU, (int(most) + 2, int(most) + 2))
         os.dup2(os.open(out, os.O_WRONLY | os.O_CREAT | os.O_TRUNC), 1)
-        os.dup2(os.open(told, os.O_WRONLY | os.O_CREAT | os.O_TRUNC), 2)
+        errors = os.open(told, os.O_WRONLY | os.O_CREAT | os.O_TRUNC)
+        os.dup2(its if at_terminal else errors, 2)
         os.execv(program, [program, *words])
     _, status, usage = os.wait4(process, 0)
+    for end in (ours, its) if at_terminal else ():
+        os.close(end)
     with open(out, "rb") as file:
         first = file.read(200)
     return Ended(os.waitstatus_to_exitcode(status), first, told.read_bytes(), usage.ru_maxrss * 1024 / 1e6, time.monotonic() - begin,
@@ -367,6 +372,8 @@ SLOWER = {("one label many times", "explain"): 5}
 COUNTED = 0.3
 # Of a run that writes on the way.
 STREAM_MEMORY = 26
+# What ends the name of a run whose standard error is a terminal.
+AT_TERMINAL = ", at a terminal"
 
 
 def ring(tasks, mark=""):
@@ -379,8 +386,9 @@ def long_traces(folder):
     """Traces that are written while their events are played. First of all, since what a run takes counts from what this process has."""
     program, events = COUNT / "program.s", folder / "long.events"
     events.write_text("fault\n" * 600_000)
-    for emit in ("trace", "json"):
-        yield "the trace of a long script", ["replay", program, COUNT / "certificate.cert2", events, "--emit", emit], program, STREAM_MEMORY
+    for kind in ("the trace of a long script", "the trace of a long script" + AT_TERMINAL):
+        for emit in ("trace", "json"):
+            yield kind, ["replay", program, COUNT / "certificate.cert2", events, "--emit", emit], program, STREAM_MEMORY
 
 
 def worst(folder):
@@ -469,8 +477,13 @@ def gate(program, only=""):
             if text not in least:
                 least[text] = ran(program, ["check", "--least", str(text)], folder).processor
             for _ in range(TRIES):
+<<<<<<< HEAD
                 most = max(second(), SLOWER.get((kind, words[0]), TIMES) * least[text])
                 ended = ran(program, [str(word) for word in words], folder, most)
+=======
+                most = max(second() * (2 if words[0] == "explain" else 1), SLOWER.get(words[0], TIMES) * least[text])
+                ended = ran(program, [str(word) for word in words], folder, most, kind.endswith(AT_TERMINAL))
+>>>>>>> edge/main
                 if not is_dear(ended, most, memory):
                     break
             count += 1

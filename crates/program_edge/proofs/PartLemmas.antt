@@ -13,27 +13,20 @@ use Rattle.verdict_report.specs.JobTexts.{IsReportOf}
 use Rattle.verdict_report.specs.declared.fault.ServeFault.{ServeFault}
 use Rattle.program_edge.specs.declared.part.Part.{Part as Made}
 use Rattle.program_edge.specs.declared.summary.ProgramVerdict.{ProgramVerdict}
-use Rattle.program_edge.specs.Several.{IsJobFor, IsJudged, IsPartOfText, Part, part_with}
-
-abbrev part : List ℕ → List ℕ → ProgramVerdict → Part
-part output errors judged = record { output = output; errors = errors; judged = judged }
-
-pub same_part : (a a' b b' : List ℕ) (j j' : ProgramVerdict) → a ≡ a' → b ≡ b' → j ≡ j' → part a b j ≡ part a' b' j'
-same_part a a' b b' j j' p q r = ap (λ (x : List ℕ). part x b j) p ∙ ap (λ (y : List ℕ). part a' y j) q ∙ ap (λ (k : ProgramVerdict). part a' b' k) r
+use Rattle.program_edge.specs.Several.{IsJobFor, IsJudged, IsPartOfText, IsPartWith, Part}
 
 -- a part, as contracts see it
 abbrev seen : Made → Part
 seen made = record { output = made.output.items; errors = made.errors.items; judged = made.judged }
 
--- the job for the program's own name gives an equal part
-same_said : (t : Bool) (first own : String Global) (certificate script : Option (String Global)) (warnings : Bool) (format : Format) (colors : Colors) (name : List ℕ) (report : Report)
-    → part_with t (Explain own None None warnings format colors) name report ≡ part_with t (Explain first certificate script warnings format colors) name report
-same_said true first own certificate script warnings format colors name report = refl
-same_said false first own certificate script warnings format colors name report = refl
+-- the part by the job for the program's own name is that by the job that was asked for
+same_said : (t : Bool) (first own : String Global) (certificate script : Option (String Global)) (warnings : Bool) (format : Format) (colors : Colors) (name : List ℕ) (report : Report) (part : Part)
+    → IsPartWith t (Explain own None None warnings format colors) name report part → IsPartWith t (Explain first certificate script warnings format colors) name report part
+same_said t first own certificate script warnings format colors name report part h = record { output = h.output; silent = h.silent; judged = h.judged }
 
 reported : (t : Bool) (asked own : Job) (name : List ℕ) (texts : Texts) (r : Result Made ServeFault) → IsJobFor asked name own
-    → ((report : Report) → part_with t own name report ≡ part_with t asked name report)
-    → IfOk r (λ made. (report : Report) × IsReportOf own texts report × (seen made ≡ part_with t own name report))
+    → ((report : Report) (part : Part) → IsPartWith t own name report part → IsPartWith t asked name report part)
+    → IfOk r (λ made. (report : Report) × IsReportOf own texts report × IsPartWith t own name report (seen made))
     → IfOk r (λ made. texts.certificate ≡ [] → texts.script.items ≡ [] → IsJudged t asked name texts.program.items (seen made))
 reported t asked own name texts (Ok made) for_it same h = λ certificate script. record {
   job = own;
@@ -42,18 +35,18 @@ reported t asked own name texts (Ok made) for_it same h = λ certificate script.
   alone = (refl, certificate, script);
   report = h.0;
   right = h.1;
-  said = h.2 ∙ same h.0;
+  said = same h.0 (seen made) h.2;
 }
 reported t asked own name texts (Err fault) for_it same h = tt
 
 pub reported_explained : (t : Bool) (asked : Job) (first own : String Global) (certificate script : Option (String Global)) (warnings : Bool) (format : Format) (colors : Colors) (name : List ℕ) (texts : Texts) (r : Result Made ServeFault)
     → asked ≡ Explain first certificate script warnings format colors → string_bytes own ≡ name
-    → IfOk r (λ made. (report : Report) × IsReportOf (Explain own None None warnings format colors) texts report × (seen made ≡ part_with t (Explain own None None warnings format colors) name report))
+    → IfOk r (λ made. (report : Report) × IsReportOf (Explain own None None warnings format colors) texts report × IsPartWith t (Explain own None None warnings format colors) name report (seen made))
     → IfOk r (λ made. texts.certificate ≡ [] → texts.script.items ≡ [] → IsJudged t asked name texts.program.items (seen made))
 reported_explained t asked first own certificate script warnings format colors name texts r is named h =
     subst (λ (job : Job). IfOk r (λ made. texts.certificate ≡ [] → texts.script.items ≡ [] → IsJudged t job name texts.program.items (seen made))) (sym is)
     (reported t (Explain first certificate script warnings format colors) (Explain own None None warnings format colors) name texts r (own, refl, named)
-    (λ report. same_said t first own certificate script warnings format colors name report) h)
+    (λ report part. same_said t first own certificate script warnings format colors name report part) h)
 
 job_itself : (asked : Job) (name : List ℕ) → ((first : String Global) (certificate script : Option (String Global)) (warnings : Bool) (format : Format) (colors : Colors) → asked ≡ Explain first certificate script warnings format colors → ⊥)
     → IsJobFor asked name asked
@@ -70,9 +63,9 @@ job_itself (Demonstrate units steps emit) name other = refl
 
 pub reported_itself : (t : Bool) (asked : Job) (name : List ℕ) (texts : Texts) (r : Result Made ServeFault)
     → ((first : String Global) (certificate script : Option (String Global)) (warnings : Bool) (format : Format) (colors : Colors) → asked ≡ Explain first certificate script warnings format colors → ⊥)
-    → IfOk r (λ made. (report : Report) × IsReportOf asked texts report × (seen made ≡ part_with t asked name report))
+    → IfOk r (λ made. (report : Report) × IsReportOf asked texts report × IsPartWith t asked name report (seen made))
     → IfOk r (λ made. texts.certificate ≡ [] → texts.script.items ≡ [] → IsJudged t asked name texts.program.items (seen made))
-reported_itself t asked name texts r other h = reported t asked asked name texts r (job_itself asked name other) (λ report. refl) h
+reported_itself t asked name texts r other h = reported t asked asked name texts r (job_itself asked name other) (λ report part same. same) h
 
 -- a text that is not taken for a certificate is judged
 pub text_judged : (t : Bool) (asked : Job) (name text : List ℕ) (b : Bool) (certificate script : List ℕ) (r : Result Made ServeFault)

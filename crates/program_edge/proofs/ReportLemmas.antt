@@ -1,5 +1,5 @@
 -- What was written to memory that held nothing is the report; what becomes of it.
-use Rattle.std.proofs.Common.{◌≡◌, ◌∙◌, ap, ap₂, subst, sym, inl, inr, refl, ℕ, Bool, false, true, List, [], ◌∷◌, ◌++◌, ◌⊎◌, ◌==◌, ◌||◌, length}
+use Rattle.std.proofs.Common.{◌≡◌, ◌∙◌, ap, ap₂, subst, sym, inl, inr, refl, ℕ, Bool, false, true, List, [], ◌∷◌, ◌++◌, ◌⊎◌, ◌==◌, ◌||◌, ◌&&◌, not, append-nil, length}
 use Rattle.std.specs.Prelude.{None, Option, Some}
 use Rattle.std.specs.Io.KnownBytes.{Keeps}
 use Rattle.jobs.specs.declared.job.Colors.{Colors}
@@ -26,7 +26,10 @@ use Rattle.std.proofs.lemmas.Bool.{eqb-true, false≢true}
 use Rattle.std.proofs.lemmas.List.{nil_from_length}
 use Rattle.explain_report.specs.declared.repaired.Repaired.{Repaired}
 use Rattle.program_edge.specs.Streams.{IsBroken, IsToldAlone, World}
-use Rattle.program_edge.specs.Beside.{Audience, IsBeside}
+use Rattle.program_edge.specs.Beside.{Audience, IsBeside, IsRest, is_kept, is_played}
+use Rattle.program_edge.specs.Hints.{IsHint, IsSaid}
+use Rattle.explain_report.specs.LeftOvers.{IsLeftOver}
+use Rattle.shown_names.specs.Shown.{shown}
 use Rattle.program_edge.specs.Refusals.{is_refusal}
 use Rattle.verdict_report.specs.declared.fault.ServeFault.{ServeFault}
 use Rattle.verdict_report.specs.declared.fault.ServeFault.TheVariants as serve
@@ -151,22 +154,52 @@ put watched audience job path texts report said ending old new told right taken 
   taken = taken;
 }
 
--- where nobody listens, there is no hint
-unheard : (t w : Bool) (name : List ℕ) (job : Job) (program : List ℕ) (written : Report) → (t || w) ≡ false
-    → IsBeside (record { is_terminal = t; wants_rest = w; name = name }) job program written []
-unheard false false name job program written h = record { rest = []; left = refl; both = refl }
-unheard false true name job program written h = absurd (cc)
-unheard true w name job program written h = absurd (cc)
+-- what a replay tells leaves nothing to mend
+played_leaves : (job : Job) (program name : List ℕ) (written : Report) → is_played job ≡ true → IsLeftOver job program name written None
+played_leaves (Annotate emit) program name written h = absurd (cc)
+played_leaves (Explain own certificate script warnings format colors) program name written h = refl
+played_leaves (Seq budget) program name written h = refl
+played_leaves Print program name written h = refl
+played_leaves (Check source workers) program name written h = refl
+played_leaves (Replay source units emit until) program name written h = refl
+played_leaves (ReplayStrictly source units) program name written h = refl
+played_leaves (Run source schedule units workers budget predict emit) program name written h = refl
+played_leaves (Curve source units budget predict emit) program name written h = refl
+played_leaves (Demonstrate units steps emit) program name written h = refl
 
--- a job was done whose report standard output took, where nobody listens
-pub done_unheard : (audience : Audience) (job : Job) (texts : Texts) (ending : Answered) (old new : World)
-    → (audience.is_terminal || audience.wants_rest) ≡ false → IsDone job texts ending.status old.output new.output
-    → ending.is_told ≡ true → Keeps old.errors new.errors → Same old.files new.files → IsJobDone audience job texts ending old new
-done_unheard audience job texts ending old new h done is_told kept same = record {
+not_false : (b : Bool) → not b ≡ false → b ≡ true
+not_false true h = refl
+not_false false h = absurd (cc)
+
+-- beside a report that is not kept stands its hint alone
+unkept_rest : (t w : Bool) (job : Job) (program name : List ℕ) (written : Report) → ((t || w) && not (is_played job)) ≡ false
+    → IsRest (t || w) w job program name written []
+unkept_rest false false job program name written h = refl
+unkept_rest false true job program name written h = (None, played_leaves job program (shown name) written (not_false (is_played job) h), refl)
+unkept_rest true false job program name written h = (None, played_leaves job program (shown name) written (not_false (is_played job) h), refl)
+unkept_rest true true job program name written h = (None, played_leaves job program (shown name) written (not_false (is_played job) h), refl)
+
+beside_unkept : (audience : Audience) (job : Job) (program : List ℕ) (written : Report) (hint : List ℕ) → is_kept audience job ≡ false
+    → IsHint audience.is_terminal job written.status hint → IsBeside audience job program written hint
+beside_unkept audience job program written hint h silent = record {
+  hint = hint;
+  silent = silent;
+  rest = [];
+  left = unkept_rest audience.is_terminal audience.wants_rest job program audience.name written h;
+  both = sym (append-nil hint);
+}
+
+-- a job was done whose report standard output took, and that was not kept
+pub done_unkept : (audience : Audience) (job : Job) (texts : Texts) (hint : List ℕ) (ending : Answered) (old new : World)
+    → is_kept audience job ≡ false → (done : IsDone job texts ending.status old.output new.output)
+    → IsHint audience.is_terminal job ending.status hint → IsSaid hint ending.is_told old.errors new.errors
+    → Same old.files new.files → IsJobDone audience job texts ending old new
+done_unkept audience job texts hint ending old new h done silent said same = record {
   done = done;
-  beside = [];
-  told = unheard audience.is_terminal audience.wants_rest audience.name job texts.program.items done.report h;
-  said = (is_told, kept);
+  beside = hint;
+  told = beside_unkept audience job texts.program.items done.report hint h
+      (subst (λ (s : ℕ). IsHint audience.is_terminal job s hint) done.answered silent);
+  said = said;
   files = same;
 }
 

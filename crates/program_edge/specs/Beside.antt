@@ -1,11 +1,13 @@
 -- What standard error gets beside a report: its hint, and what `annotate` leaves to mend by hand.
-use Rattle.std.specs.Prelude.{◌≡◌, ◌==◌, ◌||◌, ◌++◌, ℕ, Bool, true, false, List, [], Option, Some, None, if◌then◌else◌}
+use Rattle.std.specs.Prelude.{◌≡◌, ◌==◌, ◌&&◌, ◌||◌, ◌++◌, ℕ, Bool, true, false, not, List, [], Option, Some, None, if◌then◌else◌}
 use Rattle.jobs.specs.declared.job.Job.{Job}
+use Rattle.jobs.specs.declared.job.Job.TheVariants.{Replay}
+use Rattle.jobs.specs.declared.job.ReplayEmit.TheVariants.{Json, Trace}
 use Rattle.report_texts.specs.OutputTexts.{Report}
 use Rattle.explain_report.specs.LeftOvers.{IsLeftOver}
 use Rattle.explain_report.specs.declared.left.LeftOver.{LeftOver}
 use Rattle.shown_names.specs.Shown.{shown}
-use Rattle.program_edge.specs.Hints.{hint_for}
+use Rattle.program_edge.specs.Hints.{IsHint}
 
 -- who reads standard error: whether it is a terminal, whether what is left is asked for, and the name of the
 -- program's file
@@ -28,6 +30,18 @@ IsRest true asked job program name written said =
 
 -- the hint beside a report: a terminal hears of what is left unasked
 pub record IsBeside (audience : Audience) (job : Job) (program : List ℕ) (written : Report) (said : List ℕ) : Type 0 where
+  pub hint : List ℕ
+  pub silent : IsHint audience.is_terminal job written.status hint
   pub rest : List ℕ
   pub left : IsRest (audience.is_terminal || audience.wants_rest) audience.wants_rest job program audience.name written rest
-  pub both : said ≡ hint_for audience.is_terminal job audience.name written ++ rest
+  pub both : said ≡ hint ++ rest
+
+-- what is told of each event is written while the events are played, and not kept
+abbrev pub is_played : Job → Bool
+is_played (Replay source units Trace until) = true
+is_played (Replay source units Json until) = true
+is_played _ = false
+
+-- somebody is to hear of a report that is kept
+abbrev pub is_kept : Audience → Job → Bool
+is_kept audience job = (audience.is_terminal || audience.wants_rest) && not (is_played job)

@@ -13,7 +13,6 @@ use Rattle.jobs.specs.declared.job.Colors.TheVariants.{Always, Auto, Never}
 use Rattle.jobs.specs.declared.job.Format.{Format}
 use Rattle.jobs.specs.declared.job.Job.{Job}
 use Rattle.jobs.specs.declared.job.Job.TheVariants.{Check, Explain, Print, Seq}
-use Rattle.report_texts.specs.OutputTexts.{Report}
 use Rattle.std.specs.declared.string.String.{String}
 use Rattle.std.specs.declared.alloc.Global.{Global}
 use Rattle.result_files.specs.declared.unwritten.Unwritten.TheVariants.{NoSuchFolder}
@@ -22,7 +21,7 @@ use Rattle.program_edge.specs.Asking.{input_of}
 use Rattle.program_edge.specs.Beside.{rest_said}
 use Rattle.program_edge.specs.Colouring.{colors_for}
 use Rattle.program_edge.specs.FileTexts.{but_there, opening_reason, program_name}
-use Rattle.program_edge.specs.Hints.{hint_for, hint_of}
+use Rattle.program_edge.specs.Hints.{is_heard}
 use Rattle.program_edge.specs.Refusals.{is_refusal}
 use Rattle.program_edge.specs.Telling.{said_of, unread_fault}
 
@@ -87,40 +86,20 @@ findings = refl
 pub trapped : (budget : ℕ) → is_refusal (Seq budget) 1 (codes "10" ++ (10 ∷ (codes "trapped 3 BadPc after 17 instructions" ++ 10 ∷ []))) ≡ false
 trapped budget = refl
 
--- on a terminal `print a.s` of a refused program names the file, the line, and the command that says more
-pub refused_hint : hint_of Print (codes "a.s") 1 (codes "program refused: 4 Mnemonic line 1" ++ 10 ∷ [])
-    ≡ codes "multiscalar: a.s: program refused: 4 Mnemonic line 1; multiscalar explain a.s says more" ++ 10 ∷ []
-refused_hint = refl
+-- only a terminal hears of a refused program, and of none that halts
+pub heard : is_heard true Print 1 ≡ true
+heard = refl
 
--- of findings it has their number
-pub findings_hint : (workers : ℕ) → hint_of (Check Least workers) (codes "a.s") 1 (codes "A 0 rule 5 $8" ++ (10 ∷ (codes "refused 1" ++ 10 ∷ [])))
-    ≡ codes "multiscalar: a.s: refused 1; multiscalar explain a.s says more" ++ 10 ∷ []
-findings_hint workers = refl
+pub no_terminal : (job : Job) (status : ℕ) → is_heard false job status ≡ false
+no_terminal job status = refl
 
--- `explain` says no more of proposed marks
-pub marks_hint : hint_of Print (codes "a.s") 1 (codes "marks refused: 1 TooLong" ++ 10 ∷ [])
-    ≡ codes "multiscalar: a.s: marks refused: 1 TooLong" ++ 10 ∷ []
-marks_hint = refl
+pub halted : (budget : ℕ) → is_heard true (Seq budget) 0 ≡ false
+halted budget = refl
 
--- how a run ended that trapped, or went where no task begins
-pub trapped_hint : (budget : ℕ) → hint_of (Seq budget) (codes "a.s") 1 (codes "10" ++ (10 ∷ (codes "trapped 3 BadPc after 17 instructions" ++ 10 ∷ [])))
-    ≡ codes "multiscalar: a.s: trapped 3 BadPc after 17 instructions" ++ 10 ∷ []
-trapped_hint budget = refl
-
-pub unlisted_hint : hint_of Print (codes "a.s") 1 (codes "unlisted 00400010" ++ 10 ∷ [])
-    ≡ codes "multiscalar: a.s: unlisted 00400010" ++ 10 ∷ []
-unlisted_hint = refl
-
--- a program that halts, and `explain`, get none; and only a terminal gets one
-pub no_hint : (budget : ℕ) → hint_of (Seq budget) (codes "a.s") 0 (codes "halted after 17 instructions" ++ 10 ∷ []) ≡ []
-no_hint budget = refl
-
-pub explained : (name : String Global) (certificate script : Option (String Global)) (warnings : Bool) (format : Format) (colors : Colors) (text : List ℕ)
-    → hint_of (Explain name certificate script warnings format colors) (codes "a.s") 1 text ≡ []
-explained name certificate script warnings format colors text = refl
-
-pub no_terminal : (job : Job) (report : Report) → hint_for false job (codes "a.s") report ≡ []
-no_terminal job report = refl
+-- `explain` says all itself
+pub explained : (name : String Global) (certificate script : Option (String Global)) (warnings : Bool) (format : Format) (colors : Colors)
+    → is_heard true (Explain name certificate script warnings format colors) 1 ≡ false
+explained name certificate script warnings format colors = refl
 
 -- where nothing is left, only who asks hears of it
 pub asked : (left : LeftOver) → rest_said true (Some left) ≡ left.said.items

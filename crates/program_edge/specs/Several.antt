@@ -18,7 +18,7 @@ use Rattle.program_edge.specs.declared.told.Answered.{Answered}
 use Rattle.program_edge.specs.declared.unread.UnreadReason.{UnreadReason}
 use Rattle.program_edge.specs.declared.unread.UnreadReason.TheVariants.{OutOfMemory}
 use Rattle.program_edge.specs.FileTexts.{Known, IsFound, most_program}
-use Rattle.program_edge.specs.Hints.{explains, hint_for}
+use Rattle.program_edge.specs.Hints.{IsHint, explains}
 use Rattle.program_edge.specs.Streams.{IsCut, IsToldAlone, IsWritten, World}
 use Rattle.program_edge.specs.Summaries.{judged_by, summary_line, tally_of, worst_status}
 use Rattle.program_edge.specs.Telling.{file_line, program_reason}
@@ -64,12 +64,10 @@ IsJobFor (Explain first certificate script warnings format colors) name job =
 IsJobFor asked name job = job ≡ asked
 
 -- the part of a program with this report
-abbrev pub part_with : (is_terminal : Bool) → (asked : Job) → (name : List ℕ) → Report → Part
-part_with is_terminal asked name report = record {
-  output = among_others asked name report.bytes;
-  errors = hint_for is_terminal asked name report;
-  judged = judged_by report.status;
-}
+pub record IsPartWith (is_terminal : Bool) (asked : Job) (name : List ℕ) (report : Report) (part : Part) : Type 0 where
+  pub output : part.output ≡ among_others asked name report.bytes
+  pub silent : IsHint is_terminal asked report.status part.errors
+  pub judged : part.judged ≡ judged_by report.status
 
 -- the job has its report of this text, with no text beside it
 pub record IsJudged (is_terminal : Bool) (asked : Job) (name text : List ℕ) (part : Part) : Type 0 where
@@ -79,7 +77,7 @@ pub record IsJudged (is_terminal : Bool) (asked : Job) (name text : List ℕ) (p
   pub alone : (texts.program.items ≡ text) × (texts.certificate ≡ []) × (texts.script.items ≡ [])
   pub report : Report
   pub right : IsReportOf job texts report
-  pub said : part ≡ part_with is_terminal asked name report
+  pub said : IsPartWith is_terminal asked name report part
 
 -- the part of a text, for whether it is taken for a certificate
 abbrev pub IsPartOfText : (is_certificate is_terminal : Bool) → (asked : Job) → (name text : List ℕ) → Part → Type 0

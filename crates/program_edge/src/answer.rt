@@ -11,7 +11,7 @@ ghost use Rattle.verdict_report.specs.JobTexts.{IsReportOf};
 use crate::each::answer_each;
 use crate::fault::Fault;
 use crate::named_files::NamedFiles;
-use crate::reader::{Reader, hinted, told_report};
+use crate::reader::{Reader, hint_unkept, hinted, told_report};
 use crate::refusal::is_refusal;
 use crate::reports::{Written, written_told};
 use crate::streams::{say, write_whole};
@@ -482,7 +482,7 @@ fn put<D: Folder, O: Write, E: Write, R: Threads + Wait + Sync>(
     }
 }
 
-// Does a job of which standard output takes the report. Where there is no hint, the report need not be kept.
+// Does a job of which standard output takes the report. Where nothing beside it needs the report, it is not kept.
 fn write_out<O: Write, E: Write, R: Threads + Wait + Sync>(
     rt: &R,
     alloc: Global,
@@ -499,14 +499,17 @@ fn write_out<O: Write, E: Write, R: Threads + Wait + Sync>(
         record { output = O.contents output.old; errors = E.contents errors.old; files = files }
         record { output = O.contents output.new; errors = E.contents errors.new; files = files } }
 {
-    if reader.listens() {
+    if reader.keeps(job) {
         return show_hinted(rt, alloc, job, texts, reader, output, errors);
     }
     match serve(rt, alloc, job, texts, output) {
-        Ok(status) => Answered {
-            status,
-            is_told: true,
-        },
+        Ok(status) => {
+            let hint = hint_unkept(rt, alloc, job, texts, reader, status);
+            Answered {
+                status,
+                is_told: say(hint.as_slice(), errors),
+            }
+        }
         Err(fault) => tell(&Fault::Serve(fault), output, errors),
     }
 }

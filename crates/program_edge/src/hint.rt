@@ -1,6 +1,6 @@
 //! The hint on standard error beside a result, where that is a terminal.
-ghost use Rattle.std.specs.Prelude.{◌≡◌, ◌++◌, IfOk, OnOk};
-ghost use Rattle.program_edge.specs.Hints.{command_of, command_words, explains, file_name, has_more, hint_for, hint_of, line_hint, named_line, says_all, without_end};
+ghost use Rattle.std.specs.Prelude.{◌≡◌, IfOk};
+ghost use Rattle.program_edge.specs.Hints.{IsHint, explains};
 
 use crate::refusal::last_line;
 use jobs::job::Job;
@@ -8,8 +8,13 @@ use shown_names::name::shown_name;
 use shown_names::shell::shell_word;
 use std::alloc::{AllocError, Global};
 
-/// The line that standard error gets beside the result of a job with this status, of a program of this name; empty
-/// where standard error is no terminal.
+/// The line that standard error gets beside the result of a job with this status, of a program of this name: that a
+/// text is refused, with the command that says more, or how a run ended that did not halt. Empty for any other result,
+/// and where standard error is no terminal.
+///
+/// # Errors
+///
+/// `AllocError` where memory was refused.
 pub fn hint_for(
     alloc: Global,
     is_terminal: bool,
@@ -18,28 +23,9 @@ pub fn hint_for(
     status: u8,
     text: &[u8],
 ) -> Result<Vec<u8>, AllocError>
-    ensures { IfOk result (λ hint. hint.items ≡ hint_for is_terminal job.now name.now
-        record { bytes = text.now; status = status }) }
+    ensures { IfOk result (λ hint. IsHint is_terminal job.now status hint.items) }
 {
-    if is_terminal {
-        hint_of(alloc, job, name, status, text)
-    } else {
-        Ok(Vec::new(alloc))
-    }
-}
-
-// That a text is refused, with the command that says more, or how a run ended that did not halt; empty for any other
-// result.
-fn hint_of(
-    alloc: Global,
-    job: &Job,
-    name: &str,
-    status: u8,
-    text: &[u8],
-) -> Result<Vec<u8>, AllocError>
-    ensures { IfOk result (λ hint. hint.items ≡ hint_of job.now name.now status text.now) }
-{
-    if !explains(job) && status == 1 {
+    if is_terminal && !explains(job) && status == 1 {
         line_hint(alloc, name, last_line(text))
     } else {
         Ok(Vec::new(alloc))
@@ -54,85 +40,33 @@ pub(crate) fn explains(job: &Job) -> bool
 }
 
 // One line for a result that ends with this line, or none.
-fn line_hint(alloc: Global, name: &str, line: &[u8]) -> Result<Vec<u8>, AllocError>
-    ensures { IfOk result (λ hint. hint.items ≡ line_hint name.now line.now) }
-{
+fn line_hint(alloc: Global, name: &str, line: &[u8]) -> Result<Vec<u8>, AllocError> {
     let mut hint = Vec::new(alloc);
-    if has_more(line) {
-        add_named_line(alloc, name, line, &mut hint)?;
-        add_command(alloc, name, &mut hint)?;
-    } else if says_all(line) {
-        add_named_line(alloc, name, line, &mut hint)?;
-        hint.push(b'\n')?;
+    if !has_more(line) && !says_all(line) {
+        return Ok(hint);
     }
+    let shown = shown_name(alloc, name)?;
+    hint.extend_from_slice(b"multiscalar: ")?;
+    hint.extend_from_slice(shown.as_str().as_bytes())?;
+    hint.extend_from_slice(b": ")?;
+    hint.extend_from_slice(&line[..line.len().saturating_sub(1)])?;
+    if has_more(line) {
+        let word = shell_word(alloc, name)?;
+        hint.extend_from_slice(b"; multiscalar explain ")?;
+        hint.extend_from_slice(word.as_str().as_bytes())?;
+        hint.extend_from_slice(b" says more")?;
+    }
+    hint.push(b'\n')?;
     Ok(hint)
 }
 
-// Adds the file, and the line about it.
-fn add_named_line(
-    alloc: Global,
-    name: &str,
-    line: &[u8],
-    hint: &mut Vec<u8>,
-) -> Result<(), AllocError>
-    ensures { OnOk result (hint.new.items ≡ hint.old.items ++ named_line name.now line.now) }
-{
-    add_name(alloc, name, hint)?;
-    hint.extend_from_slice(without_end(line))
-}
-
-// Adds the program and the file.
-fn add_name(alloc: Global, name: &str, hint: &mut Vec<u8>) -> Result<(), AllocError>
-    ensures { OnOk result (hint.new.items ≡ hint.old.items ++ file_name name.now) }
-{
-    let shown = shown_name(alloc, name)?;
-    add("multiscalar: ", hint)?;
-    add(shown.as_str(), hint)?;
-    add(": ", hint)
-}
-
-// Adds the command that says more.
-fn add_command(alloc: Global, name: &str, hint: &mut Vec<u8>) -> Result<(), AllocError>
-    ensures { OnOk result (hint.new.items ≡ hint.old.items ++ command_words name.now) }
-{
-    let word = shell_word(alloc, name)?;
-    add_command_of(word.as_str(), hint)
-}
-
-// Adds the command that says more of the file that a shell knows by this word.
-fn add_command_of(word: &str, hint: &mut Vec<u8>) -> Result<(), AllocError>
-    ensures { OnOk result (hint.new.items ≡ hint.old.items ++ command_of word.now) }
-{
-    add("; multiscalar explain ", hint)?;
-    add(word, hint)?;
-    add(" says more\n", hint)
-}
-
-// Adds a text.
-pub(crate) fn add(text: &str, hint: &mut Vec<u8>) -> Result<(), AllocError>
-    ensures { OnOk result (hint.new.items ≡ hint.old.items ++ text.now) }
-{
-    hint.extend_from_slice(text.as_bytes())
-}
-
-// A line without its LF.
-fn without_end(line: &[u8]) -> &[u8]
-    ensures { result.now ≡ without_end line.now }
-{
-    &line[..line.len().saturating_sub(1)]
-}
-
 // Whether `explain` says more of a program with this last line.
-fn has_more(line: &[u8]) -> bool
-    ensures { result ≡ has_more line.now }
-{
+fn has_more(line: &[u8]) -> bool {
     line.starts_with(b"program refused: ") || line.starts_with(b"refused ")
 }
 
 // Whether the line says all.
-fn says_all(line: &[u8]) -> bool
-    ensures { result ≡ says_all line.now }
-{
+fn says_all(line: &[u8]) -> bool {
     line.starts_with(b"certificate refused: ")
         || line.starts_with(b"script refused: ")
         || line.starts_with(b"marks refused: ")

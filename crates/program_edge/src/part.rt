@@ -1,11 +1,11 @@
 //! The part of one of several programs on the two streams.
-ghost use Rattle.std.specs.Prelude.{◌≡◌, [], Err, IfOk, OnErr};
+ghost use Rattle.std.specs.Prelude.{◌≡◌, ◌++◌, [], Err, IfOk, OnErr, OnOk};
 ghost use Rattle.report_texts.specs.OutputTexts.{Report};
 ghost use Rattle.verdict_report.specs.JobTexts.{IsReportOf};
-ghost use Rattle.program_edge.specs.Several.{IsJudged, IsPartOf, IsPartOfText, among_others, certificate_reason, is_certificate, named_lines, part_with, unjudged};
+ghost use Rattle.program_edge.specs.Several.{IsJudged, IsPartOf, IsPartOfText, IsPartWith, among_others, certificate_reason, is_certificate, named_lines, unjudged};
 ghost use Rattle.program_edge.specs.Telling.{program_reason};
 
-use crate::hint::{add, explains};
+use crate::hint::explains;
 use crate::named_files::NamedFiles;
 use crate::reports::{Hinted, hinted_report};
 use crate::summary::{ProgramVerdict, judged_by};
@@ -129,8 +129,8 @@ fn reported_part<R: Threads + Wait + Sync>(
     is_terminal: bool,
 ) -> Result<Part, ServeFault>
     ensures part { IfOk result (λ part. (report : Report) × IsReportOf job.now texts.now report
-        × (record { output = part.output.items; errors = part.errors.items; judged = part.judged }
-        ≡ part_with is_terminal job.now name.now report)) }
+        × IsPartWith is_terminal job.now name.now report
+        record { output = part.output.items; errors = part.errors.items; judged = part.judged }) }
     ensures memory { OnErr result (result ≡ Err ServeFault.OutOfMemory) }
 {
     let Hinted { report, hint } = hinted_report(rt, alloc, job, texts, is_terminal, name)?;
@@ -149,6 +149,13 @@ fn among_others(alloc: Global, job: &Job, name: &str, text: Vec<u8>) -> Result<V
         Job::Check { .. } => named_lines(alloc, name, text.as_slice()),
         _ => Ok(text),
     }
+}
+
+// Adds a text.
+fn add(text: &str, said: &mut Vec<u8>) -> Result<(), AllocError>
+    ensures { OnOk result (said.new.items ≡ said.old.items ++ text.now) }
+{
+    said.extend_from_slice(text.as_bytes())
 }
 
 // The lines of a text, each with the file's name before it.

@@ -1,13 +1,14 @@
 //! Who reads standard error, and what is written there beside a report.
 ghost use Rattle.std.specs.Prelude.{◌≡◌, ◌≢◌, ◌||◌, Err, IfOk, OnErr};
 ghost use Rattle.verdict_report.specs.JobTexts.{IsReportOf};
-ghost use Rattle.program_edge.specs.Beside.{IsBeside, IsRest, rest_said};
+ghost use Rattle.program_edge.specs.Beside.{IsBeside, IsRest, is_played, rest_said};
+ghost use Rattle.program_edge.specs.Hints.{IsHint};
 
 use crate::hint::hint_for;
 use crate::reports::{Hinted, Written, report_of};
 use explain_report::left::LeftOver;
 use explain_report::proposal::left_over;
-use jobs::job::{Job, Texts};
+use jobs::job::{Job, ReplayEmit, Texts};
 use shown_names::name::shown_name;
 use std::alloc::{AllocError, Global};
 use std::marker::Model;
@@ -37,6 +38,7 @@ impl Model for Reader {
 
 impl Reader {
     ghost use Rattle.std.specs.Prelude.{◌≡◌, ◌||◌};
+    ghost use Rattle.program_edge.specs.Beside.{is_kept};
 
     /// Whether anything may be written beside a report.
     pub(crate) fn listens(&self) -> bool
@@ -44,6 +46,26 @@ impl Reader {
     {
         self.is_terminal || self.wants_rest
     }
+
+    /// Whether a report is to be kept until it is known what is written beside it.
+    pub(crate) fn keeps(&self, job: &Job) -> bool
+        ensures { result ≡ is_kept self.now job.now }
+    {
+        self.listens() && !is_played(job)
+    }
+}
+
+// Whether the job writes what it tells of each event while the events are played.
+fn is_played(job: &Job) -> bool
+    ensures { result ≡ is_played job.now }
+{
+    matches!(
+        job,
+        Job::Replay {
+            emit: ReplayEmit::Trace | ReplayEmit::Json,
+            ..
+        }
+    )
 }
 
 /// What a job with its texts writes, and the hint beside it.
@@ -82,6 +104,47 @@ pub(crate) fn hinted(
     let rest = rest_of(alloc, job, texts, reader, &report)?;
     hint.extend_from_slice(rest.as_slice())?;
     Ok(Hinted { report, hint })
+}
+
+/// The hint beside a report with this status that was not kept. Of what a replay tells, only a refusal has one, which
+/// its summary says, too. Empty where memory was refused.
+pub(crate) fn hint_unkept<R: Threads + Wait + Sync>(
+    rt: &R,
+    alloc: Global,
+    job: &Job,
+    texts: &Texts,
+    reader: &Reader,
+    status: u8,
+) -> Vec<u8>
+    ensures { IsHint reader.now.is_terminal job.now status result.items }
+{
+    if !reader.is_terminal || status != 1 {
+        return Vec::new(alloc);
+    }
+    let Job::Replay {
+        certificate,
+        units,
+        until,
+        ..
+    } = job
+    else {
+        return Vec::new(alloc);
+    };
+    let summary = Job::Replay {
+        certificate: *certificate,
+        units: *units,
+        emit: ReplayEmit::Summary,
+        until: *until,
+    };
+    let Ok(report) = report_of(rt, alloc, &summary, texts) else {
+        return Vec::new(alloc);
+    };
+    let name = reader.name.as_str();
+    let bytes = report.bytes.as_slice();
+    match hint_for(alloc, reader.is_terminal, job, name, status, bytes) {
+        Ok(hint) => hint,
+        Err(AllocError) => Vec::new(alloc),
+    }
 }
 
 // The text about what the job leaves that wrote this.

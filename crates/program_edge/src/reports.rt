@@ -4,7 +4,7 @@ ghost use Rattle.verdict_report.specs.CurveProgress.{IsProgress, progress_lines}
 ghost use Rattle.verdict_report.specs.JobTexts.{IsReportOf};
 ghost use Rattle.result_files.specs.Writing.{Begins};
 ghost use Rattle.shown_names.specs.Shown.{shown};
-ghost use Rattle.program_edge.specs.Hints.{hint_for};
+ghost use Rattle.program_edge.specs.Hints.{IsHint};
 
 use crate::hint::hint_for;
 use jobs::job::{Job, Texts};
@@ -40,8 +40,7 @@ pub(crate) fn hinted_report<R: Threads + Wait + Sync>(
     name: &str,
 ) -> Result<Hinted, ServeFault>
     ensures report { IfOk result (λ h. IsReportOf job.now texts.now record { bytes = h.report.bytes.items; status = h.report.status }) }
-    ensures hint { IfOk result (λ h. h.hint.items ≡ hint_for is_terminal job.now name.now
-        record { bytes = h.report.bytes.items; status = h.report.status }) }
+    ensures hint { IfOk result (λ h. IsHint is_terminal job.now h.report.status h.hint.items) }
     ensures fault { result ≢ Err ServeFault.Write }
     ensures memory { OnErr result (result ≡ Err ServeFault.OutOfMemory) }
 {

@@ -1,29 +1,34 @@
 -- A strict replay: whether each line of a script is as the machine does it, from the start on; and if not, the first that
 -- is not, and which of its expectations is the first that is not met. What is written of it is not said here.
-use Rattle.std.specs.Prelude.{◌≡◌, ℕ, suc, ◌+◌, Bool, List, [], ◌∷◌, length, Option, None, Some, Result, Ok, Err, if◌then◌else◌}
+use Rattle.std.specs.Prelude.{◌≡◌, ℕ, suc, ◌+◌, ◌==◌, ◌&&◌, Bool, true, false, List, [], ◌∷◌, length, Option, None, Some, Result, Ok, Err, if◌then◌else◌}
 use Rattle.std.specs.List.{list_any}
 use Rattle.std.specs.Option.{option_eq, option_map, option_map_or, option_or}
 use Rattle.task_descriptor.specs.Listing.{Listing}
 use Rattle.machine_model.specs.Machine.{State, opening}
 use Rattle.machine_model.specs.Answer.{after, answer}
 use Rattle.machine_model.specs.declared.event.Event.{Event}
+use Rattle.machine_model.specs.RefusedText.{number_and_name}
 use Rattle.machine_model.specs.declared.event.Refused.{Refused}
+use Rattle.machine_model.specs.declared.event.Refused.TheVariants.{NotYet, Unfinished, Waiting}
 use Rattle.sequencer.specs.Machines.{MachineView, SameRing, state as state_of, units_of}
 use Rattle.event_script.specs.EventScript.{event_in, lines, names_in}
 use Rattle.event_script.specs.declared.fault.EventFault.{EventFault}
 use Rattle.event_trace.specs.Changes.{changes_of}
 use Rattle.event_trace.specs.declared.change.Change.{Change}
 use Rattle.event_trace.specs.declared.change.Change.TheVariants.{Took, Loaded, Stored, Wrote, Sent, PutOut, StoppedAt, Ended, AtUnit}
+use Rattle.event_trace.specs.declared.told.Told.{Told}
+use Rattle.event_trace.specs.declared.told.Told.TheVariants as told
 use Rattle.event_trace.specs.declared.unit_change.UnitChange.TheVariants.{Arrived, Drained}
 use Rattle.report_texts.specs.JudgedTexts.{Judgement, refused, accepted, judgement}
 use Rattle.report_texts.specs.OutputTexts.{Report}
+use Rattle.strict_replay.specs.declared.expectation.ExpectedRefusal.{ExpectedRefusal}
 use Rattle.strict_replay.specs.declared.expectation.Expectation.{Expectation}
 use Rattle.strict_replay.specs.declared.expectation.Expectation.TheVariants.{Register, Sends, Memory, Output, Stops, Ends}
 use Rattle.strict_replay.specs.contracts.expectation.ExpectationPartialEq.TheImpl.{eq-value}
 use Rattle.strict_replay.specs.declared.departure.Departure.{Departure}
-use Rattle.strict_replay.specs.declared.departure.Departure.TheVariants.{NoEvent, NotAllowed, Unread, Missed}
+use Rattle.strict_replay.specs.declared.departure.Departure.TheVariants.{NoEvent, NotAllowed, NotRefused, Unread, Missed}
 use Rattle.strict_replay.specs.declared.departure.Departed.{Departed}
-use Rattle.strict_replay.specs.StrictScript.{content, event_text, expectation_in, expected_parts, is_silent}
+use Rattle.strict_replay.specs.StrictScript.{content, event_text, expectation_in, expected_parts, expects_refusal, is_silent, refusal_in}
 
 -- what an event with this change has done, as a script can expect it
 abbrev pub done_by : Change → Option Expectation
@@ -52,6 +57,35 @@ abbrev pub first_unmet : List Change → (number : ℕ) → (parts : List (List 
 first_unmet changes number [] = None
 first_unmet changes number (part ∷ parts) = option_or (unmet changes number (expectation_in part)) (first_unmet changes (number + 1) parts)
 
+-- ---- a refusal that is expected
+
+-- the register that is waited for
+abbrev pub awaited : Refused → Option ℕ
+awaited (Waiting r) = Some r
+awaited (NotYet r) = Some r
+awaited (Unfinished r) = Some r
+awaited _ = None
+
+-- an event is refused as expected: for the reason of this number, and waiting for this register where one is named
+abbrev pub is_refused_so : Refused → ExpectedRefusal → Bool
+is_refused_so why expected = (number_and_name why).0 == expected.number
+    && option_map_or (λ r. option_map_or (λ waited. waited == r) (awaited why) false) expected.register true
+
+-- why an event was refused, if it was
+abbrev pub refusal_told : Told → Option Refused
+refusal_told (told.Taken changes) = None
+refusal_told (told.Refused why) = Some why
+
+abbrev pub refusal_in_answer : Result (Unit {0}) Refused → Option Refused
+refusal_in_answer (Ok done) = None
+refusal_in_answer (Err why) = Some why
+
+-- how a line departs that expects a refusal, if it does: its words spell none, or the event is not refused so
+abbrev pub refusal_unmet : Option ExpectedRefusal → Option Refused → Option Departure
+refusal_unmet None refusal = Some (Unread 1)
+refusal_unmet (Some expected) None = Some (NotRefused expected)
+refusal_unmet (Some expected) (Some why) = if is_refused_so why expected then None else Some (NotRefused expected)
+
 -- ---- the first line that departs, from a state on, with n events allowed before it
 
 -- what departs first behind a line, by the number of events that were allowed and the state
@@ -67,16 +101,23 @@ event_departs p number n s parts further e (Ok done) =
     option_or (option_map (departed number) (first_unmet (changes_of p s e (after p s e)) 1 parts)) (further (suc n) (after p s e))
 event_departs p number n s parts further e (Err why) = Some (departed number NotAllowed)
 
+-- from a line on that expects a refusal, by the machine's answer: a refused event changes nothing
+abbrev pub refusal_departs : (number n : ℕ) → State → Option ExpectedRefusal → Further → Result (Unit {0}) Refused → Option Departed
+refusal_departs number n s expected further answer =
+    option_or (option_map (departed number) (refusal_unmet expected (refusal_in_answer answer))) (further n s)
+
 -- from a line on that spells this
-abbrev pub spelling_departs : Listing → (units number n : ℕ) → State → (parts : List (List ℕ)) → Further → Result Event EventFault → Option Departed
-spelling_departs p units number n s parts further (Ok e) = event_departs p number n s parts further e (answer p units s n e)
-spelling_departs p units number n s parts further (Err fault) = Some (departed number NoEvent)
+abbrev pub spelling_departs : Listing → (units number n : ℕ) → State → (content : List ℕ) → Further → Result Event EventFault → Option Departed
+spelling_departs p units number n s content further (Ok e) =
+    if expects_refusal content then refusal_departs number n s (refusal_in content) further (answer p units s n e)
+    else event_departs p number n s (expected_parts content) further e (answer p units s n e)
+spelling_departs p units number n s content further (Err fault) = Some (departed number NoEvent)
 
 -- from a line on with this content
 abbrev pub line_departs : (names : List (List ℕ)) → Listing → (units number n : ℕ) → State → (content : List ℕ) → Further → Option Departed
 line_departs names p units number n s content further =
     if is_silent content then further n s
-    else spelling_departs p units number n s (expected_parts content) further (event_in names (event_text content))
+    else spelling_departs p units number n s content further (event_in names (event_text content))
 
 abbrev pub first_departed : (names : List (List ℕ)) → Listing → (units number n : ℕ) → State → (lines : List (List ℕ)) → Option Departed
 first_departed names p units number n s [] = None

@@ -13,6 +13,7 @@ use Rattle.mips_plain.specs.declared.outcome.Trap.{Trap}
 use Rattle.mips_plain.specs.declared.outcome.Trap.TheVariants.{Unaligned, OutOfRange, BadPc, ReadOnly}
 use Rattle.machine_model.specs.declared.event.Standing.{Standing}
 use Rattle.machine_model.specs.declared.event.Standing.TheVariants.{Running, Halted, Trapped, Unlisted}
+use Rattle.strict_replay.specs.declared.expectation.ExpectedRefusal.{ExpectedRefusal}
 use Rattle.strict_replay.specs.declared.expectation.Expectation.{Expectation}
 use Rattle.strict_replay.specs.declared.expectation.Expectation.TheVariants.{Register, Sends, Memory, Output, Stops, Ends}
 
@@ -51,9 +52,27 @@ expected_parts content = option_map_or (λ k. map trimmed (slice_split (λ b. b 
 
 -- ---- an expectation
 
+-- what stands after the colon, whole
+abbrev pub behind_colon : (content : List ℕ) → List ℕ
+behind_colon content = option_map_or (λ k. trimmed (drop (k + 1) content)) (position (λ b. b == 58) content) []
+
+-- the event is expected to be refused, which stands alone after the colon
+abbrev pub expects_refusal : (content : List ℕ) → Bool
+expects_refusal content = starts_with nat_eq (behind_colon content) (codes "refused ")
+
 -- a word: `0x` and hexadecimal digits, or decimal digits
 abbrev pub word_in : List ℕ → Option ℕ
 word_in text = option_and_then (λ n. if nat_lt n (2 ^ 32) then Some n else None) (magnitude_of text)
+
+-- `refused K`, by the number of the reason, or `refused K $R`, with the register that is waited for
+abbrev pub refusal_words_in : (words : List ℕ) → Option ExpectedRefusal
+refusal_words_in words = option_map_or
+    (λ k. option_and_then (λ number. option_map (λ r. record { number = number; register = Some r }) (register_in (without_first_spaces (drop k words)))) (word_in (take k words)))
+    (position (λ b. b == 32) words)
+    (option_map (λ number. record { number = number; register = None }) (word_in words))
+
+abbrev pub refusal_in : (content : List ℕ) → Option ExpectedRefusal
+refusal_in content = refusal_words_in (without_first_spaces (drop 8 (behind_colon content)))
 
 -- how a run ends: `halted`, `trapped K Name` or `unlisted A`; `running` is how none ends
 abbrev pub trap_in : List ℕ → Option Trap

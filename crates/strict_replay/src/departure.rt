@@ -1,6 +1,6 @@
 //! How a script departs from the machine.
 
-use crate::expectation::Expectation;
+use crate::expectation::{Expectation, ExpectedRefusal};
 
 /// How a line departs from the machine.
 #[derive(Clone, Copy, Debug, PartialEq, Eq)]
@@ -13,6 +13,8 @@ pub enum Departure {
     Unread(usize),
     /// The event did not do this.
     Missed(Expectation),
+    /// The event was not refused so.
+    NotRefused(ExpectedRefusal),
 }
 
 /// The first line that departs from the machine.

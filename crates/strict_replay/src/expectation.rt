@@ -3,6 +3,15 @@
 use machine_model::event::Standing;
 use mips_instructions::number::Reg;
 
+/// That an event must be refused, and why.
+#[derive(Clone, Copy, Debug, PartialEq, Eq)]
+pub struct ExpectedRefusal {
+    /// The number of the reason, 1 to 17.
+    pub number: u32,
+    /// The register that is waited for, if the script names one.
+    pub register: Option<Reg>,
+}
+
 /// What an event must have done. Words are unsigned.
 #[derive(Clone, Copy, Debug, PartialEq, Eq)]
 pub enum Expectation {

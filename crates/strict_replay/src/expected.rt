@@ -1,16 +1,20 @@
 //! Whether an event did what was expected of it.
 
-ghost use Rattle.std.specs.Prelude.{◌≡◌, ◌==◌};
+ghost use Rattle.std.specs.Prelude.{◌≡◌, ◌==◌, false};
+ghost use Rattle.std.specs.Option.{option_map_or};
 ghost use Rattle.std.specs.List.{slice_split};
 ghost use Rattle.std.specs.Prelude.{map};
 ghost use Rattle.strict_replay.specs.StrictScript.{expectation_in, expected_parts, trimmed};
-ghost use Rattle.strict_replay.specs.StrictReplay.{done_by, first_unmet, is_met, unmet};
+ghost use Rattle.strict_replay.specs.StrictReplay.{awaited, done_by, first_unmet, is_met, is_refused_so, refusal_told, refusal_unmet, unmet};
 
 use crate::departure::Departure;
-use crate::expectation::Expectation;
+use crate::expectation::{Expectation, ExpectedRefusal};
 use crate::reading::{colon_in, expectation_in, trimmed};
 use event_trace::change::Change;
+use event_trace::told::Told;
 use event_trace::unit_change::UnitChange;
+use machine_model::event::Refused;
+use mips_instructions::number::Reg;
 use text_pieces::cutting::cut;
 
 /// What an event with this change has done, as a script can expect it.
@@ -80,4 +84,68 @@ pub(crate) fn first_unmet(changes: &[Change], content: &[u8]) -> Option<Departur
 {
     let colon = colon_in(content)?;
     first_unmet_of(changes, &content[colon + 1..])
+}
+
+/// Why an event was refused, if it was.
+fn refusal_told(told: &Told) -> Option<Refused>
+    ensures { result ≡ refusal_told told.now }
+{
+    match told {
+        Told::Taken(_) => None,
+        Told::Refused(refusal) => Some(*refusal),
+    }
+}
+
+/// The register that is waited for.
+fn awaited(refusal: Refused) -> Option<Reg>
+    ensures { result ≡ awaited refusal }
+{
+    match refusal {
+        Refused::Waiting(register) | Refused::NotYet(register) | Refused::Unfinished(register) => {
+            Some(register)
+        }
+        _ => None,
+    }
+}
+
+/// Whether this register is waited for.
+fn waits_for(refusal: Refused, register: Reg) -> bool
+    ensures { result ≡ option_map_or (λ waited. waited == register) (awaited refusal) false }
+{
+    match awaited(refusal) {
+        Some(waited) => waited.get() == register.get(),
+        None => false,
+    }
+}
+
+/// Whether a refusal is the one that was expected.
+fn is_refused_so(refusal: Refused, expected: ExpectedRefusal) -> bool
+    ensures { result ≡ is_refused_so refusal expected }
+{
+    u32::from(refusal.number_and_name().0) == expected.number
+        && match expected.register {
+            Some(register) => waits_for(refusal, register),
+            None => true,
+        }
+}
+
+/// How a line departs that expects a refusal, if it does.
+fn refusal_unmet_by(
+    expected: Option<ExpectedRefusal>,
+    refusal: Option<Refused>,
+) -> Option<Departure>
+    ensures { result ≡ refusal_unmet expected refusal }
+{
+    match (expected, refusal) {
+        (None, _) => Some(Departure::Unread(1)),
+        (Some(expected), Some(refusal)) if is_refused_so(refusal, expected) => None,
+        (Some(expected), _) => Some(Departure::NotRefused(expected)),
+    }
+}
+
+/// How a line departs that expects this refusal of an event, if it does.
+pub(crate) fn refusal_unmet(expected: Option<ExpectedRefusal>, told: &Told) -> Option<Departure>
+    ensures { result ≡ refusal_unmet expected (refusal_told told.now) }
+{
+    refusal_unmet_by(expected, refusal_told(told))
 }

@@ -5,13 +5,14 @@ ghost use Rattle.event_script.specs.EventScript.{names_in};
 ghost use Rattle.strict_replay.specs.StrictReplay.{strict_verdict};
 
 use crate::departure::{Departed, Departure};
-use crate::expected::first_unmet;
-use crate::reading::{content, event_text, is_silent};
+use crate::expected::{first_unmet, refusal_unmet};
+use crate::reading::{content, event_text, expects_refusal, is_silent, refusal_in};
 use crate::text::{write_departure, write_stand};
 use annotated_asm::position::Position;
 use event_script::reading::{event_of, next_line};
 use event_script::task_names::TaskNames;
 use event_trace::places::places;
+use event_trace::ring::Ring;
 use event_trace::text::{write_ending, write_refused, write_taken};
 use event_trace::told::Told;
 use event_trace::walk::Walk;
@@ -42,7 +43,7 @@ impl Referee<'_, '_> {
     ghost use Rattle.std.specs.Prelude.{◌≡◌, ◌≤◌, false, length, MatchResult, IfOk};
     ghost use Rattle.event_script.specs.EventScript.{event_in, lines};
     ghost use Rattle.sequencer.specs.Machines.{state, units_of};
-    ghost use Rattle.strict_replay.specs.StrictScript.{content, event_text, is_silent};
+    ghost use Rattle.strict_replay.specs.StrictScript.{content, event_text, expects_refusal, is_silent};
     ghost use Rattle.strict_replay.specs.StrictReplay.{Departs, Passes, first_departed};
 
     /// The verdict on a script, whose walk is at its start.
@@ -85,6 +86,9 @@ impl Referee<'_, '_> {
             return Ok(Ok(walk));
         }
         match event_of(self.names, event_text(content)) {
+            Ok(event) if expects_refusal(content) => {
+                self.take_refusal(walk, number, event, content)
+            }
             Ok(event) => self.take_event(walk, number, event, content),
             Err(_) => {
                 let mut text = String::new(self.alloc);
@@ -105,6 +109,7 @@ impl Referee<'_, '_> {
     ) -> Result<Result<Walk<'a>, (Departure, String)>, AllocError>
         requires loud { is_silent content.now ≡ false }
         requires spelt { event_in self.now.names.now (event_text content.now) ≡ Ok event }
+        requires taken { expects_refusal content.now ≡ false }
         ensures { IfOk result (λ taken. MatchResult taken
             (Passes self.now.names.now walk.entry number content.now)
             (λ departs. Departs self.now.names.now walk.entry number content.now departs.0)) }
@@ -132,6 +137,59 @@ impl Referee<'_, '_> {
                 Ok(Err((Departure::NotAllowed, text)))
             }
         }
+    }
+
+    /// The walk after an event that is expected to be refused, or how it departs and what is told of it.
+    #[tactic(auto, using(crate::proofs::Passing::refusal_passes))]
+    fn take_refusal<'a>(
+        &self,
+        walk: Walk<'a>,
+        number: usize,
+        event: Event,
+        content: &[u8],
+    ) -> Result<Result<Walk<'a>, (Departure, String)>, AllocError>
+        requires loud { is_silent content.now ≡ false }
+        requires spelt { event_in self.now.names.now (event_text content.now) ≡ Ok event }
+        requires refused { expects_refusal content.now ≡ true }
+        ensures { IfOk result (λ taken. MatchResult taken
+            (Passes self.now.names.now walk.entry number content.now)
+            (λ departs. Departs self.now.names.now walk.entry number content.now departs.0)) }
+    {
+        let ring = walk.ring();
+        let expected = refusal_in(content);
+        let (next, told) = walk.step(self.alloc, &event)?;
+        match refusal_unmet(expected, &told) {
+            None => Ok(Ok(next)),
+            Some(why) => {
+                let text = self.unrefused(next, number, event, &ring, &told, &why)?;
+                Ok(Err((why, text)))
+            }
+        }
+    }
+
+    /// What is told of an event that was not refused as expected.
+    fn unrefused(
+        &self,
+        next: Walk<'_>,
+        number: usize,
+        event: Event,
+        ring: &Ring,
+        told: &Told,
+        why: &Departure,
+    ) -> Result<String, AllocError> {
+        let mut text = String::new(self.alloc);
+        write_departure(&mut text, number, why)?;
+        match told {
+            Told::Taken(changes) => {
+                let (program, places) = (self.program, self.places);
+                write_taken(&mut text, program, places, number, ring, event, changes)?;
+            }
+            Told::Refused(reason) => {
+                write_refused(&mut text, self.program, number, event, *reason)?;
+            }
+        }
+        self.write_after(&mut text, next)?;
+        Ok(text)
     }
 
     /// Adds how the units then stand.

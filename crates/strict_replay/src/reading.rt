@@ -6,9 +6,9 @@ ghost use Rattle.std.specs.List.{list_all};
 ghost use Rattle.std.specs.Option.{option_map};
 ghost use Rattle.program_tokens.specs.Numbers.{magnitude_of, number_in};
 ghost use Rattle.strict_replay.specs.declared.expectation.Expectation.TheVariants.{Ends};
-ghost use Rattle.strict_replay.specs.StrictScript.{address_in, at_place, content, cut_in, equation_in, event_text, expectation_in, expectation_of, is_silent, sending_in, standing_in, trap_in, trimmed, without_first_spaces, without_last_spaces, word_in};
+ghost use Rattle.strict_replay.specs.StrictScript.{address_in, at_place, behind_colon, content, cut_in, equation_in, event_text, expectation_in, expectation_of, expects_refusal, is_silent, refusal_in, sending_in, standing_in, trap_in, trimmed, without_first_spaces, without_last_spaces, word_in};
 
-use crate::expectation::Expectation;
+use crate::expectation::{Expectation, ExpectedRefusal};
 use event_script::reading::register_of;
 use machine_model::event::Standing;
 use mips_plain::outcome::Trap;
@@ -89,6 +89,41 @@ pub(crate) fn event_text(content: &[u8]) -> &[u8]
     match colon_in(content) {
         Some(end) => without_last_spaces(&content[..end]),
         None => without_last_spaces(content),
+    }
+}
+
+/// What stands after the colon, if there is one.
+fn behind_colon(content: &[u8]) -> &[u8]
+    ensures { result.now ≡ behind_colon content.now }
+{
+    match colon_in(content) {
+        Some(colon) => trimmed(&content[colon + 1..]),
+        None => &[],
+    }
+}
+
+/// Whether the event of a line is expected to be refused.
+pub(crate) fn expects_refusal(content: &[u8]) -> bool
+    ensures { result ≡ expects_refusal content.now }
+{
+    behind_colon(content).starts_with(b"refused ".as_slice())
+}
+
+/// The refusal that a line expects, by its number and perhaps its register.
+pub(crate) fn refusal_in(content: &[u8]) -> Option<ExpectedRefusal>
+    requires { expects_refusal content.now ≡ true }
+    ensures { result ≡ refusal_in content.now }
+{
+    let words = without_first_spaces(&behind_colon(content)[8..]);
+    match place_of(b' ', words) {
+        None => Some(ExpectedRefusal {
+            number: word_in(words)?,
+            register: None,
+        }),
+        Some(end) => Some(ExpectedRefusal {
+            number: word_in(&words[..end])?,
+            register: Some(register_of(without_first_spaces(&words[end..]))?),
+        }),
     }
 }
 

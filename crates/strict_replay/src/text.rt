@@ -29,6 +29,14 @@ pub(crate) fn write_departure(
             write!(text, "expected ")?;
             write_expectation(text, *expected)?;
         }
+        Departure::NotRefused(expected) => {
+            let number = expected.number;
+            write!(text, "expected that this event is refused: {number}")?;
+            if let Some(register) = expected.register {
+                let register = register.get();
+                write!(text, " ${register}")?;
+            }
+        }
     }
     writeln!(text, "")
 }

@@ -1,9 +1,9 @@
--- Where nobody listens, there is no hint beside the report.
+-- Beside a report that is not kept stands its hint alone.
 use Rattle.std.proofs.Common.{◌∙◌, inl, refl, sym}
-use Rattle.std.proofs.KnownBytes.{Keeps-refl}
-use Rattle.program_edge.proofs.ReportLemmas.{done_unheard}
+use Rattle.program_edge.proofs.ReportLemmas.{done_unkept}
 use Rattle.program_edge.proofs.answer.write_out.Goals as goal
 
 pub returns-in-Ok : goal.returns-in-Ok
-returns-in-Ok g c = λ files. inl (done_unheard c.args.reader.now c.args.job.now c.args.texts.now _ _ _
-    (sym c.listens.ensures ∙ c.if-listens.false) c.in-Ok.ensures.done refl (Keeps-refl _) (λ _. refl))
+returns-in-Ok g c = λ files. inl (done_unkept c.args.reader.now c.args.job.now c.args.texts.now c.as_slice.result.now _ _ _
+    (sym c.keeps.ensures ∙ c.if-keeps.false) c.in-Ok.ensures.done (rw c.as_slice.ensures.value c.hint_unkept.ensures)
+    c.say.ensures (λ _. refl))

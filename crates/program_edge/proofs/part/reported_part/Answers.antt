@@ -1,9 +1,15 @@
 -- The report of the job, as it stands among others.
 use Rattle.report_texts.specs.OutputTexts.{Report}
-use Rattle.program_edge.proofs.PartLemmas.{same_part}
 use Rattle.program_edge.proofs.part.reported_part.Goals as goal
 
 pub returns-clause-part : goal.returns-clause-part
 returns-clause-part g c =
-    let report : Report = record { bytes = c.in_ok-report.field-0.report.bytes.items; status = c.in_ok-report.field-0.report.status } in
-    (report, c.in_ok-report.ensures.report, same_part _ _ _ _ _ _ c.in_ok-among_others.ensures c.in_ok-report.ensures.hint c.judged_by.ensures)
+    let report : Report = record { bytes = c.in_ok-report.field-0.report.bytes.items; status = c.in_ok-report.field-0.report.status } in (
+      report,
+      c.in_ok-report.ensures.report,
+      record {
+        output = c.in_ok-among_others.ensures;
+        silent = c.in_ok-report.ensures.hint;
+        judged = c.judged_by.ensures;
+      },
+    )

@@ -12,7 +12,7 @@ pub returns-in-Taken : goal.returns-in-Taken
 returns-in-Taken c =
     let m = c.args.walk in
     let e = c.args.event in
-    taken_departs c.args.self.now.names.now m c.args.number c.args.content.now e c.requires.loud c.requires.spelt c.in_ok-next.next c.in-Taken.changes c.in-Some.why
+    taken_departs c.args.self.now.names.now m c.args.number c.args.content.now e c.requires.loud c.requires.spelt c.requires.taken c.in_ok-next.next c.in-Taken.changes c.in-Some.why
     c.in_ok-next.ensures.on (subst (Tells m.accepted.program (state m) e (answer_to m e)) c.in-Taken.is c.in_ok-next.ensures.told)
     (c.in-Some.ensures ∙ ap (λ (cs : List Change). first_unmet cs 1 (expected_parts c.args.content.now)) c.deref.ensures.value)
 
@@ -20,5 +20,5 @@ pub returns : goal.returns
 returns c =
     let m = c.args.walk in
     let e = c.args.event in
-    refused_departs c.args.self.now.names.now m c.args.number c.args.content.now e c.requires.loud c.requires.spelt c.in-Refused.refusal
+    refused_departs c.args.self.now.names.now m c.args.number c.args.content.now e c.requires.loud c.requires.spelt c.requires.taken c.in-Refused.refusal
     (subst (Tells m.accepted.program (state m) e (answer_to m e)) c.in-Refused.is c.in_ok-next.ensures.told)
