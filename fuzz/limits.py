@@ -477,13 +477,8 @@ def gate(program, only=""):
             if text not in least:
                 least[text] = ran(program, ["check", "--least", str(text)], folder).processor
             for _ in range(TRIES):
-<<<<<<< HEAD
                 most = max(second(), SLOWER.get((kind, words[0]), TIMES) * least[text])
-                ended = ran(program, [str(word) for word in words], folder, most)
-=======
-                most = max(second() * (2 if words[0] == "explain" else 1), SLOWER.get(words[0], TIMES) * least[text])
                 ended = ran(program, [str(word) for word in words], folder, most, kind.endswith(AT_TERMINAL))
->>>>>>> edge/main
                 if not is_dear(ended, most, memory):
                     break
             count += 1
