@@ -66,7 +66,11 @@ impl<'v, 'a> Values<'v, 'a> {
     {
         match self.text(id) {
             Some(path) => Ok(String::from_str(self.alloc, path)?),
-            None => Err(self.no_job()),
+            // All other files are missed before: by `clap`, or where the certificate is looked for.
+            None => Err(self.fault(
+                ErrorKind::MissingRequiredArgument,
+                "a file is missing: give SCRIPT",
+            )),
         }
     }
 
