@@ -119,8 +119,8 @@ fn waits_for(refusal: Refused, register: Reg) -> bool
 }
 
 /// Whether a refusal is the one that was expected.
-fn is_refused_so(refusal: Refused, expected: ExpectedRefusal) -> bool
-    ensures { result ≡ is_refused_so refusal expected }
+fn is_refused_so(refusal: Refused, expected: &ExpectedRefusal) -> bool
+    ensures { result ≡ is_refused_so refusal expected.now }
 {
     u32::from(refusal.number_and_name().0) == expected.number
         && match expected.register {
@@ -136,10 +136,17 @@ fn refusal_unmet_by(
 ) -> Option<Departure>
     ensures { result ≡ refusal_unmet expected refusal }
 {
-    match (expected, refusal) {
-        (None, _) => Some(Departure::Unread(1)),
-        (Some(expected), Some(refusal)) if is_refused_so(refusal, expected) => None,
-        (Some(expected), _) => Some(Departure::NotRefused(expected)),
+    let Some(expected) = expected else {
+        return Some(Departure::Unread(1));
+    };
+    let is_met = match refusal {
+        Some(refusal) => is_refused_so(refusal, &expected),
+        None => false,
+    };
+    if is_met {
+        None
+    } else {
+        Some(Departure::NotRefused(expected))
     }
 }
 

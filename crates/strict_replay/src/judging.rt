@@ -40,7 +40,7 @@ struct Referee<'p, 't> {
 }
 
 impl Referee<'_, '_> {
-    ghost use Rattle.std.specs.Prelude.{◌≡◌, ◌≤◌, false, length, MatchResult, IfOk};
+    ghost use Rattle.std.specs.Prelude.{◌≡◌, ◌≤◌, false, length, true, MatchResult, IfOk};
     ghost use Rattle.event_script.specs.EventScript.{event_in, lines};
     ghost use Rattle.sequencer.specs.Machines.{state, units_of};
     ghost use Rattle.strict_replay.specs.StrictScript.{content, event_text, expects_refusal, is_silent};
