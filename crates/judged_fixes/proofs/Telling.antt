@@ -7,7 +7,7 @@ use Rattle.diagnostics.specs.declared.diagnostic.Diagnostic.{Diagnostic}
 use Rattle.diagnostics.specs.declared.diagnostic.Help.{Help}
 use Rattle.judged_fixes.specs.Fixed.{AreSameErrors, IsSameError, in_words_alone, words_of}
 use Rattle.judged_fixes.specs.Proposed.{has_fix}
-use Rattle.judged_fixes.proofs.FirstOf.{set_first}
+use Rattle.judged_fixes.proofs.FirstOf.{none_first, set_first}
 
 twice : (help : Option Help) → words_of (words_of help) ≡ words_of help
 twice None = refl
@@ -36,3 +36,7 @@ first_in_words test errors i d new at is passes words =
     let passed : test (get_or errors i d) ≡ true = (position-Some test errors i d at).1 in
     let first : find test (set errors i new) ≡ Some new = set_first test errors i new at (passes (subst (λ e. test e ≡ true) (sym is) passed)) in
     subst (λ (o : Option Diagnostic). IfSome o (λ e. has_fix e ≡ false)) (sym first) words
+
+-- where none passes, there is none that proposes anything
+pub none_passes : (test : Diagnostic → Bool) (errors : List Diagnostic) → position test errors ≡ None → IfSome (find test errors) (λ e. has_fix e ≡ false)
+none_passes test errors none = subst (λ (o : Option Diagnostic). IfSome o (λ e. has_fix e ≡ false)) (sym (none_first test errors none)) tt

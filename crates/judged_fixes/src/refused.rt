@@ -1,7 +1,7 @@
 //! The fix of what is wrong first in a text that the assembler refuses.
 
 ghost use Rattle.std.specs.Prelude.{◌≡◌, ◌↔◌, false, true, None, Some, IfOk, IfSome};
-ghost use Rattle.std.specs.List.{find, position};
+ghost use Rattle.std.specs.List.{find, list_any, position};
 ghost use Rattle.annotated_asm.specs.ProgramText.{parse};
 ghost use Rattle.text_diagnostics.specs.Refusals.{tells};
 ghost use Rattle.judged_fixes.specs.Fixed.{AreSameErrors};
@@ -167,36 +167,60 @@ pub fn judge_refusal(
     alloc: Global,
     text: &[u8],
     first: AsmFault,
+    errors: Vec<Diagnostic>,
+) -> Result<Judged, AllocError>
+    ensures same { IfOk result (λ judged. AreSameErrors judged.errors.items errors.items) }
+    ensures fixed { IfOk result (λ judged. IfSome judged.fixed (IsFixedFurther text.now first errors.items)) }
+    ensures words { IfOk result (λ judged. judged.fixed ≡ None → IsFirstInWords text.now first judged.errors.items) }
+{
+    if proposes(errors.as_slice()) {
+        judge_first(alloc, text, first, errors)
+    } else {
+        Ok(Judged {
+            errors,
+            fixed: None,
+        })
+    }
+}
+
+// Whether one of some errors proposes something to write.
+fn proposes(said: &[Diagnostic]) -> bool
+    ensures { result ≡ list_any has_fix said.now }
+{
+    said.iter().any(|one| has_fix(one))
+}
+
+// Judges the fix of the first error that tells a fault.
+fn judge_first(
+    alloc: Global,
+    text: &[u8],
+    first: AsmFault,
     mut errors: Vec<Diagnostic>,
 ) -> Result<Judged, AllocError>
     ensures same { IfOk result (λ judged. AreSameErrors judged.errors.items errors.items) }
     ensures fixed { IfOk result (λ judged. IfSome judged.fixed (IsFixedFurther text.now first errors.items)) }
     ensures words { IfOk result (λ judged. judged.fixed ≡ None → IsFirstInWords text.now first judged.errors.items) }
 {
-    if !errors.iter().any(has_fix) {
-        return Ok(Judged {
-            errors,
-            fixed: None,
-        });
-    }
     let token = first_token(alloc, text, first)?;
-    let Some(place) = first_place(errors.as_slice(), first, token) else {
-        return Ok(Judged {
+    match first_place(errors.as_slice(), first, token) {
+        None => Ok(Judged {
             errors,
             fixed: None,
-        });
-    };
-    match fixed_further(alloc, text, first, token, &errors, place)? {
-        Some(fixed) => Ok(Judged {
-            errors,
-            fixed: Some(fixed),
         }),
-        None => {
-            tell_first(alloc, &mut errors, first, token, place);
-            Ok(Judged {
-                errors,
-                fixed: None,
-            })
+        Some(place) => {
+            match fixed_further(alloc, text, first, token, &errors, place)? {
+                Some(fixed) => Ok(Judged {
+                    errors,
+                    fixed: Some(fixed),
+                }),
+                None => {
+                    tell_first(alloc, &mut errors, first, token, place);
+                    Ok(Judged {
+                        errors,
+                        fixed: None,
+                    })
+                }
+            }
         }
     }
 }
