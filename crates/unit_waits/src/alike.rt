@@ -1,6 +1,7 @@
 //! Which waits are counted together.
 
 ghost use Rattle.std.specs.Prelude.{◌≡◌};
+ghost use Rattle.unit_waits.specs.declared.waiting.Reason.TheVariants.{NeedsRegister, HasToPass};
 ghost use Rattle.unit_waits.specs.Counts.{is_alike as is_alike_to, is_same_debt as is_same_debt_as, is_same_place as is_same_place_as, is_same_reason as is_same_reason_as};
 
 use crate::waiting::{Owed, Reason, Waiting};
@@ -33,19 +34,36 @@ fn is_same_debt(register: Reg, owed: &Owed, other: Reg, debt: &Owed) -> bool
     }
 }
 
+/// Whether a reason is that the next instruction needs a register that is owed like this one.
+fn is_same_need(register: Reg, owed: &Owed, other: &Reason) -> bool
+    ensures { result ≡ is_same_reason_as (NeedsRegister register owed.now) other.now }
+{
+    match *other {
+        Reason::NeedsRegister(another, debt) => is_same_debt(register, owed, another, &debt),
+        _ => false,
+    }
+}
+
+/// Whether a reason is that a register owed like this one has to be passed on.
+fn is_same_duty(register: Reg, owed: &Owed, other: &Reason) -> bool
+    ensures { result ≡ is_same_reason_as (HasToPass register owed.now) other.now }
+{
+    match *other {
+        Reason::HasToPass(another, debt) => is_same_debt(register, owed, another, &debt),
+        _ => false,
+    }
+}
+
 /// Whether two units wait for the same reason. Where it is a register that is owed, the units that owe it may differ.
 fn is_same_reason(reason: &Reason, other: &Reason) -> bool
     ensures { result ≡ is_same_reason_as reason.now other.now }
 {
-    match (*reason, *other) {
-        (Reason::NeedsRegister(register, owed), Reason::NeedsRegister(another, debt))
-        | (Reason::HasToPass(register, owed), Reason::HasToPass(another, debt)) => {
-            is_same_debt(register, &owed, another, &debt)
-        }
-        (Reason::NeedsHead, Reason::NeedsHead)
-        | (Reason::HasFinished, Reason::HasFinished)
-        | (Reason::CouldGoOn, Reason::CouldGoOn) => true,
-        _ => false,
+    match *reason {
+        Reason::NeedsRegister(register, owed) => is_same_need(register, &owed, other),
+        Reason::NeedsHead => matches!(other, Reason::NeedsHead),
+        Reason::HasToPass(register, owed) => is_same_duty(register, &owed, other),
+        Reason::HasFinished => matches!(other, Reason::HasFinished),
+        Reason::CouldGoOn => matches!(other, Reason::CouldGoOn),
     }
 }
 

@@ -78,5 +78,9 @@ pub(crate) fn waits_of(kind: Kind, counts: &[Count]) -> u32
     requires { all_waits_of counts.now ≤ 16000000 }
     ensures { result ≡ waits_of_kind kind counts.now }
 {
-    counts.iter().map(|count| part_of(kind, count)).sum()
+    let mut waits = 0;
+    for count in counts {
+        waits += part_of(kind, count);
+    }
+    waits
 }

@@ -1,5 +1,5 @@
 -- A count like it is one more, and else it is a count of its own.
-use Rattle.std.proofs.Common.{◌≡◌, ◌+◌, ◌^◌, ◌<◌, List, Some, None, sym, ap, ◌∙◌, arith}
+use Rattle.std.proofs.Common.{◌≡◌, List, Some, None, sym, ap, ◌∙◌, arith}
 use Rattle.std.specs.List.{position}
 use Rattle.unit_waits.specs.declared.count.Count.{Count}
 use Rattle.unit_waits.specs.Counts.{is_alike}
