@@ -12,21 +12,20 @@ pub const PROGRAM: &str = "Runs and checks annotated Multiscalar programs";
 
 /// What the program is for.
 pub const PROGRAM_LONG: &str =
-    "Runs and checks annotated Multiscalar programs: MIPS code cut into tasks, where each task names
-the registers that it may create and the tasks that may follow it.
+    "Runs and checks annotated Multiscalar programs: MIPS code with marks that say where each task
+begins and ends, which registers it may create, and which tasks may follow it.
 
 PROGRAM is a program text. CERT is its certificate: for each task, the registers that may still be
-written from each of its instructions on. SCRIPT is a list of events, one on a line. Files are read
-whole before any text is judged. One of them may be -, standard input. `check --least` and `explain` take
-several programs.";
+written from each of its instructions on. SCRIPT is a list of events, one on each line. One of these files
+may be -, standard input. `check --least` and `explain` take several programs.";
 
 /// What stands below every help of the program.
 pub const STATUS: &str = "Exit status:
   0  accepted, nothing found wrong, printed, halted, or a replay that is still running; help; version
-  1  a text or an annotation refused or found wrong; trapped; ended at an address that is not listed
+  1  a text refused, or marks found wrong; trapped; ended at an address that is not listed
   2  wrong usage, a file that cannot be read, out of memory, or output that cannot be written
-  3  out of budget; no run found that shows what a wrong annotation does
-Of several programs it is the greatest.
+  3  out of budget; no run found that shows what a wrong mark does
+Of several programs the largest counts.
 
 Results and refusals of texts go to standard output; with -o FILE, results go to FILE. A fault of
 status 2 is one line on standard error; wrong usage is explained there.";

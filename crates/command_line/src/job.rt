@@ -273,7 +273,7 @@ fn curve_in(values: &Values<'_, '_>) -> Result<Job, UsageFault>
     let budget = budget_in(values, "budget")?;
     let Some(predict) = predict_in(values)? else {
         let message =
-            "the value of --predict is first, last, or 1 to 64 numbers 0 to 15 with commas, as in 1,0";
+            "the value of --predict is first, last, or 1 to 64 numbers 0 to 15 separated by commas, as in 1,0";
         return Err(values.fault(ErrorKind::InvalidValue, message));
     };
     let emit = values.word("emit", &CURVE_EMITS, "the value of --emit is table or svg")?;
@@ -471,23 +471,23 @@ fn expect_alone(
     ensures { IfErr result (Refuses values.now.name.now (values_in values.now.matches.now)) }
 {
     let shared = if has_output {
-        "--output takes the result of one program"
+        "--output is for the result of one program"
     } else if has_fixes {
-        "--fix writes the text of one program"
+        "--fix is for one program"
     } else {
         match job {
             Job::Explain {
                 certificate: Some(_),
                 ..
-            } => "--certificate is that of one program",
+            } => "--certificate is for one program",
             Job::Explain {
                 script: Some(_),
                 ..
-            } => "--script is that of one program",
+            } => "--script is for one program",
             Job::Explain {
                 format: Format::Sarif | Format::Json,
                 ..
-            } => "--format sarif and --format json write of one program",
+            } => "--format sarif and --format json are for one program",
             _ => return Ok(()),
         }
     };
