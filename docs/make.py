@@ -163,9 +163,8 @@ def crates():
             file = next(it for it in (CRATES / name / "src" / "lib.rt", CRATES / name / "src" / "main.rt") if it.is_file())
             comment = " ".join(re.findall(r"^//! ?(.*)$", file.read_text(), re.M))
             comment = re.sub(r" \([^)]*ISCA[^)]*\)", "", one_line(comment))
-            said = re.match(r"(?:\S+ ){,2}\S+:.*?(?=[:;.]( |$))|.*?(?=[:;.]( |$))", comment)[0]
-            if said.count(" ") > 10 and ":" not in said:
-                said = (re.match(r"(?:\S+ ){3,}?\S+(?=, )", said) or [said])[0]
+            said = re.match(r"(?:\S+ ){,1}\S+:(?:(?: \S+){,6},)?[^,]*?(?=[:;.,]( |$))|.*?(?=[:;.]( |$))", comment)[0]
+            said = (re.match(r"(?:\S+ ){3,}?\S+(?=, )", said) or [said])[0] if said.count(" ") > 10 and ": " not in said else said
             lines.append(f"- `{name}`" + ("" if name.startswith("test_") else f": {said[:1].lower() + said[1:]}"))
     return "\n".join(lines).strip()
 
