@@ -113,7 +113,7 @@ def variants(path, enum):
 
 
 def faults(path, enum):
-    return table("Fault", "When", ((f"`{number} {name}`", said) for number, name, said in variants(path, enum)))
+    return "\n".join(f"- `{number} {name}`: {said}" for number, name, said in variants(path, enum))
 
 
 def table(first, second, rows):
@@ -149,7 +149,7 @@ def limits():
             ("program text", "annotated_asm", "MOST_TEXT", " bytes"), ("any other file", "program_edge", "MOST_FILE", " bytes"),
             ("units of a machine", "limits", "MOST_UNITS", ""), ("workers", "limits", "MOST_WORKERS", ""),
             ("events of a machine", "limits", "MOST_EVENTS", ""), ("`--budget`", "limits", "MOST_BUDGET", ""))
-    return table("Limit", "", ((what, f"{of[crate, name]:,}{unit}") for what, crate, name, unit in rows))
+    return "\n".join(f"- {what}: {of[crate, name]:,}{unit}" for what, crate, name, unit in rows)
 
 
 def crates():
