@@ -128,7 +128,7 @@ def instructions():
     words = {kind: re.findall(rf'^{list_of} \S+ = codes "(\w+)"', text, re.M) for kind, list_of in re.findall(r"^word_of \(mnemonic\.(\w+) kind\) = (\w+) kind", text, re.M)}
     words |= {kind: [word] for kind, word in re.findall(r'^word_of mnemonic\.(\w+) = codes "(\w+)"', text, re.M)}
     forms = dict(re.findall(r"^form_of \(?mnemonic\.(\w+)(?: kind\))? = form\.(\w+)", text, re.M))
-    rows = [kind for kind in re.findall(r"^row \(?(\w+)", text, re.M)]
+    rows = re.findall(r"^row \(?(\w+)", text, re.M)
     assert set(rows) == set(EFFECTS) and set(words) == set(forms), "the instruction table has other rows"
     spelled = lambda kind: " ".join([f"`{f'{words[kind][0]} {operands[forms[kind]]}'.strip()}`", *(f"`{it}`" for it in words[kind][1:])])
     return table("Text", "Effect", ((spelled(kind), EFFECTS[kind]) for kind in rows))
