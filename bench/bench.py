@@ -15,6 +15,10 @@ off first. The least user time of the rounds stands beside the median, since
 other work on the machine changes it least. Generated texts are written to a
 temporary folder and removed. Memory of less than this script's own, some 15
 megabytes, cannot be told.
+
+The kernels execute just under 1,000,000 instructions each. Their outputs were computed by other means: `nested` 3019712;
+`recursion` 28657 (the 23rd Fibonacci number) and 46368 leaves; `sieve` 6542 primes and 94153687; `sort` 3087320, 4293733463,
+518439932; `xorshift` 2558620850, 3374567292.
 """
 import argparse
 import itertools

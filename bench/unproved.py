@@ -15,8 +15,10 @@ first time; of the kernels and the printer the median.
 How a compiler lays out a loop moves its time by a third, so the programs of
 unproved/ are built several times, with the functions at other alignments, and the
 proved ones are linked as often, at the same alignments: the median of the builds
-counts. Both machines of events write how many they applied; where these differ,
-the script ends.
+counts. Where the two differ in events, tasks or registers, the script ends. The programs of events are
+`small` (`sll $0,$0,0` and `j`), `registers` (a loop that computes and branches), `loop` (which also loads
+read-only data) and `sending` (tasks of eight instructions that forward two registers and need one of the task
+before).
 --program PATH times a multiscalar that is built already, with its object file beside it, if there is one, else as it is; events
 build a program of their own.
 emulators.py runs the same kernels in SPIM and QEMU.

@@ -4,13 +4,15 @@
     docs/make.py [PROGRAM]             writes it
     docs/make.py --check [PROGRAM]     names what is not as it would be written, with status 1
 
-Options and subcommands come from the table of `--help` (crates/command_line/src/table.rt), values from job.rt beside it,
-faults from the enums, limits from the constants, crates from crates.txt and the first sentence of each, and what a caller
-must ensure (docs/REQUIRES.txt) from the contracts. A made part stands between two comments, `made: NAME` and `end of NAME`,
-in a page, the man page or a completion. With PROGRAM, the built `multiscalar`, its `--help` must have each option and each
-text of the table.
+Options and subcommands come from the table of `--help` (crates/command_line/src/table.rt), values from job.rt there,
+instructions and their operands from the instruction table of mips_instructions (what each does, in words, is below), faults
+from the enums, limits from the constants, crates from crates.txt and the first sentence of each, the examples of the rules
+from the rows of test_program, and what a caller must ensure (docs/REQUIRES.txt) from the contracts. A made part is between
+two comments, `made: NAME` and `end of NAME`, in a page, the man page or a completion; the first line of such a page says so.
+With PROGRAM, the built `multiscalar`, its `--help` must have each option and each text of the table.
 """
 import argparse
+import functools
 import pathlib
 import re
 import subprocess
@@ -25,6 +27,30 @@ LISTS = {("explain", "format"): "FORMATS", ("explain", "color"): "COLORS", ("run
          ("replay", "emit"): "REPLAY_EMITS", ("run", "emit"): "RUN_EMITS", ("curve", "emit"): "CURVE_EMITS",
          ("demonstrate", "emit"): "DEMONSTRATE_EMITS"}
 VALUES = {("annotate", "emit"): "text cert keep marks", ("run", "axis"): "events steps", ("run curve", "predict"): "first last"}
+
+# What the instructions of each row of the instruction table do, in words.
+EFFECTS = {
+    "Three": "sum, difference, bit operations; `slt`, `sltu`: 1 if rs is less than rt, signed or unsigned, else 0",
+    "ShiftBy": "rt shifted by n, 0 to 31: left, right with zeros, right with copies of the sign",
+    "ShiftVar": "the same shifts, by the low 5 bits of rs",
+    "Imm": "sum of rs and n, -32768 to 32767; `slti`, `sltiu`: 1 if rs is less than n, else 0. All extend n by its sign; then `slti` compares as signed, `sltiu` as unsigned",
+    "Logic": "bit operation on rs and n, 0 to 65535",
+    "Lui": "n times 65,536; n is 0 to 65535",
+    "Mult": "the 64-bit product, signed or unsigned: high half to HI, low half to LO",
+    "MoveFrom": "HI or LO to rd",
+    "MoveTo": "rs to HI or LO",
+    "Load": "word, half, byte at base + n, n from -32768 to 32767; `lh` and `lb` extend the sign, `lhu` and `lbu` extend with zeros",
+    "Store": "rt, its low 16 or its low 8 bits to base + n",
+    "BranchTwo": "to T if equal, if not equal",
+    "BranchOne": "to T if rs, signed, is <= 0, > 0, < 0, >= 0",
+    "Jump": "to T",
+    "JumpLink": "to T; register 31 becomes the address of the next instruction",
+    "JumpReg": "to the address in rs",
+    "JumpLinkReg": "to the address in rs, which is read first; rd becomes the address of the next instruction",
+    "Out": "appends rs to the output",
+    "Release": "does nothing in `seq`; on the multiscalar machine it sends the listed registers to the later tasks",
+    "Halt": "ends the run",
+}
 
 
 source = lambda path: (CRATES / path).read_text()
@@ -87,11 +113,32 @@ def variants(path, enum):
 
 
 def faults(path, enum):
-    return table("Fault", "When", ((f"`{number} {name}`", said) for number, name, said in variants(path, enum)))
+    return "\n".join(f"- `{number} {name}`: {said}" for number, name, said in variants(path, enum))
 
 
 def table(first, second, rows):
     return "\n".join([f"| {first} | {second} |", "|---|---|", *(f"| {one} | {other} |" for one, other in rows)])
+
+
+def instructions():
+    """The rows of the instruction table: mnemonics, operands of the first, effects."""
+    text = source("mips_instructions/specs/InstructionTable.antt")
+    enum = re.search(r"^pub enum Form \{\n(.*?)^\}", source("mips_instructions/src/instruction.rt"), re.M | re.S)[1]
+    operands = {name: "" if said.startswith("No") else re.search("`(.*)`", said)[1] for said, name in re.findall(r"/// (.*)\n *(\w+),", enum)}
+    words = {kind: re.findall(rf'^{list_of} \S+ = codes "(\w+)"', text, re.M) for kind, list_of in re.findall(r"^word_of \(mnemonic\.(\w+) kind\) = (\w+) kind", text, re.M)}
+    words |= {kind: [word] for kind, word in re.findall(r'^word_of mnemonic\.(\w+) = codes "(\w+)"', text, re.M)}
+    forms = dict(re.findall(r"^form_of \(?mnemonic\.(\w+)(?: kind\))? = form\.(\w+)", text, re.M))
+    rows = re.findall(r"^row \(?(\w+)", text, re.M)
+    assert set(rows) == set(EFFECTS) and set(words) == set(forms), "the instruction table has other rows"
+    spelled = lambda kind: " ".join([f"`{f'{words[kind][0]} {operands[forms[kind]]}'.strip()}`", *(f"`{it}`" for it in words[kind][1:])])
+    return table("Text", "Effect", ((spelled(kind), EFFECTS[kind]) for kind in rows))
+
+
+def example(rule):
+    """What `explain` says of the program of a rule, from the rows of test_program."""
+    rows = source("test_program/data/rows/explain").split("# One program for each of the rules 5 to 12", 1)[1].split("\n@ ")
+    said = next(re.findall(r"^> (.*)$", it, re.M) for it in rows if f" [rule {rule}]" in it)
+    return "\n".join(["```", *(it for it in said if not it.startswith(("to look for a run", "with this fix"))), "```"])
 
 
 def limits():
@@ -102,7 +149,7 @@ def limits():
             ("program text", "annotated_asm", "MOST_TEXT", " bytes"), ("any other file", "program_edge", "MOST_FILE", " bytes"),
             ("units of a machine", "limits", "MOST_UNITS", ""), ("workers", "limits", "MOST_WORKERS", ""),
             ("events of a machine", "limits", "MOST_EVENTS", ""), ("`--budget`", "limits", "MOST_BUDGET", ""))
-    return table("Limit", "", ((what, f"{of[crate, name]:,}{unit}") for what, crate, name, unit in rows))
+    return "\n".join(f"- {what}: {of[crate, name]:,}{unit}" for what, crate, name, unit in rows)
 
 
 def crates():
@@ -116,9 +163,8 @@ def crates():
             file = next(it for it in (CRATES / name / "src" / "lib.rt", CRATES / name / "src" / "main.rt") if it.is_file())
             comment = " ".join(re.findall(r"^//! ?(.*)$", file.read_text(), re.M))
             comment = re.sub(r" \([^)]*ISCA[^)]*\)", "", one_line(comment))
-            said = re.match(r"(?:\S+ ){,2}\S+:.*?(?=[:;.]( |$))|.*?(?=[:;.]( |$))", comment)[0]
-            if said.count(" ") > 10 and ":" not in said:
-                said = (re.match(r"(?:\S+ ){3,}?\S+(?=, )", said) or [said])[0]
+            said = re.match(r"(?:\S+ ){,1}\S+:(?:(?: \S+){,6},)?[^,]*?(?=[:;.,]( |$))|.*?(?=[:;.]( |$))", comment)[0]
+            said = (re.match(r"(?:\S+ ){3,}?\S+(?=, )", said) or [said])[0] if said.count(" ") > 10 and ": " not in said else said
             lines.append(f"- `{name}`" + ("" if name.startswith("test_") else f": {said[:1].lower() + said[1:]}"))
     return "\n".join(lines).strip()
 
@@ -240,7 +286,7 @@ def fish_options():
 
 # ---------------------------------------------------------------- the whole
 PARTS = {
-    "limits": limits, "crates": crates, "requires": required, "commands": commands,
+    "limits": limits, "instructions": instructions, **{f"rule {it}": functools.partial(example, it) for it in range(5, 13)}, "crates": crates, "requires": required, "commands": commands,
     "exit status": lambda: table("Status", "When", ((number, one_line(said)) for number, said in status()[0])),
     "traps": lambda: faults("mips_plain/src/outcome.rt", "Trap"),
     "faults of a text": lambda: faults("annotated_asm/src/fault.rt", "AsmFault"),
@@ -264,11 +310,27 @@ def made(text):
     return re.sub(r'^([ \t]*(?:<!--|#|\.\\")) made: ([\w ]+?)( -->|)$\n.*?^\1 end of \2\3$', part, text, flags=re.M | re.S)
 
 
+def anchors(text):
+    """The names by which links lead to the headings of a page."""
+    heads = re.findall(r"^#+ (.*)$", re.sub(r"^```.*?^```$", "", text, flags=re.M | re.S), re.M)
+    return {re.sub(r"[^\w -]", "", re.sub(r"\[([^]]*)\]\([^)]*\)", r"\1", it)).lower().replace(" ", "-") for it in heads}
+
+
+def links():
+    """The links of pages, and those of the rules of SARIF, that lead to no file or no heading."""
+    pages = sorted(it for it in TOP.glob("**/*.md") if not {"out", "node_modules"} & set(it.relative_to(TOP).parts))
+    found = [(it, link) for it in pages for link in re.findall(r"\]\(([^)\s]+)\)", re.sub(r"^```.*?^```$", "", it.read_text(), flags=re.M | re.S))]
+    found += [(TOP / "docs/REQUIRES.txt", link) for link in re.findall(r'"([A-Z]+\.md#[^"]*)"', source("diagnostic_log/src/rules.rt"))]
+    for page, link in found:
+        file, _, anchor = link.partition("#")
+        to = page.parent / file if file else page
+        if not re.match(r"\w+:", link) and (not to.exists() or anchor and anchor not in anchors(to.read_text())):
+            yield f"{page.relative_to(TOP)} has a link to {link}"
+
+
 def differences(program):
-    """What `--help` of the built program has otherwise than the table; and instructions that docs/FORMATS.md lacks."""
-    instructions = set(re.findall(r'codes "(\w+)"', source("mips_instructions/specs/InstructionTable.antt")))
-    shown = set(re.findall(r"[a-z]+", " ".join(re.findall(r"`([^`]*)`", (TOP / "docs/FORMATS.md").read_text()))))
-    yield from (f"docs/FORMATS.md lacks the instruction {it}" for it in sorted(instructions - shown))
+    """What `--help` of the built program has otherwise than the table; links that lead nowhere."""
+    yield from links()
     for name in names() if program else ():
         said = one_line(subprocess.run([program, name, "--help"], capture_output=True, text=True, check=True).stdout)
         yield from (f"{name} --help lacks --{it[1]}: {it[5]}" for it in options_of(name) if f"--{it[1]}" not in said or it[5] not in said)

@@ -110,11 +110,12 @@ Suggests: python3, gcc-mipsel-linux-gnu
 Section: devel
 Priority: optional
 Description: proved checker and runner for annotated Multiscalar programs
- A compiler cuts a sequential program into tasks, and a Multiscalar processor
- runs several of them at once on a ring of units. Marks in the program say
- when each register leaves a task. This program checks the marks on every
- path, explains those that are wrong, and runs what is right. Each of its
- functions is proved against its contract.
+ A compiler marks where the tasks of a program begin and end. A Multiscalar
+ processor cuts the running program along these marks and runs several tasks
+ at once on a ring of units; more marks say when each register leaves its
+ task. This program checks the marks on every path, explains those that are
+ wrong, and runs programs whose marks are right. Each of its functions is
+ proved against its contract.
 EOF
 printf 'libmultiscalar 0 multiscalar\n' > "$deb/DEBIAN/shlibs"
 printf 'activate-noawait ldconfig\n' > "$deb/DEBIAN/triggers"

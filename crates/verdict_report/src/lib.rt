@@ -1,5 +1,4 @@
-//! What the program writes: from a reader to the bytes of a file, and from a job and its texts to the
-//! bytes that it writes and its status.
+//! What each job of the program writes, and its status.
 //!
 //! To add a job, add what it writes to `specs/`, with its line in `IsReportOf`, the module that writes
 //! it, and its arm in `serve`.
