@@ -116,6 +116,16 @@ export class Editor {
     this.isTyping = false;
   }
 
+  // Takes another text, which the browser can undo; what had the focus keeps it.
+  replace(text) {
+    const held = document.activeElement;
+    this.chosen = null;
+    this.pointed = null;
+    this.hideBubble();
+    this.retype(text.replaceAll('\r\n', '\n'));
+    if (held !== this.area) held?.focus();
+  }
+
   get rowHeight() {
     return parseFloat(getComputedStyle(this.area).lineHeight);
   }
