@@ -40,7 +40,7 @@ class Browser:
     def open(self, address):
         self.go('about:blank')
         self.go(address)
-        self.wait("return document.documentElement.dataset.ready === 'yes' || document.getElementById('loading').className === 'is-error'")
+        self.wait("return document.documentElement.dataset.ready === 'yes' || document.getElementById('loading')?.className === 'is-error'")
 
     def wait(self, script, patience=PATIENCE):
         end = time.monotonic() + patience
