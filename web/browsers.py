@@ -40,7 +40,7 @@ class Browser:
     def open(self, address):
         self.go('about:blank')
         self.go(address)
-        self.wait("return document.documentElement.dataset.ready === 'yes' || document.getElementById('loading').className === 'is-error'")
+        self.wait("return document.documentElement.dataset.ready === 'yes' || document.getElementById('loading')?.className === 'is-error'")
 
     def wait(self, script, patience=PATIENCE):
         end = time.monotonic() + patience
@@ -144,7 +144,7 @@ class Firefox(Browser):
         log = open(os.path.join(self.room, 'log'), 'w')
         words = ['firefox-esr', '--headless', '--marionette', '--remote-allow-system-access', '--no-remote', '--profile', self.room]
         self.program = subprocess.Popen(words, stdout=log, stderr=log, env={**os.environ, 'HOME': self.room})
-        self.number = 0
+        self.number, self.sized = 0, None
         self.line = until(lambda: socket.create_connection(('127.0.0.1', port), PATIENCE), 'firefox')
         self.read()
         self.ask('WebDriver:NewSession', {})
@@ -184,15 +184,23 @@ class Firefox(Browser):
         return self.ask('WebDriver:ExecuteAsyncScript', {'script': LATER % script, 'args': []})['value']
 
     def size(self, width, height):
-        """The window is larger than the page by its frame."""
-        self.ask('WebDriver:SetWindowRect', {'width': width, 'height': height})
-        wide, high = self.run('return [innerWidth, innerHeight]')
-        self.ask('WebDriver:SetWindowRect', {'width': 2 * width - wide, 'height': 2 * height - high})
+        """The place of the page in the window, which is no narrower than some 450 pixels, gets this size."""
+        if (width, height) == self.sized:
+            return
+        self.sized = width, height
+        self.ask('WebDriver:SetWindowRect', {'width': max(width + 40, 600), 'height': height + 200})
+        self.in_window(f"const it = gBrowser.selectedBrowser.style; for (const [side, size] of [['width', {width}], ['height', {height}]]) for (const which of ['min-', 'max-', '']) it.setProperty(which + side, `${{size}}px`, 'important')")
+        self.wait(f'return innerWidth === {width} && innerHeight === {height}')
 
     def scheme(self, name):
+        self.in_window(f"Services.prefs.setIntPref('layout.css.prefers-color-scheme.content-override', {0 if name == 'dark' else 1})")
+
+    def in_window(self, script):
         self.ask('Marionette:SetContext', {'value': 'chrome'})
-        self.run(f"Services.prefs.setIntPref('layout.css.prefers-color-scheme.content-override', {0 if name == 'dark' else 1})")
-        self.ask('Marionette:SetContext', {'value': 'content'})
+        try:
+            self.run(script)
+        finally:
+            self.ask('Marionette:SetContext', {'value': 'content'})
 
     def key(self, key):
         self.ask('WebDriver:PerformActions', {'actions': [{'type': 'key', 'id': 'keys', 'actions': [{'type': 'keyDown', 'value': key}, {'type': 'keyUp', 'value': key}]}]})

@@ -1,7 +1,9 @@
 #!/usr/bin/env python3
 """Makes the page: one HTML file with the module, the examples, the exercises, the style and the script inside.
 
-    bundle.py MODULE.wasm PAGE.html
+    bundle.py MODULE.wasm PAGE.html [--unproved]
+
+With --unproved the page says that the module was compiled from the program without its proof.
 """
 import base64, gzip, json, pathlib, re, sys
 
@@ -90,10 +92,18 @@ def embedded(script, module):
     return script.replace('/* the module */', packed).replace('</script', '<\\/script')
 
 
-def main(module, page):
+def footer(text, is_proved):
+    """The page with what its last line must say of the module."""
+    said = 'compiled from the proved program'
+    if text.count(said) != 1:
+        sys.exit(f'bundle.py: page.html must say once: {said}')
+    return text if is_proved else text.replace(said, '<b>compiled from the program without its proof</b>')
+
+
+def main(module, page, *words):
     check_used('main.js', 'worker.js')
     script = embedded(bundled('main.js'), pathlib.Path(module).read_bytes())
-    text = (HERE / 'page.html').read_text()
+    text = footer((HERE / 'page.html').read_text(), '--unproved' not in words)
     text = text.replace('/* the style */', (HERE / 'style.css').read_text().strip()).replace('/* the script */', script)
     if len(text.encode()) > MOST:
         sys.exit(f'bundle.py: the page has {len(text.encode())} bytes, more than {MOST}')

@@ -21,7 +21,8 @@ calls='seq print annotate check explain replay run_steps curve demonstrate'
 "$tools/clang" --target=x86_64-unknown-linux-gnu -Wno-override-module -x ir "$core" -S -emit-llvm -O0 -Xclang -disable-llvm-passes -o core.ll
 sed -i -e "s/^target datalayout = .*/target datalayout = \"$layout\"/" \
     -e 's/^target triple = .*/target triple = "wasm64-unknown-unknown"/' \
-    -e 's/ "\(target-cpu\|target-features\|probe-stack\|stack-probe-size\|frame-pointer\)"="[^"]*"//g' core.ll
+    -e 's/ "\(target-cpu\|target-features\|probe-stack\|stack-probe-size\|frame-pointer\)"="[^"]*"//g' \
+    -e 's/^\(attributes #[0-9]* = {\) *}/\1 "none" }/' core.ll
 "$tools/clang" "${flags[@]}" -x ir core.ll -c -o core.o
 "$tools/clang" "${flags[@]}" -x ir "$here/allocation.ll" -c -o allocation.o
 "$tools/clang" "${flags[@]}" -Wall -Wextra -ffreestanding -fno-builtin -std=c11 -x c "$here/heap.c" -c -o heap.o

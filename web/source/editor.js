@@ -105,15 +105,28 @@ export class Editor {
     this.hideBubble();
   }
 
-  // Puts another text in the place of the old one as typed, so that the browser can undo it.
+  // Puts another text in the place of the old one as typed, so that the browser can undo it. What had the focus keeps it, so
+  // that keys go on to the run.
   retype(text) {
-    this.area.focus();
+    const held = document.activeElement;
+    this.area.focus({ preventScroll: true });
     this.area.setSelectionRange(0, this.area.value.length);
     if (!document.execCommand('insertText', false, text)) {
       this.area.value = text;
       this.area.dispatchEvent(new Event('input'));
     }
     this.isTyping = false;
+    if (held === this.area) return;
+    this.area.blur();
+    held?.focus({ preventScroll: true });
+  }
+
+  // Takes another text, which the browser can undo.
+  replace(text) {
+    this.chosen = null;
+    this.pointed = null;
+    this.hideBubble();
+    this.retype(text.replaceAll('\r\n', '\n'));
   }
 
   get rowHeight() {

@@ -108,6 +108,7 @@ export class Hand {
   refusedButton(event) {
     const why = () => {
       say(find('refusal'), refusalText(event));
+      find('refusal').scrollIntoView({ block: 'nearest' });
     };
     return make('button', { class: 'is-refused', 'data-key': `hand-${event.line}`, onclick: why },
       make('code', {}, event.line), make('small', {}, `${event.answer.code} ${event.answer.name}`));

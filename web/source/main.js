@@ -86,13 +86,14 @@ class Page {
     };
   }
 
-  // Closes what lies over the rest, or else leaves a text.
+  // Leaves a text, with what was shown in it; or else closes what lies over the rest.
   escape() {
     const wasShown = this.editor.hideBubble();
-    if (document.activeElement === this.editor.area && this.editor.isTyping) this.editor.isTyping = false;
-    else if (wasShown) return;
-    else if (!find('demonstration').hidden) find('demonstration-close').click();
-    else if (document.activeElement !== this.editor.area) document.activeElement?.blur();
+    const isInText = document.activeElement === this.editor.area;
+    this.editor.isTyping = false;
+    if (wasShown && !isInText) return;
+    if (!isInText && !find('demonstration').hidden) find('demonstration-close').click();
+    else document.activeElement?.blur();
   }
 
   // What is chosen gets an entry of its own in the browser's history: Back leads to the text as it was. An example can be
@@ -232,7 +233,7 @@ class Page {
     const run = makeRun(this.jobs, this.editor.text, settings);
     find('by-hand-from-here').hidden = run.reason !== undefined;
     if (run.reason) return this.stage.clear(run.reason);
-    const at = this.wantedPosition ?? this.stage.position ?? 0;
+    const at = this.wantedPosition ?? this.runPosition ?? 0;
     this.wantedPosition = null;
     this.stage.load(run, at);
   }
@@ -257,6 +258,7 @@ class Page {
 
   moved(state, ask) {
     document.body.classList.toggle('has-run', state !== null);
+    if (state && this.tabs.view === 'run') this.runPosition = this.stage.position; // where it goes on after another view
     this.editor.show(seatsByLine(state));
     if (!this.editor.hasFocus) this.editor.follow(lineOfEvent(state));
     if (state && this.tabs.view === 'hand') this.hand.show(state, ask, this.stage.position, this.stage.run.tasks);
