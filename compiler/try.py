@@ -291,8 +291,15 @@ def arguments() -> argparse.Namespace:
 
 
 def in_turn(trials: list[Trial]) -> list[Trial]:
-    """All trials, mixed in the same way each time, so that a run which is stopped has tried some of each kind."""
-    return random.Random(1).sample(trials, len(trials))
+    """All trials, mixed in the same way each time: first one of each program by each compiler at each level, then another."""
+    mixed = random.Random(1).sample(trials, len(trials))
+    before: Counter = Counter()
+    turns: dict[Trial, int] = {}
+    for trial in mixed:
+        key = trial.source, trial.compiler, trial.level, trial.macros
+        turns[trial] = before[key]
+        before[key] += 1
+    return sorted(mixed, key=turns.get)
 
 
 # What a worker has.
