@@ -41,7 +41,6 @@ class Row:
     on_second: float | None
     bound: Bound
     waits: str
-    way: str
 
     @property
     def speed_up(self) -> float:
@@ -51,21 +50,21 @@ class Row:
         second = f"{self.on_second:.2f}" if self.on_second else "-"
         most = f"{self.on_one / self.bound.steps:.2f}, {self.bound.why}"
         numbers = f"{self.on_one} | {self.steps} | {self.speed_up:.2f} | {second} | {most} | {100 * self.bound.memory:.0f}%"
-        return f"| {self.name} | {numbers} | {self.waits} | {self.way} |"
+        return f"| {self.name} | {numbers} | {self.waits} |"
 
 
 TOP = """<!-- Printed by compiler/try_steps.py; not to be edited. -->
 # What units bring to programs from C
 
-Steps of the programs of `compiler/programs` on {units}, by {compiler} at -O{level}, each searched for about {seconds:g} seconds (`--search`).
+Steps of the programs of `compiler/programs`, [translated](FROM_C.md) for {units} by {compiler} at -O{level}, each searched for about {seconds:g} seconds (`--search`).
 
 - *One unit*: the best cut there, of all shapes of the code; *steps*: the chosen cut on {units}.
 - *Second*: the speed-up on another input, `-DSECOND`, by the cut that was chosen on the first; - where the compiler makes other code of it.
 - *At most*: what no cut of the chosen code can pass, because a unit executes one *instruction* in a step, because data *memory* and the output are the head's alone, or because in *a chain* each instruction needs the one before.
-- *Memory*: the share of loads, stores and outputs. *Waits*: most of what units wait for: a register *not sent* by another task, or the head's *turn*. *Way*: where [tasks begin](FROM_C.md#where-tasks-begin).
+- *Memory*: the share of loads, stores and outputs. *Waits*: most of what units wait for: a register *not sent* by another task, or the head's *turn*.
 
-| Program | One unit | Steps | Speed-up | Second | At most | Memory | Waits | Way |
-|---|---|---|---|---|---|---|---|---|"""
+| Program | One unit | Steps | Speed-up | Second | At most | Memory | Waits |
+|---|---|---|---|---|---|---|---|"""
 
 
 def translated(name: str, level: str, macros: list[str]) -> Program:
@@ -80,7 +79,7 @@ def row(command: str, name: str, level: str, settings: Settings) -> Row:
     best = found.best
     second = on_second_input(tool, name, level, settings, best)
     bound = bound_of(best, tool, settings.units)
-    return Row(name, found.rival.on_one.steps, best.last.steps, second, bound, waits(tool, best.text, settings.units), str(best.way))
+    return Row(name, found.rival.on_one.steps, best.last.steps, second, bound, waits(tool, best.text, settings.units))
 
 
 def on_second_input(tool: Tool, name: str, level: str, settings: Settings, best: Choice) -> float | None:
@@ -127,7 +126,7 @@ def means(rows: list[Row]) -> str:
         "the others": [it for it in rows if it.bound.memory >= LITTLE],
     }.items():
         second = mean([it.on_second for it in some if it.on_second])
-        lines.append(f"| {name} | {len(some)} | {mean([it.speed_up for it in some]):.3f} | {second:.3f} |")
+        lines.append(f"| {name} | {len(some)} | {mean([it.speed_up for it in some]):.2f} | {second:.2f} |")
     return "\n".join(lines)
 
 
