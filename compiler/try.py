@@ -5,11 +5,12 @@
     compiler/try.py --quick            a minute of it
 
 Each program is translated at -O0 to -O3, by GCC and, for its own programs, by clang, its code as it was, moved or with
-copies of functions, cut and marked in several ways, checked, and run: `seq`, `run` on 1, 4 and
-16 units, and `replay --strict` of the script of a run with its values. What is printed must be what the host prints (not of csmith's programs,
-whose meaning depends on the size of long) and what the program prints that GCC makes for MIPS32 and QEMU runs. The last
-line says how many agree; the status is 0 exactly if none differs. Results are kept in compiler/out, so a run that was
-stopped goes on where it was; a change of a program or of the translator makes its results void.
+copies of functions, cut and marked in several ways, checked, and run: `seq`, `run` on 1, 4 and 16 units, and `replay
+--strict` of the script of a run with its values; its own programs once on their second input, too. What is printed must be
+what the host prints (not of csmith's programs, whose meaning depends on the size of long) and what the program prints that
+GCC makes for MIPS32 and QEMU runs. The last line says how many agree; the status is 0 exactly if none differs. Results are
+kept in compiler/out, so a run that was stopped goes on where it was; a change of a program or of the translator makes its
+results void.
 
 It needs gcc, gcc-mipsel-linux-gnu, qemu-user, libc6-dev-mipsel-cross, csmith and libcsmith-dev; without clang-14 it says
 so and leaves that out. try_steps.py measures.
