@@ -125,8 +125,9 @@ def means(rows: list[Row]) -> str:
         f"with a share of memory below {LITTLE:.0%}": [it for it in rows if it.bound.memory < LITTLE],
         "the others": [it for it in rows if it.bound.memory >= LITTLE],
     }.items():
-        second = mean([it.on_second for it in some if it.on_second])
-        lines.append(f"| {name} | {len(some)} | {mean([it.speed_up for it in some]):.2f} | {second:.2f} |")
+        if some:
+            second = mean([it.on_second for it in some if it.on_second])
+            lines.append(f"| {name} | {len(some)} | {mean([it.speed_up for it in some]):.2f} | {second:.2f} |")
     return "\n".join(lines)
 
 
