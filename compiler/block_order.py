@@ -7,12 +7,11 @@ next one needs.
 from dataclasses import dataclass, replace
 
 from flow import Flow
-from instructions import Instruction
+from instructions import MEMORY, Instruction
 from linking import Program
 from liveness import Liveness, bits
 from tasks import leaders
 
-MEMORY = {"load", "store", "out"}
 ENDS = {"branch_two", "branch_one", "jump", "jump_link", "jump_register", "jump_link_register", "halt", "release"}
 
 

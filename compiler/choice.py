@@ -10,8 +10,8 @@ from induction import with_inductions_first
 from instructions import Instruction
 from linking import MOST_INSTRUCTIONS, Program
 from refusal import Place, Refused, refuse
-from releases import MODES, with_releases
-from tasks import MOST_TASKS, POLICIES, Cut, cut, label_at, spread, wide_jumps
+from releases import with_releases
+from tasks import MOST_TASKS, Cut, cut, label_at, spread, wide_jumps
 from tool import Steps, Tool, ToolFailed
 from writer import Writer, aligned
 

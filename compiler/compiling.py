@@ -11,9 +11,10 @@ from pathlib import Path
 from flow import without_unreached
 from linking import MOST_INSTRUCTIONS, Program, lay_out, link, refuse_missing
 from names import shown, shown_lines
-from reader import Unit, read_unit
+from reader import read_unit
 from refusal import Place, refuse
 from tool import ToolFailed
+from units import Unit
 
 HERE = Path(__file__).resolve().parent
 RUN_TIME = HERE / "runtime"

@@ -1,6 +1,6 @@
 """Takes delay slots apart: what stands in the slot of a branch or jump goes before it, since the machine has no slots."""
 
-from instructions import FIRST_KEPT, LINK, SECOND_KEPT, Expression, Instruction
+from instructions import FIRST_KEPT, LINK, SECOND_KEPT, Instruction
 from refusal import refuse
 
 JUMPS = {"branch_two", "branch_one", "jump", "jump_link", "jump_register", "jump_link_register"}

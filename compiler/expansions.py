@@ -3,28 +3,9 @@
 The registers $1 (the assembler's own), $26 and $27 (kept from compilers) hold what lies between.
 """
 
-from dataclasses import dataclass
-from typing import Callable
-
-from instructions import ASSEMBLER, FIRST_KEPT, FORM_OF, GLOBAL_POINTER, LINK, SECOND_KEPT, STACK_POINTER, Expression, Instruction
-from refusal import Place, Refused, refuse
-
-
-@dataclass(frozen=True)
-class Register:
-    number: int
-
-
-@dataclass(frozen=True)
-class Memory:
-    """offset(base)"""
-
-    offset: Expression
-    base: int
-
-
-Operand = Register | Memory | Expression
-Expansion = list[Instruction]
+from any_address import part, unaligned_load, unaligned_store, with_third_kept
+from instructions import ASSEMBLER, FIRST_KEPT, FORM_OF, GLOBAL_POINTER, LINK, SECOND_KEPT, Expression, Instruction
+from operands import Expansion, Memory, Operands, number_of, signed
 
 WITH_REGISTER = {"addiu": "addu", "andi": "and", "ori": "or", "xori": "xor", "slti": "slt", "sltiu": "sltu"}
 WITH_NUMBER = {register: number for number, register in WITH_REGISTER.items()} | {number: number for number in WITH_REGISTER}
@@ -45,16 +26,6 @@ REASONS = {
     "sync": "orders memory between processors, as in an atomic operation or a fence; one program runs, so plain accesses do",
 }
 REASONS |= dict.fromkeys(("ll", "sc"), "is part of an atomic operation, which the machine lacks; one program runs, so a plain access does")
-
-
-def number_of(operand: Operand) -> int | None:
-    """A plain number, or None."""
-    return operand.number if isinstance(operand, Expression) and not operand.symbol and not operand.half else None
-
-
-def signed(number: int) -> int:
-    """A number modulo 2^32, as a signed one."""
-    return (number + 0x80000000 & 0xFFFFFFFF) - 0x80000000
 
 
 def upper_and_lower(register: int, of: Expression) -> Expansion:
@@ -80,42 +51,8 @@ def trap() -> Expansion:
     return [Instruction("lw", (0, 0), Expression(1)), Instruction("halt")]
 
 
-class Expander:
-    """Expands one instruction of one place; labels of its own have names from `fresh`."""
-
-    def __init__(self, name: str, operands: list[Operand], place: Place, fresh: Callable[[], str], keeps_third: bool = False) -> None:
-        self.name, self.operands, self.place, self.fresh = name, operands, place, fresh
-        # Whether $28 stands for the $1 of a file that uses it by itself, and may hold something here.
-        self.keeps_third = keeps_third
-
-    def fault(self, why: str) -> Refused:
-        return refuse(self.place, f"{self.name} {why}")
-
-    def wrong(self) -> Refused:
-        return self.fault("with these operands is not known")
-
-    def register(self, index: int) -> int:
-        if index < len(self.operands) and isinstance(self.operands[index], Register):
-            return self.operands[index].number
-        raise self.wrong()
-
-    def expression(self, index: int) -> Expression:
-        if index < len(self.operands) and isinstance(self.operands[index], Expression):
-            return self.operands[index]
-        raise self.wrong()
-
-    def label(self, index: int) -> Expression:
-        place = self.expression(index)
-        if not place.symbol or place.number or place.half:
-            raise self.fault("goes to a place that is not a label")
-        return place
-
-    def is_register(self, index: int) -> bool:
-        return index < len(self.operands) and isinstance(self.operands[index], Register)
-
-    def only(self, count: int) -> None:
-        if len(self.operands) != count:
-            raise self.wrong()
+class Expander(Operands):
+    """Expands one instruction."""
 
     def expand(self) -> Expansion:
         if self.name in REASONS:
@@ -412,74 +349,19 @@ class Expander:
         back = [Instruction(result, (into,))] if into else []
         back = back or [Instruction("sll", (0, 0), Expression(0), note="the division returns here")]
         back[0].labels.append(after)
-        if self.keeps_third:
-            return self.kept([*before, *moved, *upper_and_lower(ASSEMBLER, Expression(symbol=after)), call, *back], into)
-        return [*before, *moved, *upper_and_lower(ASSEMBLER, Expression(symbol=after)), call, *back]
-
-    def kept(self, made: Expansion, into: int = 0) -> Expansion:
-        """Puts $28 below the stack while something else uses it."""
-        if into == GLOBAL_POINTER:
-            return made
-        stored = Instruction("sw", (GLOBAL_POINTER, STACK_POINTER), Expression(-4), note="$28 is the $1 of this file")
-        return [stored, *made, Instruction("lw", (GLOBAL_POINTER, STACK_POINTER), Expression(-4))]
+        made = [*before, *moved, *upper_and_lower(ASSEMBLER, Expression(symbol=after)), call, *back]
+        return with_third_kept(made) if self.keeps_third and into != GLOBAL_POINTER else made
 
     of_rem = of_div
 
     # Words and halves at any address
 
     def of_lwl(self) -> Expansion:
-        """Little-endian: the bytes from the word's start up to the address become the register's upper ones."""
         self.only(2)
-        is_left = self.name.endswith("l")
-        is_load = self.name.startswith("l")
         register = self.register(0)
-        before, memory = self.address(1)
-        wide = FIRST_KEPT
-        made = [
-            *before,
-            Instruction("addiu", (wide, memory.base), memory.offset),
-            Instruction("andi", (ASSEMBLER, wide), Expression(3)),
-            Instruction("subu", (wide, wide, ASSEMBLER)),
-        ]
-        if is_left:
-            made.append(Instruction("xori", (ASSEMBLER, ASSEMBLER), Expression(3)))
-        made.append(Instruction("sll", (ASSEMBLER, ASSEMBLER), Expression(3)))
-        if is_load:
-            return [*made, *self.part_loaded(register, is_left)]
-        stored = [*made, *self.part_stored(register, is_left)]
-        return self.kept(stored) if self.keeps_third else stored
+        return part(self.name, register, *self.address(1), self.keeps_third)
 
     of_lwr = of_swl = of_swr = of_lwl
-
-    def part_loaded(self, register: int, is_left: bool) -> Expansion:
-        wide, narrow = FIRST_KEPT, SECOND_KEPT
-        toward, mask = ("sllv", "sllv") if is_left else ("srlv", "srlv")
-        return [
-            Instruction("lw", (wide, wide), Expression(0)),
-            Instruction("addiu", (narrow, 0), Expression(-1)),
-            Instruction(mask, (narrow, narrow, ASSEMBLER)),
-            Instruction(toward, (wide, wide, ASSEMBLER)),
-            Instruction("nor", (narrow, narrow, 0)),
-            Instruction("and", (register, register, narrow)),
-            Instruction("or", (register, register, wide)),
-        ]
-
-    def part_stored(self, register: int, is_left: bool) -> Expansion:
-        # The address of the word stays in $26. Where $28 is to be stored, it lies below the stack.
-        wide, narrow, third = FIRST_KEPT, SECOND_KEPT, GLOBAL_POINTER
-        back = "srlv" if is_left else "sllv"
-        again = [Instruction("lw", (narrow, STACK_POINTER), Expression(-4))] if register == third else []
-        return [
-            Instruction("addiu", (narrow, 0), Expression(-1)),
-            Instruction(back, (narrow, narrow, ASSEMBLER)),
-            Instruction("nor", (narrow, narrow, 0)),
-            Instruction("lw", (third, wide), Expression(0)),
-            Instruction("and", (third, third, narrow)),
-            *again,
-            Instruction(back, (narrow, narrow if again else register, ASSEMBLER)),
-            Instruction("or", (third, third, narrow)),
-            Instruction("sw", (third, wide), Expression(0)),
-        ]
 
     def of_ulw(self) -> Expansion:
         self.only(2)
@@ -490,22 +372,3 @@ class Expander:
         return (unaligned_load if self.name == "ulw" else unaligned_store)(self.register(0), memory.offset, memory.base)
 
     of_usw = of_ulw
-
-
-def unaligned_load(into: int, offset: Expression, base: int) -> Expansion:
-    """A word at any address, byte for byte."""
-    made = [Instruction("lbu", (ASSEMBLER, base), offset)]
-    for byte in (1, 2, 3):
-        made += [
-            Instruction("lbu", (FIRST_KEPT, base), offset.plus(byte)),
-            Instruction("sll", (FIRST_KEPT, FIRST_KEPT), Expression(8 * byte)),
-            Instruction("or", (into if byte == 3 else ASSEMBLER, ASSEMBLER, FIRST_KEPT)),
-        ]
-    return made
-
-
-def unaligned_store(of: int, offset: Expression, base: int) -> Expansion:
-    made = [Instruction("sb", (of, base), offset)]
-    for byte in (1, 2, 3):
-        made += [Instruction("srl", (ASSEMBLER, of), Expression(8 * byte)), Instruction("sb", (ASSEMBLER, base), offset.plus(byte))]
-    return made

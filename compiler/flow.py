@@ -3,7 +3,7 @@
 from copy import copy
 from dataclasses import dataclass, field
 
-from instructions import ASSEMBLER, LINK, Instruction
+from instructions import ASSEMBLER, LINK
 from linking import START, Program, is_local, table_of
 from refusal import refuse
 

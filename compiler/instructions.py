@@ -41,6 +41,7 @@ for _form, _names in {
 
 WRITES_FIRST = {"three", "shift", "shift_by_register", "immediate", "logic", "upper", "move_from", "load", "jump_link_register"}
 BRANCHES = {"branch_two", "branch_one"}
+MEMORY = {"load", "store", "out"}
 
 
 @dataclass(frozen=True)

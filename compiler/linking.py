@@ -5,8 +5,9 @@ from dataclasses import dataclass, field, replace
 from typing import Callable, Iterator
 
 from instructions import LINK, Expression, Instruction
-from reader import DATA, READ_ONLY, ZEROS, Datum, Unit, read_unit
+from reader import read_unit
 from refusal import Place, Refused, refuse
+from units import DATA, READ_ONLY, ZEROS, Datum, Unit
 
 MOST_INSTRUCTIONS = 4096
 CODE_START, READ_ONLY_START, DATA_START, MEMORY = 0x00400000, 0x10000000, 0x10010000, 0x10000

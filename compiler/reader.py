@@ -2,118 +2,52 @@
 
 import os
 import re
-from dataclasses import dataclass, field
 from pathlib import Path
 
-from assembler_text import calculated, parted, string_bytes, without_comment
+from any_address import unaligned_load, unaligned_store
+from assembler_text import parted, without_comment
+from data_directives import DataReader
 from delay_slots import JUMPS, taken_apart
-from expansions import Expander, Memory, Operand, Register, unaligned_load, unaligned_store
-from instructions import ASSEMBLER, GLOBAL_POINTER, KEPT, REGISTER_NAMES, Expression, Instruction
+from expansions import Expander
+from expressions import ANY_ADDRESS, NAME
+from instructions import Expression, Instruction
+from operands import Memory, Operand
 from refusal import Place, Refused, refuse
+from units import CODE, OTHER, READ_ONLY, Datum, Unit, renamed, section_of
 
-NAME = r"[A-Za-z_.$][\w.$]*"
 LABEL = re.compile(rf"\s*({NAME}|\d+)\s*:(?!:)")
 ASSIGNED = re.compile(rf"\s*({NAME})\s*=(?!=)\s*(.+)$")
-HALF = re.compile(r"%(hi|lo)\s*\((.*)\)$", re.S)
-REGISTER = re.compile(r"\$(\d+|f\d+|f?cc\d|" + "|".join(REGISTER_NAMES) + ")$")
-ADDRESS = re.compile(r"(.*)\(\s*(" + REGISTER.pattern[:-1] + r")\s*\)$", re.S)
 # A table of places as clang names it, and labels that only a debugger needs.
 CLANG_TABLE = re.compile(r"\$JTI\d")
 ONLY_FOR_DEBUGGERS = re.compile(r"\$L(text|etext|FB|FE|BB|BE|BI|SI|VL|M|VU)\d+$|\$LC?F[BE]|\$(tmp|func_begin|func_end)\d+$")
 # Clang says so where the address of a label is more than a debugger's.
 TAKEN = re.compile(r"^(\$tmp\d+):.*# Block address taken", re.M)
-# What code has that may lie at any address.
-OF_ANY_ADDRESS = re.compile(r"%(call|got|gottprel|gp_rel|tls|dtprel|tprel|pcrel|neg)")
-ANY_ADDRESS = "position-independent code needs tables that nothing here fills; compile without -fPIC, with -fno-pic -mno-abicalls"
-TERM = re.compile(rf"\s*([-+]?)\s*(0[xX][0-9a-fA-F]+|\d+[fb](?![\w.$])|\d+|'(?:\\.|[^\\])'|{NAME})")
 
 # Directives that say nothing about what the program does.
 IGNORED = """.ent .end .frame .mask .fmask .type .size .ident .gnu_attribute .module .nan .insn .hidden .protected
 .internal .abicalls .option .loc_mark_labels .psize .addrsig .addrsig_sym""".split()
-# Sections for debuggers and linkers.
-UNUSED = (".debug", ".mdebug", ".note", ".gnu", ".comment", ".pdr", ".reginfo", ".MIPS", ".eh_frame", ".stab", ".line")
-READ_ONLY, DATA, ZEROS, CODE, OTHER = "rodata", "data", "bss", "text", "other"
-SIZES = {".byte": 1} | dict.fromkeys((".half", ".short", ".hword", ".2byte"), 2)
-SIZES |= dict.fromkeys((".word", ".long", ".int", ".4byte"), 4) | dict.fromkeys((".dword", ".quad", ".8byte"), 8)
 
 
-@dataclass
-class Datum:
-    """A stretch of data: bytes, or an expression of some bytes, with the labels and the alignment before it."""
-
-    labels: list[str] = field(default_factory=list)
-    content: bytes = b""
-    value: Expression | None = None
-    alignment: int = 1
-    place: Place = Place()
-
-    @property
-    def size(self) -> int:
-        return 4 if self.value else len(self.content)
-
-
-@dataclass
-class Unit:
-    """One file: its code, its data by section, what it defines for others, what it only reserves."""
-
-    file: str
-    code: list[Instruction] = field(default_factory=list)
-    data: dict[str, list[Datum]] = field(default_factory=lambda: {READ_ONLY: [], DATA: [], ZEROS: []})
-    defined: set[str] = field(default_factory=set)
-    globals: set[str] = field(default_factory=set)
-    weak: set[str] = field(default_factory=set)
-    # Of .comm: size and alignment.
-    common: dict[str, tuple[int, int]] = field(default_factory=dict)
-    # The first place that names a symbol.
-    named: dict[str, Place] = field(default_factory=dict)
-
-
-def section_of(name: str, flags: str) -> str | None:
-    """Which part of memory a section belongs to, by its name or by its flags; None where neither says."""
-    for prefixes, part in (
-        ((".text",), CODE),
-        ((".data.rel.ro", ".rodata", ".rdata", ".lit"), READ_ONLY),
-        ((".data", ".sdata", ".tm_clone"), DATA),
-        ((".bss", ".sbss"), ZEROS),
-    ):
-        if name.startswith(prefixes):
-            return part
-    if name.startswith(UNUSED):
-        return OTHER
-    for letter, part in (("x", CODE), ("w", DATA), ("a", READ_ONLY)):
-        if letter in flags:
-            return part
-    return OTHER if flags.strip('"') == "" and '"' in flags else None
-
-
-class Reader:
+class Reader(DataReader):
     """Reads one file, line by line."""
 
     def __init__(self, file: str, number: int, is_run_time: bool) -> None:
-        self.unit = Unit(file)
-        self.is_run_time = is_run_time
+        super().__init__(file, is_run_time)
         self.number = number
         self.line = 0
-        self.section, self.name, self.previous, self.pushed = CODE, ".text", ".text", []
+        self.name, self.previous, self.pushed = ".text", ".text", []
         # The part of memory of each section that was named.
         self.parts: dict[str, str] = {}
-        # Words and halves are aligned, except after .align 0.
-        self.aligns_itself = True
-        self.constants: dict[str, Expression] = {}
         self.files: dict[str, str] = {}
         self.source: Place | None = None
         # A line of the preprocessor: its number, its file, and where it stands.
         self.marked: tuple[int, str, int] | None = None
         self.no_reorder = False
         self.orders: list[bool] = []
-        # Whether the file uses $1 by itself, as clang does; $28 stands for it then.
-        self.owns_assembler = False
         self.taken: list[str] = []
         # The register into which clang loaded a place, and the table where that stands.
         self.loaded: tuple[int, str] | None = None
         self.count = 0
-        self.local_labels: dict[str, int] = {}
-        self.locals: set[str] = set()
         self.after_own_task = False
         self.faults: list[tuple[Place, str]] = []
         # By section of code, per raw instruction: its expansion, and whether its delay slot follows.
@@ -247,9 +181,6 @@ class Reader:
         else:
             self.labels.setdefault(self.name, []).append(name)
 
-    def data(self) -> list[Datum]:
-        return self.unit.data[self.section]
-
     def begin_table(self, name: str) -> None:
         """A label of read-only data right after a jump through a register begins the table of its places."""
         if self.table is not None and self.section == READ_ONLY:
@@ -336,59 +267,6 @@ class Reader:
         elif name.strip() in ("mips16", "micromips"):
             raise refuse(self.place, f"{name.strip()} is another instruction set")
 
-    def reserve(self, word: str, parts: list[str]) -> None:
-        size, alignment = int(parts[1], 0), int(parts[2], 0) if len(parts) > 2 else 8
-        if word == ".lcomm":
-            self.locals.add(parts[0])
-        if parts[0] in self.locals:
-            self.unit.data[ZEROS].append(Datum([parts[0]], bytes(size), alignment=alignment, place=Place(self.unit.file)))
-        else:
-            self.unit.common[parts[0]] = (size, alignment)
-
-    def align(self, word: str, rest: str) -> None:
-        number = calculated(parted(rest, ",")[0]) if rest else 0
-        if number is None or number > 16 and word != ".balign":
-            raise refuse(self.place, f"{word} {rest} is not an alignment")
-        if number == 0 and word == ".align":
-            self.aligns_itself = False
-        elif self.section != CODE:
-            self.data().append(Datum(alignment=number if word == ".balign" else 1 << number, place=self.place))
-
-    def read_data(self, word: str, rest: str) -> None:
-        if self.section == CODE:
-            if word in SIZES or word in (".ascii", ".asciz", ".string", ".space", ".skip", ".zero", ".fill"):
-                raise refuse(self.place, f"{word} puts data into the code, which the machine keeps apart")
-            raise refuse(self.place, f"the directive {word} is not known")
-        if word in SIZES:
-            if self.aligns_itself and word not in (".2byte", ".4byte", ".8byte"):
-                self.data().append(Datum(alignment=SIZES[word]))
-            for part in parted(rest, ","):
-                self.add_value(self.expression(part), SIZES[word])
-        elif word in (".ascii", ".asciz", ".string"):
-            end = b"" if word == ".ascii" else b"\0"
-            self.data().append(Datum(content=b"".join(string_bytes(it, self.place) + end for it in parted(rest, ",")), place=self.place))
-        elif word in (".space", ".skip", ".zero"):
-            parts = [calculated(it) for it in parted(rest, ",")]
-            if not parts or None in parts or not 0 <= parts[0] <= 1 << 20:
-                raise refuse(self.place, f"{word} {rest} is not a number of bytes")
-            self.data().append(Datum(content=bytes([(parts[1] if len(parts) > 1 else 0) & 255]) * parts[0], place=self.place))
-        elif word == ".fill":
-            parts = [calculated(it) for it in parted(rest, ",")]
-            repeat, size, value = (parts + [1, 0])[: 3] if len(parts) < 3 else parts[:3]
-            self.data().append(Datum(content=(value & (1 << 8 * size) - 1).to_bytes(size, "little") * repeat, place=self.place))
-        else:
-            raise refuse(self.place, f"the directive {word} is not known")
-
-    def add_value(self, value: Expression, size: int) -> None:
-        if value.symbol:
-            if size != 4 or value.half:
-                raise refuse(self.place, f"the address {value} does not fit {size} bytes")
-            self.data().append(Datum(value=value, place=self.place))
-            self.name_symbol(value)
-        else:
-            number = value.half_of(value.number) if value.half else value.number
-            self.data().append(Datum(content=(number & (1 << 8 * size) - 1).to_bytes(size, "little"), place=self.place))
-
     # Instructions and their operands
 
     def read_instruction(self, statement: str) -> None:
@@ -465,76 +343,6 @@ class Reader:
         elif it.form in JUMPS or self.loaded and self.loaded[0] in it.writes:
             self.loaded = None
 
-    def name_symbol(self, value: Expression) -> None:
-        if value.symbol:
-            self.unit.named.setdefault(value.symbol, self.place)
-
-    def register(self, text: str) -> int:
-        word = text.strip().removeprefix("$")
-        number = int(word) if word.isdigit() and len(word) < 3 else REGISTER_NAMES.get(word, 99)
-        if re.fullmatch(r"f\d+|f?cc\d", word):
-            raise refuse(self.place, "floating-point registers: the machine has none; use -msoft-float code")
-        if number > 31 or not text.strip().startswith("$"):
-            raise refuse(self.place, f"{text} is not a register")
-        if number == ASSEMBLER and self.owns_assembler:
-            return GLOBAL_POINTER
-        if number in (ASSEMBLER, *KEPT) and not self.is_run_time:
-            raise refuse(self.place, f"${number} is kept for expansions and run-time routines")
-        return number
-
-    def operand(self, text: str) -> Operand:
-        address = ADDRESS.match(text)
-        if address:
-            offset = self.expression(address[1]) if address[1].strip() else Expression(0)
-            return Memory(offset, self.register(address[2]))
-        if REGISTER.match(text):
-            return Register(self.register(text))
-        return self.expression(text)
-
-    def expression(self, text: str) -> Expression:
-        text = text.strip()
-        while re.fullmatch(r"\([^()]*\)", text):
-            text = text[1:-1].strip()
-        half = HALF.match(text)
-        if OF_ANY_ADDRESS.match(text):
-            raise refuse(self.place, ANY_ADDRESS)
-        if half:
-            inner = self.expression(half[2])
-            if inner.half:
-                raise refuse(self.place, f"{text}: a half of a half")
-            return Expression(inner.number, inner.symbol, half[1])
-        number = calculated(text)
-        if number is not None:
-            return Expression(number)
-        return self.sum_of(text)
-
-    def sum_of(self, text: str) -> Expression:
-        total, symbol, at = 0, "", 0
-        while at < len(text):
-            term = TERM.match(text, at)
-            if not term or at and not term[1]:
-                raise refuse(self.place, f"{text} is not understood")
-            value = self.term(term[2])
-            if value.symbol and (symbol or term[1] == "-"):
-                raise refuse(self.place, f"{text}: only one address and a number can be added")
-            symbol = symbol or value.symbol
-            total += -value.number if term[1] == "-" else value.number
-            at = term.end() + len(text[term.end() :]) - len(text[term.end() :].lstrip())
-        return Expression(total, symbol)
-
-    def term(self, word: str) -> Expression:
-        if word[0] == "'":
-            return Expression(string_bytes(f'"{word[1:-1]}"', self.place)[0])
-        if re.fullmatch(r"\d+[fb]", word):
-            number = self.local_labels.get(word[:-1], 0) + (word[-1] == "f")
-            return Expression(symbol=f".local.{word[:-1]}.{number}")
-        if word[0].isdigit():
-            number = calculated(word)
-            if number is None:
-                raise refuse(self.place, f"{word} is not a number")
-            return Expression(number)
-        return self.constants.get(word, Expression(symbol=word))
-
 
 def read_unit(text: str, file: str, number: int, is_run_time: bool = False) -> Unit:
     """The unit that an assembler file defines. Symbols that it does not make global get a name of this file."""
@@ -545,21 +353,3 @@ def read_unit(text: str, file: str, number: int, is_run_time: bool = False) -> U
     own = {it: f"{it}@{number}" for it in defined if it not in unit.globals}
     unit.weak |= unit.globals if is_run_time else set()
     return renamed(unit, own)
-
-
-def renamed(unit: Unit, names: dict[str, str]) -> Unit:
-    def of_value(value: Expression | None) -> Expression | None:
-        return Expression(value.number, names.get(value.symbol, value.symbol), value.half) if value and value.symbol else value
-
-    for it in unit.code:
-        it.labels = [names.get(label, label) for label in it.labels]
-        it.value = of_value(it.value)
-        it.table = names.get(it.table, it.table)
-        it.comes_back = names.get(it.comes_back, it.comes_back)
-    for part in unit.data.values():
-        for datum in part:
-            datum.labels = [names.get(label, label) for label in datum.labels]
-            datum.value = of_value(datum.value)
-    unit.defined = {names.get(it, it) for it in unit.defined}
-    unit.named = {names.get(symbol, symbol): place for symbol, place in unit.named.items()}
-    return unit

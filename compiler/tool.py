@@ -1,5 +1,6 @@
 """Calls the command multiscalar."""
 
+import json
 import os
 import re
 import shutil
@@ -7,6 +8,7 @@ import subprocess
 import tempfile
 from dataclasses import dataclass
 from pathlib import Path
+from typing import Iterator
 
 HERE = Path(__file__).resolve().parent
 # The status of a run that has spent its budget.
@@ -30,6 +32,14 @@ class Steps:
     def key(self) -> tuple:
         """Less is better. Runs that ended compare by steps; others by the instructions that they retired in a step."""
         return (0, self.steps) if self.ended else (1, -self.retired / max(self.steps, 1))
+
+
+@dataclass(frozen=True)
+class Executed:
+    """An instruction that a run executed, and the address of what it loaded or stored."""
+
+    index: int
+    address: int | None
 
 
 def found_command() -> str:
@@ -82,6 +92,15 @@ class Tool:
         if not found:
             raise ToolFailed(f"run: {done.stdout[:500]}{done.stderr[:500]}")
         return Steps(units, int(found[1]), int(found[2]), done.returncode != OUT_OF_BUDGET)
+
+    def executed(self, text: str) -> Iterator[Executed]:
+        """What the run on one unit executes, in order."""
+        words = ["--schedule", "steps", "--units", "1", "--emit", "json", "--budget", str(self.budget)]
+        for line in self.on(text, "run", "--least", *words).stdout.splitlines():
+            event = json.loads(line)
+            if event.get("kind") == "exec" and event["answer"] == "ok":
+                address = next((it["address"] for it in event["changes"] if it["change"] in ("loaded", "stored")), None)
+                yield Executed(event["changes"][0]["index"], address)
 
     def last_word(self, text: str) -> int | None:
         """The last word that a program puts out, if it halts."""

@@ -5,11 +5,12 @@
     compiler/try.py --quick            a minute of it
 
 Each program is translated at -O0 to -O3, by GCC and, for its own programs, by clang, its code as it was, moved or with
-copies of functions, cut and marked in several ways, checked, and run: `seq`, `run` on 1, 4 and
-16 units, and `replay --strict` of the script of a run with its values. What is printed must be what the host prints (not of csmith's programs,
-whose meaning depends on the size of long) and what the program prints that GCC makes for MIPS32 and QEMU runs. The last
-line says how many agree; the status is 0 exactly if none differs. Results are kept in compiler/out, so a run that was
-stopped goes on where it was; a change of a program or of the translator makes its results void.
+copies of functions, cut and marked in several ways, checked, and run: `seq`, `run` on 1, 4 and 16 units, and `replay
+--strict` of the script of a run with its values; its own programs once on their second input, too. What is printed must be
+what the host prints (not of csmith's programs, whose meaning depends on the size of long) and what the program prints that
+GCC makes for MIPS32 and QEMU runs. The last line says how many agree; the status is 0 exactly if none differs. Results are
+kept in compiler/out, so a run that was stopped goes on where it was; a change of a program or of the translator makes its
+results void.
 
 It needs gcc, gcc-mipsel-linux-gnu, qemu-user, libc6-dev-mipsel-cross, csmith and libcsmith-dev; without clang-14 it says
 so and leaves that out. try_steps.py measures.
@@ -71,9 +72,10 @@ class Trial:
     way: Way
     is_csmith: bool
     compiler: str = GCC
+    macros: tuple[str, ...] = ()
 
     def name(self) -> str:
-        return f"{Path(self.source).stem} {self.compiler} -O{self.level} {self.way}"
+        return " ".join([Path(self.source).stem, self.compiler, f"-O{self.level}", *self.macros, str(self.way)])
 
 
 def command(words: list[str], seconds: float = 20) -> tuple[int, str]:
@@ -99,22 +101,23 @@ class References:
 
     def __init__(self, folder: Path) -> None:
         self.folder = folder
-        self.known: dict[str, list[str] | None] = {}
+        self.known: dict[tuple[str, tuple[str, ...]], list[str] | None] = {}
 
     def of(self, trial: Trial) -> list[str] | None:
-        if trial.source not in self.known:
-            self.known[trial.source] = self.found(trial)
-        return self.known[trial.source]
+        key = trial.source, trial.macros
+        if key not in self.known:
+            self.known[key] = self.found(trial)
+        return self.known[key]
 
     def found(self, trial: Trial) -> list[str] | None:
-        headers = [f"-I{it}" for it in includes(trial.is_csmith)]
+        given = [f"-I{it}" for it in includes(trial.is_csmith)] + [f"-D{it}" for it in trial.macros]
         built = str(self.folder / "reference")
         files = files_of(trial.source)
         compilers = [["mipsel-linux-gnu-gcc", "-static", "-fno-pic", "-fno-pie", "-mno-abicalls", "-DMULTISCALAR_HOST"]]
         compilers += [] if trial.is_csmith or len(files) > 1 else [["gcc"]]
         printed = []
         for compiler in compilers:
-            status, said = command([*compiler, "-w", "-O1", *headers, "-o", built, *files], 60)
+            status, said = command([*compiler, "-w", "-O1", *given, "-o", built, *files], 60)
             if status:
                 raise SystemExit(f"{trial.source}: {said}")
             status, said = command([*(["qemu-mipsel"] if "-static" in compiler else []), built], 5)
@@ -130,15 +133,15 @@ class Trials:
     def __init__(self, tool: Tool, folder: Path) -> None:
         self.tool, self.folder = tool, folder
         self.references = References(folder)
-        self.programs: dict[tuple[str, str, str], Program | Exception] = {}
+        self.programs: dict[tuple, Program | Exception] = {}
 
     def program(self, trial: Trial) -> Program:
-        key = trial.source, trial.level, trial.compiler
+        key = trial.source, trial.level, trial.compiler, trial.macros
         if key not in self.programs:
             if len(self.programs) > 30:
                 self.programs.clear()
             try:
-                compiling = Compiling(trial.compiler, trial.level, includes(trial.is_csmith), shows_warnings=False)
+                compiling = Compiling(trial.compiler, trial.level, includes(trial.is_csmith), list(trial.macros), shows_warnings=False)
                 self.programs[key] = program_of(files_of(trial.source), compiling, 1024)
             except (Refused, CompilerFailed) as fault:
                 self.programs[key] = fault
@@ -231,9 +234,10 @@ class Kept:
 
 
 def own_trials() -> list[Trial]:
-    """Each program by GCC at each level in each way, and by clang at each level in one way of two."""
+    """Each program by GCC at each level in each way, and once on its second input; by clang at each level in one way of two."""
     sources = sorted(str(it) for it in (HERE / "programs").glob("*.c"))
     trials = [Trial(source, level, way, False) for source in sources for level in LEVELS for way in WAYS]
+    trials += [Trial(source, LEVELS[n % 4], WAYS[n // 4 % 8], False, GCC, ("SECOND",)) for n, source in enumerate(sources)]
     if not shutil.which(CLANG):
         print(f"{CLANG} is not there, and is not tried")
         return trials
@@ -261,7 +265,7 @@ def table(rows: list[tuple[Trial, str]]) -> str:
     lines = [f"{'programs':<10} {'level':<6} {'way':<52} {'same':>6} {'refused':>8} {'too long':>9} {'different':>10}"]
     groups: dict[tuple[str, str, str], Counter] = {}
     for trial, result in rows:
-        kind = "csmith" if trial.is_csmith else "by clang" if trial.compiler == CLANG else "own"
+        kind = "csmith" if trial.is_csmith else "by clang" if trial.compiler == CLANG else "second" if trial.macros else "own"
         for key in ((kind, f"-O{trial.level}", str(trial.way)), (kind, "all", "all")):
             groups.setdefault(key, Counter())[result.split(":")[0]] += 1
     for (kind, level, way), counts in sorted(groups.items()):
@@ -288,8 +292,15 @@ def arguments() -> argparse.Namespace:
 
 
 def in_turn(trials: list[Trial]) -> list[Trial]:
-    """All trials, mixed in the same way each time, so that a run which is stopped has tried some of each kind."""
-    return random.Random(1).sample(trials, len(trials))
+    """All trials, mixed in the same way each time: first one of each program by each compiler at each level, then another."""
+    mixed = random.Random(1).sample(trials, len(trials))
+    before: Counter = Counter()
+    turns: dict[Trial, int] = {}
+    for trial in mixed:
+        key = trial.source, trial.compiler, trial.level, trial.macros
+        turns[trial] = before[key]
+        before[key] += 1
+    return sorted(mixed, key=turns.get)
 
 
 # What a worker has.

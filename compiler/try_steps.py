@@ -2,10 +2,11 @@
 """Measures what units bring to the programs of compiler/programs: steps against the best cut on one unit.
 
     compiler/try_steps.py [--level 2] [--units 4] [--search 2] [--workers 1] [NAME..]
+    compiler/try_steps.py > docs/FROM_C_STEPS.md
 
 Each program is translated for its first input. The cut that was chosen is then measured on the second input, too, of
-which the search knew nothing (programs/input.h), against the best cut on one unit there. `before` is what cuts by rules
-alone reach, in code as the compiler left it. Steps are the same on each machine. Each row is written as it is known.
+which the search knew nothing (programs/input.h), against the best cut on one unit there. Steps are the same on each
+machine. What it prints is a page; each row comes as it is known.
 """
 
 import argparse
@@ -17,18 +18,16 @@ from dataclasses import dataclass
 from itertools import repeat
 from pathlib import Path
 
-from choice import Choice, Settings, Way, judge
+from bounds import Bound, bound_of
+from choice import Choice, Settings, judge, units_text
 from compiling import Compiling, program_of
-from flow import Flow
 from instructions import Instruction
 from linking import Program
-from releases import MODES
 from search import Trials, chosen, distinct_shapes, rival
 from tool import Tool, ToolFailed
 
 HERE = Path(__file__).resolve().parent
-POLICIES_BEFORE = ("calls", "outer", "loops", "blocks")
-# The programs that take hardly any memory: the share of loads and stores in what they run.
+# The programs that take hardly any memory: the share of loads, stores and outputs in what they run.
 LITTLE = 0.05
 # They try what a program returns, and are too short to be measured.
 NOT_MEASURED = {"exits", "results", "nothing_said", "strings", "switches", "pointers"}
@@ -37,27 +36,35 @@ NOT_MEASURED = {"exits", "results", "nothing_said", "strings", "switches", "poin
 @dataclass
 class Row:
     name: str
-    way: str
-    tasks: int
     on_one: int
-    before: int
     steps: int
-    speed_up: float
     on_second: float | None
-    memory: float
-    bound: float
+    bound: Bound
     waits: str
 
-    def speed_up_before(self) -> float:
-        return self.on_one / self.before
+    @property
+    def speed_up(self) -> float:
+        return self.on_one / self.steps
 
     def text(self) -> str:
         second = f"{self.on_second:.2f}" if self.on_second else "-"
-        numbers = f"{self.on_one:>7} {self.before:>7} {self.steps:>7} {self.speed_up_before():>6.2f} {self.speed_up:>6.2f} {second:>6}"
-        return f"{self.name:<14}{numbers} {100 * self.memory:>5.0f}% {self.bound:>6.2f}  {self.waits:<22} {self.way}"
+        most = f"{self.on_one / self.bound.steps:.2f}, {self.bound.why}"
+        numbers = f"{self.on_one} | {self.steps} | {self.speed_up:.2f} | {second} | {most} | {100 * self.bound.memory:.0f}%"
+        return f"| {self.name} | {numbers} | {self.waits} |"
 
 
-HEADING = f"{'program':<14}{'1 unit':>7} {'before':>7} {'now':>7} {'before':>6} {'now':>6} {'second':>6} {'memory':>6} {'bound':>6}  {'waits':<22} way"
+TOP = """<!-- Printed by compiler/try_steps.py; not to be edited. -->
+# What units bring to programs from C
+
+Steps of the programs of `compiler/programs`, [translated](FROM_C.md) for {units} by {compiler} at -O{level}, each searched for about {seconds:g} seconds (`--search`).
+
+- *One unit*: the best cut there, of all shapes of the code; *steps*: the chosen cut on {units}.
+- *Second*: the speed-up on another input, `-DSECOND`, by the cut that was chosen on the first; - where the compiler makes other code of it.
+- *At most*: what no cut of the chosen code can pass, because a unit executes one *instruction* in a step, because data *memory* and the output are the head's alone, or because in *a chain* each instruction needs the one before.
+- *Memory*: the share of loads, stores and outputs. *Waits*: most of what units wait for: a register *not sent* by another task, or the head's *turn*.
+
+| Program | One unit | Steps | Speed-up | Second | At most | Memory | Waits |
+|---|---|---|---|---|---|---|---|"""
 
 
 def translated(name: str, level: str, macros: list[str]) -> Program:
@@ -68,23 +75,11 @@ def translated(name: str, level: str, macros: list[str]) -> Program:
 
 def row(command: str, name: str, level: str, settings: Settings) -> Row:
     tool = Tool(command)
-    trials = Trials(translated(name, level, []), settings, tool, [])
-    found = chosen(trials)
+    found = chosen(Trials(translated(name, level, []), settings, tool, []))
     best = found.best
-    memory = memory_share(trials)
-    one = found.rival.on_one.steps
-    bound = one / max(found.rival.on_one.retired / settings.units, memory * found.rival.on_one.retired)
-    steps = best.last.steps
-    return Row(name, str(best.way), best.tasks, one, steps_before(trials), steps, one / steps,
-               on_second_input(tool, name, level, settings, best), memory, bound, waits(tool, best.text, settings.units))
-
-
-def steps_before(trials: Trials) -> int:
-    """The best of the four policies, with leaves and releases by rules, in code as it was."""
-    ways = [Way(policy, leaves, "early") for policy in POLICIES_BEFORE for leaves in ("own", "joined")]
-    best = min(ways, key=trials.key)
-    ways += [Way(best.policy, best.leaves, mode) for mode in MODES]
-    return trials.choice(min(ways, key=trials.key)).last.steps
+    second = on_second_input(tool, name, level, settings, best)
+    bound = bound_of(best, tool, settings.units)
+    return Row(name, found.rival.on_one.steps, best.last.steps, second, bound, waits(tool, best.text, settings.units))
 
 
 def on_second_input(tool: Tool, name: str, level: str, settings: Settings, best: Choice) -> float | None:
@@ -107,32 +102,6 @@ def kind(it: Instruction) -> tuple:
     return ("ori" if it.name == "addiu" else it.name, len(it.registers))
 
 
-def memory_share(trials: Trials) -> float:
-    """How many of the instructions that run are loads, stores or outputs."""
-    shape = trials.shape("kept")
-    flow = Flow(shape.program)
-    begins = {index for it in set(shape.trace) for index in [flow.index_of.get(it, -1)]}
-    of_memory = all_of_them = 0
-    sizes: dict[str, tuple[int, int]] = {}
-    for label in shape.trace:
-        if label not in sizes:
-            sizes[label] = size_of(flow, flow.index_of.get(label, -1), begins)
-        of_memory, all_of_them = of_memory + sizes[label][0], all_of_them + sizes[label][1]
-    return of_memory / max(all_of_them, 1)
-
-
-def size_of(flow: Flow, index: int, begins: set[int]) -> tuple[int, int]:
-    """How many instructions of memory a block has, and how many in all."""
-    of_memory = count = 0
-    while 0 <= index < len(flow.code):
-        it = flow.code[index]
-        of_memory, count = of_memory + (it.form in ("load", "store", "out")), count + 1
-        if it.is_branch or not it.goes_on or it.form.startswith("jump") or index + 1 in begins:
-            break
-        index += 1
-    return of_memory, count
-
-
 def waits(tool: Tool, text: str, units: int) -> str:
     """What units wait for most, of what they wait for."""
     said = tool.on(text, "run", "--least", "--schedule", "steps", "--units", str(units), "--emit", "waits").stdout
@@ -150,15 +119,15 @@ def mean(numbers: list[float]) -> float:
 
 
 def means(rows: list[Row]) -> str:
-    lines = [f"{'geometric means':<22} {'programs':>8} {'before':>7} {'now':>7} {'second input':>13}"]
+    lines = ["", "| Geometric means | Programs | Speed-up | Second |", "|---|---|---|---|"]
     for name, some in {
         "all": rows,
-        "with little memory": [it for it in rows if it.memory < LITTLE],
-        "the others": [it for it in rows if it.memory >= LITTLE],
+        f"with a share of memory below {LITTLE:.0%}": [it for it in rows if it.bound.memory < LITTLE],
+        "the others": [it for it in rows if it.bound.memory >= LITTLE],
     }.items():
-        second = mean([it.on_second for it in some if it.on_second])
-        numbers = f"{mean([it.speed_up_before() for it in some]):>7.3f} {mean([it.speed_up for it in some]):>7.3f} {second:>13.3f}"
-        lines.append(f"{name:<22} {len(some):>8} {numbers}")
+        if some:
+            second = mean([it.on_second for it in some if it.on_second])
+            lines.append(f"| {name} | {len(some)} | {mean([it.speed_up for it in some]):.2f} | {second:.2f} |")
     return "\n".join(lines)
 
 
@@ -177,7 +146,8 @@ def main() -> int:
         command = Tool(words.multiscalar).command
     except ToolFailed as failed:
         raise SystemExit(f"try_steps: {failed}") from None
-    print(HEADING)
+    about = {"units": units_text(words.units), "compiler": Compiling().version(), "level": words.level, "seconds": words.search}
+    print(TOP.format(**about), flush=True)
     rows: list[Row] = []
     with ProcessPoolExecutor(words.workers) as pool:
         for it in pool.map(row, repeat(command), names, repeat(words.level), repeat(settings)):

@@ -2,7 +2,7 @@
 #include "input.h"
 #include "multiscalar.h"
 
-static const char text[] = INPUT("3 4 + 5 * 2 - n 100 / d 7 m 9 9 * s", "12 3 / 4 4 * + d * n 55 m 8 - s");
+static const char text[] = INPUT("3 4 + 5 * 2 - n 100 / d 7 m 9 9 * s", "12 3 / 4 4 * + d * n 55 m 8 2 - s");
 
 static int applied(char operation, int left, int right)
 {
