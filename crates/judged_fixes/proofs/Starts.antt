@@ -1,5 +1,5 @@
 -- A byte more, which may be a line feed.
-use Rattle.std.proofs.Common.{◌≡◌, ℕ, ◌+◌, ◌-◌, ◌<◌, ◌≤◌, ◌⊎◌, inl, inr, Bool, true, false, List, [], ◌∷◌, ◌++◌, length, get_or, take, refl, sym, ap, ◌∙◌, subst, arith, below_more}
+use Rattle.std.proofs.Common.{◌≡◌, ℕ, ◌+◌, ◌-◌, ◌<◌, inr, true, false, List, [], ◌∷◌, ◌++◌, length, get_or, take, refl, sym, ap, ◌∙◌, subst, arith, below_more}
 use Rattle.std.specs.Prelude.{◌==◌, count_by, slice_index}
 use Rattle.std.proofs.lemmas.List.{get_or_append_left, get_or-append_right, length_push}
 use Rattle.std.proofs.lemmas.Bool.Decides.{nat_tests}

@@ -180,6 +180,7 @@ fn says_right(fixed: &Option<Fixed>) -> bool
 /// # Errors
 ///
 /// `AllocError` where memory was refused.
+#[tactic(auto, using(crate::proofs::Telling::as_they_are))]
 pub fn judge_fixes(
     alloc: Global,
     text: &[u8],

@@ -1,5 +1,5 @@
 -- The text so far, and what is made of the rest by the edits that are left.
-use Rattle.std.proofs.Common.{◌≡◌, ◌++◌, ℕ, List, drop}
+use Rattle.std.proofs.Common.{◌++◌, ℕ, List, drop}
 use Rattle.judged_fixes.specs.Mended.{IsMended, IsMendedFrom}
 use Rattle.judged_fixes.proofs.mended.mended.Given as goal
 

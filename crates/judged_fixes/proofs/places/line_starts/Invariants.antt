@@ -1,5 +1,5 @@
 -- The lines that begin so far, as many as there are line feeds and one.
-use Rattle.std.proofs.Common.{◌≡◌, ◌+◌, ◌==◌, ◌<◌, length, take}
+use Rattle.std.proofs.Common.{◌≡◌, ◌+◌, ◌==◌, length, take}
 use Rattle.std.specs.Prelude.{count_by}
 use Rattle.judged_fixes.specs.Proposed.{AreLineStarts}
 use Rattle.judged_fixes.proofs.places.line_starts.Given as goal
