@@ -65,11 +65,14 @@ abbrev pub word_in : List ℕ → Option ℕ
 word_in text = option_and_then (λ n. if nat_lt n (2 ^ 32) then Some n else None) (magnitude_of text)
 
 -- `refused K`, by the number of the reason, or `refused K $R`, with the register that is waited for
+abbrev pub refusal_by_number : (words : List ℕ) → Option ExpectedRefusal
+refusal_by_number words = option_map (λ number. record { number = number; register = None }) (word_in words)
+
+abbrev pub refusal_by_register : (words behind : List ℕ) → Option ExpectedRefusal
+refusal_by_register words behind = option_and_then (λ number. option_map (λ r. record { number = number; register = Some r }) (register_in (without_first_spaces behind))) (word_in words)
+
 abbrev pub refusal_words_in : (words : List ℕ) → Option ExpectedRefusal
-refusal_words_in words = option_map_or
-    (λ k. option_and_then (λ number. option_map (λ r. record { number = number; register = Some r }) (register_in (without_first_spaces (drop k words)))) (word_in (take k words)))
-    (position (λ b. b == 32) words)
-    (option_map (λ number. record { number = number; register = None }) (word_in words))
+refusal_words_in words = option_map_or (λ k. refusal_by_register (take k words) (drop k words)) (position (λ b. b == 32) words) (refusal_by_number words)
 
 abbrev pub refusal_in : (content : List ℕ) → Option ExpectedRefusal
 refusal_in content = refusal_words_in (without_first_spaces (drop 8 (behind_colon content)))

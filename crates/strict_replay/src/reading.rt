@@ -6,7 +6,7 @@ ghost use Rattle.std.specs.List.{list_all};
 ghost use Rattle.std.specs.Option.{option_map};
 ghost use Rattle.program_tokens.specs.Numbers.{magnitude_of, number_in};
 ghost use Rattle.strict_replay.specs.declared.expectation.Expectation.TheVariants.{Ends};
-ghost use Rattle.strict_replay.specs.StrictScript.{address_in, at_place, behind_colon, content, cut_in, equation_in, event_text, expectation_in, expectation_of, expects_refusal, is_silent, refusal_in, sending_in, standing_in, trap_in, trimmed, without_first_spaces, without_last_spaces, word_in};
+ghost use Rattle.strict_replay.specs.StrictScript.{address_in, at_place, behind_colon, content, cut_in, equation_in, event_text, expectation_in, expectation_of, expects_refusal, is_silent, refusal_by_number, refusal_by_register, refusal_in, refusal_words_in, sending_in, standing_in, trap_in, trimmed, without_first_spaces, without_last_spaces, word_in};
 
 use crate::expectation::{Expectation, ExpectedRefusal};
 use event_script::reading::register_of;
@@ -109,22 +109,45 @@ pub(crate) fn expects_refusal(content: &[u8]) -> bool
     behind_colon(content).starts_with(b"refused ".as_slice())
 }
 
-/// The refusal that a line expects, by its number and perhaps its register.
+/// The refusal of this number.
+fn refusal_by_number(words: &[u8]) -> Option<ExpectedRefusal>
+    ensures { result ≡ refusal_by_number words.now }
+{
+    let number = word_in(words)?;
+    Some(ExpectedRefusal {
+        number,
+        register: None,
+    })
+}
+
+/// The refusal of this number, which waits for this register.
+fn refusal_by_register(words: &[u8], behind: &[u8]) -> Option<ExpectedRefusal>
+    ensures { result ≡ refusal_by_register words.now behind.now }
+{
+    let number = word_in(words)?;
+    let register = register_of(without_first_spaces(behind))?;
+    Some(ExpectedRefusal {
+        number,
+        register: Some(register),
+    })
+}
+
+/// The refusal that words spell: its number, and perhaps its register.
+fn refusal_words_in(words: &[u8]) -> Option<ExpectedRefusal>
+    ensures { result ≡ refusal_words_in words.now }
+{
+    match place_of(b' ', words) {
+        None => refusal_by_number(words),
+        Some(end) => refusal_by_register(&words[..end], &words[end..]),
+    }
+}
+
+/// The refusal that a line expects.
 pub(crate) fn refusal_in(content: &[u8]) -> Option<ExpectedRefusal>
     requires { expects_refusal content.now ≡ true }
     ensures { result ≡ refusal_in content.now }
 {
-    let words = without_first_spaces(&behind_colon(content)[8..]);
-    match place_of(b' ', words) {
-        None => Some(ExpectedRefusal {
-            number: word_in(words)?,
-            register: None,
-        }),
-        Some(end) => Some(ExpectedRefusal {
-            number: word_in(&words[..end])?,
-            register: Some(register_of(without_first_spaces(&words[end..]))?),
-        }),
-    }
+    refusal_words_in(without_first_spaces(&behind_colon(content)[8..]))
 }
 
 /// The word that digits of a radix spell, with 2^32 for a larger one.
