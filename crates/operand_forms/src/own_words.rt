@@ -270,7 +270,7 @@ const KINDS: [((&str, &str), &str); 62] = [
 ];
 
 /// Of words of other assemblers.
-const OF_OTHERS: [((&str, &str), &str); 103] = [
+const OF_OTHERS: [((&str, &str), &str); 57] = [
     (("sub", "$,$,-"), "write addiu B,D,~F!"),
     (("subi", "$,$,-"), "write addiu B,D,~F!"),
     (("subiu", "$,$,-"), "write addiu B,D,~F!"),
@@ -328,6 +328,10 @@ const OF_OTHERS: [((&str, &str), &str); 103] = [
     (("ble", "$,-,a"), "write slti $1,B,^D and bne $1,$0,F!"),
     (("sge", "$,$,$"), "write slt B,D,F and xori B,B,1!"),
     (("sle", "$,$,$"), "write slt B,F,D and xori B,B,1!"),
+];
+
+// Further ones: comparisons of unsigned values, negations and products.
+const FURTHER_OF_OTHERS: [((&str, &str), &str); 46] = [
     (("sgtu", "$,$,$"), "write sltu B,F,D!"),
     (("sgtu", "$,$,0"), "write sltiu B,D,^F and xori B,B,1!"),
     (("sgeu", "$,$,0"), "write sltiu B,D,F and xori B,B,1!"),
@@ -570,6 +574,11 @@ fn foreign_row(word: &[u8], form: &str, signs: &[u8]) -> Option<&'static str> {
     row_of_signs(&OF_OTHERS, word, form, signs)
 }
 
+/// What is written instead of a line with a further word of another assembler.
+fn further_row(word: &[u8], form: &str, signs: &[u8]) -> Option<&'static str> {
+    row_of_signs(&FURTHER_OF_OTHERS, word, form, signs)
+}
+
 /// What is written instead of a line with this word and these signs, if it is known.
 fn line_instead(word: &[u8], form: &str, signs: &[u8]) -> Option<&'static str> {
     if is_constant(word, signs) {
@@ -581,9 +590,12 @@ fn line_instead(word: &[u8], form: &str, signs: &[u8]) -> Option<&'static str> {
     if let Some(text) = number_row(word, form, signs) {
         return Some(text);
     }
-    match kind_row(word, form, signs) {
+    if let Some(text) = kind_row(word, form, signs) {
+        return Some(text);
+    }
+    match foreign_row(word, form, signs) {
         Some(text) => Some(text),
-        None => foreign_row(word, form, signs),
+        None => further_row(word, form, signs),
     }
 }
 
