@@ -6,7 +6,7 @@ ghost use Rattle.mark_subjects.specs.Parts.{paths, way_paths};
 ghost use Rattle.exit_diagnostics.specs.Exits.{unlisted, lacking, is_taken, wrong_number};
 
 use crate::advice::Names;
-use crate::going::{Going, going_on, task_line};
+use crate::going::{going_on, task_line};
 use crate::jump::may_go_on;
 use crate::meant::meant_help;
 use crate::slot::slot_or;
@@ -175,12 +175,7 @@ fn begin_help(subject: &Subject, task: u32, to: u32, places: &[u32]) -> Made<Hel
     let besides = words!(in alloc; ", and make it a target of task {name}")?;
     let message = task_to_begin(subject, to, besides.as_str())?;
     let changes = match going_on(subject, task, places)? {
-        Some(
-            Going {
-                targets: _,
-                changes,
-            },
-        ) => changes,
+        Some(going) => going.into_changes(),
         None => Vec::new(alloc),
     };
     Ok(Help {

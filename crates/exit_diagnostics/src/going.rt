@@ -18,6 +18,17 @@ pub struct Going {
     pub changes: Vec<Replacement>,
 }
 
+impl Going {
+    /// The changes alone.
+    pub fn into_changes(self) -> Vec<Replacement> {
+        let Going {
+            targets: _,
+            changes,
+        } = self;
+        changes
+    }
+}
+
 /// The last line with a `.task`.
 fn last_task_line(subject: &Subject) -> u32 {
     let mut last = 1;

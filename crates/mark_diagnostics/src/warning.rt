@@ -299,14 +299,8 @@ fn unreached_advice(subject: &Subject, index: u32) -> Made<(Words, Help)> {
     let rest = if is_end(back(subject, before), index) {
         let seen = missing_at(subject, index).map(|jump| jump.task);
         if let Some(task) = seen {
-            if let Some(
-                Going {
-                    targets: _,
-                    changes: more,
-                },
-            ) = going_on(subject, task, &[index])?
-            {
-                changes = more;
+            if let Some(going) = going_on(subject, task, &[index])? {
+                changes = going.into_changes();
             }
         }
         let coming = match seen.or(coming_back(subject, before)) {
