@@ -22,7 +22,7 @@ impl Going {
     /// The changes alone.
     pub fn into_changes(self) -> Vec<Replacement> {
         let Going {
-            targets: _,
+            targets: _targets,
             changes,
         } = self;
         changes
