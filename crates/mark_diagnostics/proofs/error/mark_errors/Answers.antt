@@ -36,7 +36,8 @@ pub told_diagnostics-requires-clause-found : goal.told_diagnostics-requires-clau
 told_diagnostics-requires-clause-found c =
     let p = c.args.program.now in
     let cert = c.args.least.now in
-    let first : c.deref.result.now ≡ take most_shown (all_told p cert) = c.deref.ensures.value ∙ c.in_ok-first.ensures.list in
+    let over : c.survey-survey.result ≡ p = c.survey-survey.ensures ∙ c.in_ok-surveyed.ensures in
+    let first : c.deref.result.now ≡ take most_shown (all_told p cert) = c.deref.ensures.value ∙ c.in_ok-first.ensures.list ∙ ap (λ (q : Listing). take most_shown (all_told q cert)) over in
     subst (λ (q : Listing). All (IsFinding q) c.deref.result.now) (sym c.in_ok-subject.ensures.program)
     (subst (λ (fs : List Finding). All (IsFinding p) fs) (sym first) (found_told p cert most_shown c.requires.least))
 
@@ -49,8 +50,9 @@ returns c =
     let a = c.in_ok-subject.ensures.program in
     let b = c.in_ok-subject.ensures.least in
     let first = c.in_ok-list.list.items in
-    let told : c.deref.result.now ≡ take most_shown (all_told p cert) = c.deref.ensures.value ∙ c.in_ok-first.ensures.list in
-    let more = c.saturating_sub-more.ensures ∙ ap (λ n. n - most_shown) c.in_ok-first.ensures.count in
+    let over : c.survey-survey.result ≡ p = c.survey-survey.ensures ∙ c.in_ok-surveyed.ensures in
+    let told : c.deref.result.now ≡ take most_shown (all_told p cert) = c.deref.ensures.value ∙ c.in_ok-first.ensures.list ∙ ap (λ (q : Listing). take most_shown (all_told q cert)) over in
+    let more = c.saturating_sub-more.ensures ∙ ap (λ n. n - most_shown) (c.in_ok-first.ensures.count ∙ ap (λ (q : Listing). length (all_told q cert)) over) in
     something_wrong text c.add_more.new.list.items first s c.in_ok-subject.ensures.judged (of_judged IsLeast s p cert a b c.requires.least)
     (of_judged (λ q d. Sound q → all_rules q d ≡ []) s p cert a b
     (λ sound. ((c.least_decides.ensures p cert c.tasks.ensures.well_formed c.requires.least).1 sound).nothing_found))

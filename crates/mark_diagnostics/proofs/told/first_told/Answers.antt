@@ -40,13 +40,13 @@ loop-task-preserved c =
 pub returns-clause-list : goal.returns-clause-list
 returns-clause-list c =
     let p = c.args.survey.now in
-    let end : length c.tasks-task-end.result.now ≡ length p.tasks = ap (λ (ds : List Descriptor). length ds) (c.tasks-task-end.ensures.value ∙ ap (λ (q : Listing). q.tasks) c.program-task-end.ensures) in
+    let end : length c.tasks-task-end.result.now ≡ length p.tasks = ap (λ (ds : List Descriptor). length ds) (c.tasks-task-end.ensures.value ∙ ap (λ (q : Listing). q.tasks) c.program.ensures) in
     let last : c.loop-task.task ≡ length p.tasks = omega (arith, end, c.loop-task.auto.task-end, c.loop-task-test.false) in
     c.loop-task.invariant.list ∙ ap (λ n. take c.args.most (flat_map (told_of p c.args.cert.now) (range_with_len 0 n))) last
 
 pub returns-clause-count : goal.returns-clause-count
 returns-clause-count c =
     let p = c.args.survey.now in
-    let end : length c.tasks-task-end.result.now ≡ length p.tasks = ap (λ (ds : List Descriptor). length ds) (c.tasks-task-end.ensures.value ∙ ap (λ (q : Listing). q.tasks) c.program-task-end.ensures) in
+    let end : length c.tasks-task-end.result.now ≡ length p.tasks = ap (λ (ds : List Descriptor). length ds) (c.tasks-task-end.ensures.value ∙ ap (λ (q : Listing). q.tasks) c.program.ensures) in
     let last : c.loop-task.task ≡ length p.tasks = omega (arith, end, c.loop-task.auto.task-end, c.loop-task-test.false) in
     c.loop-task.invariant.count ∙ ap (λ n. length (flat_map (told_of p c.args.cert.now) (range_with_len 0 n))) last
