@@ -318,13 +318,21 @@ class Page {
     return view === 'run' ? { view: 'lecture' } : { view, layout: 'lecture' };
   }
 
+  // Texts are packed in the background: what is done before the newest is dropped.
   saveLink() {
     clearTimeout(this.saving);
     if (!this.isOpen) return;
-    this.saving = setTimeout(async () => {
+    const saving = setTimeout(async () => {
       await this.entered;
-      this.takeHash(await writeLink(this.linkState()));
+      const hash = await writeLink(this.linkState());
+      if (saving === this.saving) this.takeHash(hash);
     }, 250);
+    this.saving = saving;
+  }
+
+  stopSaving() {
+    clearTimeout(this.saving);
+    this.saving = null;
   }
 
   // Puts the state into the address, unless it is too long for one.
@@ -342,7 +350,7 @@ class Page {
   // Leaves the state as it is now in the browser's history, and begins another entry.
   enterHistory() {
     if (!this.isOpen) return;
-    clearTimeout(this.saving);
+    this.stopSaving();
     const state = this.linkState();
     this.entered = Promise.resolve(this.entered).then(async () => {
       this.takeHash(await writeLink(state));
@@ -367,6 +375,7 @@ class Page {
   async openLink(hash) {
     const { state, fault } = await readLink(hash);
     this.isOpen = false;
+    this.stopSaving();
     this.sayLinkFault(fault ?? this.missingOf(state));
     this.exercises.fromLink(state, fault !== null);
     this.kept = state.kept ?? null;
