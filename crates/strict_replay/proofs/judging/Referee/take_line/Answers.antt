@@ -9,5 +9,5 @@ returns-in-Ok c =
     let names = c.args.self.now.names.now in
     let m = c.args.walk in
     let number = c.args.number in
-    subst (λ (text : List ℕ). IfOk c.take_event.result (λ taken. MatchResult taken (Passes names m number text) (λ departs. Departs names m number text departs.0)))
-    c.content-content.ensures c.take_event.ensures
+    subst (λ (text : List ℕ). IfOk c.take_refusal.result (λ taken. MatchResult taken (Passes names m number text) (λ departs. Departs names m number text departs.0)))
+    c.content-content.ensures c.take_refusal.ensures

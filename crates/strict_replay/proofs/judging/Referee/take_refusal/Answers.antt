@@ -10,10 +10,10 @@ pub returns-in-None : goal.returns-in-None
 returns-in-None c =
     refusal_passes c.args.self.now.names.now c.args.walk c.args.number c.args.content.now c.args.event c.requires.loud c.requires.spelt c.requires.refused
     c.in_ok-next.next c.in_ok-next.told c.in_ok-next.ensures.on c.in_ok-next.ensures.told
-    (c.in-None.ensures ∙ ap (λ (r : Option ExpectedRefusal). refusal_unmet r (refusal_told c.in_ok-next.told)) c.refusal_in.ensures)
+    (c.in-None.ensures ∙ ap (λ (r : Option ExpectedRefusal). refusal_unmet r (refusal_told c.in_ok-next.told)) c.refusal_in-expected.ensures)
 
 pub returns : goal.returns
 returns c =
     refusal_departs_so c.args.self.now.names.now c.args.walk c.args.number c.args.content.now c.args.event c.requires.loud c.requires.spelt c.requires.refused
     c.in_ok-next.told c.in-Some.why c.in_ok-next.ensures.told
-    (c.in-Some.ensures ∙ ap (λ (r : Option ExpectedRefusal). refusal_unmet r (refusal_told c.in_ok-next.told)) c.refusal_in.ensures)
+    (c.in-Some.ensures ∙ ap (λ (r : Option ExpectedRefusal). refusal_unmet r (refusal_told c.in_ok-next.told)) c.refusal_in-expected.ensures)
