@@ -368,6 +368,8 @@ def many_tasks(folder, traces):
 TIMES, LEAST_SECONDS, GATE_MEMORY, TRIES = 3, 1, 512, 3
 # `explain` of two million labels of one name in one line reads them once more, with their places: five times.
 SLOWER = {("one label many times", "explain"): 5}
+# `explain` reads a refused text to its end, and once more where it judges a fix: two seconds.
+SECONDS = {"explain": 2}
 # In how many seconds the interpreter counts to ten million on the machine whose second is meant.
 COUNTED = 0.3
 # Of a run that writes on the way.
@@ -477,7 +479,7 @@ def gate(program, only=""):
             if text not in least:
                 least[text] = ran(program, ["check", "--least", str(text)], folder).processor
             for _ in range(TRIES):
-                most = max(second(), SLOWER.get((kind, words[0]), TIMES) * least[text])
+                most = max(second() * SECONDS.get(words[0], 1), SLOWER.get((kind, words[0]), TIMES) * least[text])
                 ended = ran(program, [str(word) for word in words], folder, most, kind.endswith(AT_TERMINAL))
                 if not is_dear(ended, most, memory):
                     break
