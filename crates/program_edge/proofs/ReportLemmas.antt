@@ -29,7 +29,7 @@ use Rattle.program_edge.specs.Streams.{IsBroken, IsToldAlone, World}
 use Rattle.program_edge.specs.Beside.{Audience, IsBeside, IsRest, is_kept, is_played}
 use Rattle.program_edge.specs.Hints.{IsHint, IsSaid}
 use Rattle.explain_report.specs.LeftOvers.{IsLeftOver}
-use Rattle.shown_names.specs.Shown.{shown}
+use Rattle.shown_names.specs.Shown.{shown as shown_name}
 use Rattle.program_edge.specs.Refusals.{is_refusal}
 use Rattle.verdict_report.specs.declared.fault.ServeFault.{ServeFault}
 use Rattle.verdict_report.specs.declared.fault.ServeFault.TheVariants as serve
@@ -175,9 +175,9 @@ not_false false h = absurd (cc)
 unkept_rest : (t w : Bool) (job : Job) (program name : List ℕ) (written : Report) → ((t || w) && not (is_played job)) ≡ false
     → IsRest (t || w) w job program name written []
 unkept_rest false false job program name written h = refl
-unkept_rest false true job program name written h = (None, played_leaves job program (shown name) written (not_false (is_played job) h), refl)
-unkept_rest true false job program name written h = (None, played_leaves job program (shown name) written (not_false (is_played job) h), refl)
-unkept_rest true true job program name written h = (None, played_leaves job program (shown name) written (not_false (is_played job) h), refl)
+unkept_rest false true job program name written h = (None, played_leaves job program (shown_name name) written (not_false (is_played job) h), refl)
+unkept_rest true false job program name written h = (None, played_leaves job program (shown_name name) written (not_false (is_played job) h), refl)
+unkept_rest true true job program name written h = (None, played_leaves job program (shown_name name) written (not_false (is_played job) h), refl)
 
 beside_unkept : (audience : Audience) (job : Job) (program : List ℕ) (written : Report) (hint : List ℕ) → is_kept audience job ≡ false
     → IsHint audience.is_terminal job written.status hint → IsBeside audience job program written hint
