@@ -2,11 +2,11 @@
 """Measures what units bring to the programs of compiler/programs: steps against the best cut on one unit.
 
     compiler/try_steps.py [--level 2] [--units 4] [--search 2] [--workers 1] [NAME..]
-    compiler/try_steps.py > docs/FROM_C_STEPS.md
+    compiler/try_steps.py > compiler/steps.txt
 
 Each program is translated for its first input. The cut that was chosen is then measured on the second input, too, of
 which the search knew nothing (programs/input.h), against the best cut on one unit there. Steps are the same on each
-machine. What it prints is a page; each row comes as it is known.
+machine. What it prints is that file; each row comes as it is known.
 """
 
 import argparse
@@ -53,10 +53,9 @@ class Row:
         return f"| {self.name} | {numbers} | {self.waits} |"
 
 
-TOP = """<!-- Printed by compiler/try_steps.py; not to be edited. -->
-# What units bring to programs from C
+TOP = """What units bring to programs from C. Printed by compiler/try_steps.py; not to be edited.
 
-Steps of the programs of `compiler/programs`, [translated](FROM_C.md) for {units} by {compiler} at -O{level}, each searched for about {seconds:g} seconds (`--search`).
+Steps of the programs of `compiler/programs`, translated for {units} by {compiler} at -O{level}, each searched for about {seconds:g} seconds (`--search`).
 
 - *One unit*: the best cut there, of all shapes of the code; *steps*: the chosen cut on {units}.
 - *Second*: the speed-up on another input, `-DSECOND`, by the cut that was chosen on the first; - where the compiler makes other code of it.
