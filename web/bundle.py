@@ -14,7 +14,7 @@ NAME = re.compile(r'^(?:export )?(?:async )?(?:function|class|const|let) (\w+)',
 MOST = 3_000_000
 # The examples of the page, in the order of its list, and what each is.
 CHOSEN = {
-    'count/program.s': 'a loop, a task for each round',
+    'count/program.s': 'a loop, a task for each iteration',
     'tutorial/plain.s': 'a loop before it is cut into tasks',
     'tutorial/cut.s': 'one mark is wrong',
     'tutorial/late.s': 'right marks, nothing forwarded',

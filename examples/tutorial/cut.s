@@ -1,4 +1,4 @@
-# The loop cut into tasks, one for each round. One mark is wrong.
+# The loop cut into tasks, one for each iteration. One mark is wrong.
 
 .task LOOP create=$8,$10,$11 targets=LOOP,DONE
 .task DONE create=- targets=-

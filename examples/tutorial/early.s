@@ -1,4 +1,4 @@
-# The loop again. The number of the round is forwarded, so the next round can begin.
+# The loop again. The number of the iteration is forwarded, so the next one can begin.
 
 .task LOOP create=$8,$9,$10,$11 targets=LOOP,DONE
 .task DONE create=- targets=-
