@@ -52,6 +52,8 @@ EFFECTS = {
     "Halt": "ends the run",
 }
 
+# Words that a crate's name leaves out.
+PARTICLES = "a the of by at in to and one how what is are that program text".split()
 
 source = lambda path: (CRATES / path).read_text()
 one_line = lambda text: re.sub(r"\s+", " ", text).strip()
@@ -153,7 +155,7 @@ def limits():
 
 
 def crates():
-    """The layers of crates.txt, with the first words of each crate; of tests the names alone."""
+    """The layers of crates.txt, with the first words of each crate, unless they say its name again; tests in one line."""
     lines = []
     for line in (TOP / "crates.txt").read_text().splitlines()[1:]:
         if line.startswith("#"):
@@ -165,7 +167,10 @@ def crates():
             comment = re.sub(r" \([^)]*ISCA[^)]*\)", "", one_line(comment))
             said = re.match(r"(?:\S+ ){,1}\S+:(?:(?: \S+){,6},)?[^,]*?(?=[:;.,]( |$))|.*?(?=[:;.]( |$))", comment)[0]
             said = (re.match(r"(?:\S+ ){3,}?\S+(?=, )", said) or [said])[0] if said.count(" ") > 10 and ": " not in said else said
-            lines.append(f"- `{name}`" + ("" if name.startswith("test_") else f": {said[:1].lower() + said[1:]}"))
+            said = said[:1].lower() + said[1:]
+            is_name = all(it in PARTICLES or it.removesuffix("s").removesuffix("ed") in name for it in re.findall(r"\w+", said))
+            more = name.startswith("test_") and lines[-1].startswith("- ")
+            lines.append((lines.pop() + ", " if more else "- ") + f"`{name}`" + ("" if is_name or name.startswith("test_") else f": {said}"))
     return "\n".join(lines).strip()
 
 
