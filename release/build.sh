@@ -112,7 +112,7 @@ Priority: optional
 Description: proved checker and runner for annotated Multiscalar programs
  A compiler marks where the tasks of a program begin and end. A Multiscalar
  processor cuts the running program along these marks and runs several tasks
- at once on a ring of units; more marks say when each register leaves its
+ at once on a ring of units; more marks tell when each register leaves its
  task. This program checks the marks on every path, explains those that are
  wrong, and runs programs whose marks are right. Each of its functions is
  proved against its contract.
