@@ -99,11 +99,11 @@ def faults(program, page, folder, begins):
         for (command, answer), (now, _) in zip(pairs, said):
             if now != answer:
                 found.append(f"$ {command}\n    " + now.replace("\n", "\n    "))
-        drawn, wrong = written(copy, TOP / folder, begins)
         others = silent(text)
         for command, (now, status) in zip(others, answers(program, copy, others)):
             if int(status) not in (0, 1, 3):
                 found.append(f"{command}\n    status {status}: " + now.replace("\n", "\n    "))
+        drawn, wrong = written(copy, TOP / folder, begins)
     if begins:
         shown = set(re.findall(r"\]\(pictures/([^)]*)\)", text))
         wrong += [f"{picture} is not drawn" for picture in sorted(shown - drawn)]
