@@ -18,7 +18,7 @@ from tasks import POLICIES, heads, leaders
 from tool import Steps, Tool
 
 # What a trial costs in seconds: to make the text, for each instruction of it, to run it, for each step of that.
-TEXT, INSTRUCTION, RUN, STEP = 0.01, 0.0001, 0.01, 0.000001
+TEXT, INSTRUCTION, RUN, STEP = 0.005, 0.00006, 0.003, 0.0000006
 # How many of the best cuts by rules the search goes on from.
 BEGINS = 3
 
