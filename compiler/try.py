@@ -3,6 +3,7 @@
 
     compiler/try.py                    the programs of compiler/programs and 300 of csmith: half an hour of one core
     compiler/try.py --quick            a minute of it
+    compiler/try.py --seq              compares what `seq` prints alone
 
 Each program is translated at -O0 to -O3, by GCC and, for its own programs, by clang, its code as it was, moved or with
 copies of functions, cut and marked in several ways, checked, and run: `seq`, `run` on 1, 4 and 16 units, and `replay
