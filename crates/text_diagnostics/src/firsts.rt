@@ -44,15 +44,16 @@ pub(crate) struct First {
 
 /// Names, each with the item that defines it first.
 #[derive(Drop)]
-pub(crate) struct Firsts<'a> {
-    rows: IndexMap<&'a str, First, NameKey>,
+pub(crate) struct Firsts {
+    alloc: Global,
+    rows: IndexMap<String, First, NameKey>,
 }
 
-impl<'a> Firsts<'a> {
+impl Firsts {
     /// No names. Names added later are hashed with the key.
-    pub(crate) fn new(alloc: Global, key: NameKey) -> Firsts<'a> {
+    pub(crate) fn new(alloc: Global, key: NameKey) -> Firsts {
         let rows = IndexMap::with_hasher(alloc, key);
-        Firsts { rows }
+        Firsts { alloc, rows }
     }
 
     /// The item that first defines a name, if one does.
@@ -61,10 +62,11 @@ impl<'a> Firsts<'a> {
     }
 
     /// Adds a name that an item defines, unless one before it does; returns whether one does.
-    pub(crate) fn add(&mut self, name: &'a str, item: First) -> Made<bool> {
+    pub(crate) fn add(&mut self, name: &str, item: First) -> Made<bool> {
         let is_again = self.get(name).is_some();
         if !is_again {
-            self.rows.insert(name, item)?;
+            let key = String::from_str(self.alloc, name)?;
+            self.rows.insert(key, item)?;
         }
         Ok(is_again)
     }

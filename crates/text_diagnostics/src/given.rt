@@ -19,7 +19,7 @@ pub(crate) struct Given<'a> {
     /// Its lines.
     pub(crate) rows: &'a [&'a [u8]],
     /// What was read.
-    pub(crate) known: &'a Known<'a>,
+    pub(crate) known: &'a Known,
 }
 
 /// How much of a program there is.
@@ -48,7 +48,7 @@ pub(crate) struct TaskEntry {
 
 /// What was read of a text, and what has to be known of all of it to judge one of its items.
 #[derive(Drop)]
-pub(crate) struct Known<'a> {
+pub(crate) struct Known {
     /// Its labels, statements and faults, but for those of which nothing is said.
     pub(crate) items: Vec<Item>,
     /// Its statements.
@@ -56,9 +56,9 @@ pub(crate) struct Known<'a> {
     /// How many mistakes the items have that are left out.
     pub(crate) left_out: usize,
     /// Its labels.
-    pub(crate) labels: Firsts<'a>,
+    pub(crate) labels: Firsts,
     /// Its tasks, by their names.
-    pub(crate) tasks: Firsts<'a>,
+    pub(crate) tasks: Firsts,
     /// The first item that says where the program starts.
     pub(crate) start: Option<usize>,
     /// The first item that is a label of code or an instruction.
@@ -111,7 +111,7 @@ impl Amounts {
     }
 }
 
-impl<'a> Known<'a> {
+impl Known {
     /// The first label of this name, if it stands in code.
     pub(crate) fn code_label(&self, name: &str) -> Option<First> {
         let first = self.labels.get(name)?;

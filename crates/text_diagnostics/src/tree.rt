@@ -22,9 +22,9 @@ use std::alloc::{AllocError, Global};
 
 /// What is read of a text so far.
 #[derive(Drop)]
-struct Tree<'a> {
+struct Tree {
     alloc: Global,
-    known: Known<'a>,
+    known: Known,
     /// How many of the items are certain to have a mistake.
     wrong: usize,
     /// The number of the line, counted from 1.
@@ -34,7 +34,7 @@ struct Tree<'a> {
     meant: Option<Section>,
 }
 
-impl<'a> Tree<'a> {
+impl Tree {
     /// Adds an item of the line, which begins at a token and a column.
     fn add(&mut self, token: usize, column: usize, width: usize, said: Said) -> Made<()> {
         self.known.items.push(Item {
@@ -76,7 +76,7 @@ impl<'a> Tree<'a> {
     }
 
     /// Adds the label of a token, with the name that stands at a column.
-    fn add_label(&mut self, token: usize, column: usize, name: &'a [u8]) -> Made<()> {
+    fn add_label(&mut self, token: usize, column: usize, name: &[u8]) -> Made<()> {
         let next = self.next();
         let is_again = self.known.labels.add(in_text(name), next)?;
         let said = Said::Label(is_again);
@@ -91,7 +91,7 @@ impl<'a> Tree<'a> {
     }
 
     /// Adds the labels at the beginning of a line, over which it walks.
-    fn add_labels(&mut self, labels: &[Token], walk: &mut Walk<'a>) -> Made<()> {
+    fn add_labels(&mut self, labels: &[Token], walk: &mut Walk<'_>) -> Made<()> {
         for (number, token) in labels.iter().enumerate() {
             walk.to_token();
             if let Token::Name(name) = token {
@@ -106,7 +106,7 @@ impl<'a> Tree<'a> {
     }
 
     /// Takes in what a statement defines that stands at the beginning of a text.
-    fn define(&mut self, statement: &Statement, text: &'a [u8]) -> Made<()> {
+    fn define(&mut self, statement: &Statement, text: &[u8]) -> Made<()> {
         let next = self.next();
         match statement {
             Statement::Task(task) => {
@@ -129,7 +129,7 @@ impl<'a> Tree<'a> {
     }
 
     /// Adds a statement whose first token has this number.
-    fn add_statement(&mut self, token: usize, walk: &Walk<'a>, statement: Statement) -> Made<()> {
+    fn add_statement(&mut self, token: usize, walk: &Walk<'_>, statement: Statement) -> Made<()> {
         if matches!(&statement, Statement::Empty) {
             return Ok(());
         }
@@ -154,7 +154,7 @@ impl<'a> Tree<'a> {
     }
 
     /// Adds the labels of a line, and its statement.
-    fn add_tokens(&mut self, row: &'a [u8], tokens: &[Token]) -> Made<()> {
+    fn add_tokens(&mut self, row: &[u8], tokens: &[Token]) -> Made<()> {
         let labels = label_tokens(tokens);
         let mut walk = Walk::new(row);
         self.add_labels(first(tokens, labels), &mut walk)?;
@@ -168,7 +168,7 @@ impl<'a> Tree<'a> {
     }
 
     /// Adds the items of a line. The tokens are replaced by its own.
-    fn add_line(&mut self, row: &'a [u8], tokens: &mut Vec<Token>) -> Made<()> {
+    fn add_line(&mut self, row: &[u8], tokens: &mut Vec<Token>) -> Made<()> {
         match read_tokens(tokens, row) {
             Ok(()) => self.add_tokens(row, tokens),
             Err(TokenFault::NotAscii) => self.add_fault(row, LineFaultKind::NotAscii, &[]),
@@ -179,7 +179,7 @@ impl<'a> Tree<'a> {
 }
 
 /// Where the tasks of a text begin, and whether all of them do at a label of code.
-fn entries_of(alloc: Global, known: &Known<'_>) -> Made<(Vec<TaskEntry>, bool)> {
+fn entries_of(alloc: Global, known: &Known) -> Made<(Vec<TaskEntry>, bool)> {
     let mut entries = Vec::new(alloc);
     let mut is_placed = true;
     for (number, item) in known.items.iter().enumerate() {
@@ -201,7 +201,7 @@ fn entries_of(alloc: Global, known: &Known<'_>) -> Made<(Vec<TaskEntry>, bool)> 
 }
 
 /// What is known of a text that has these lines.
-pub(crate) fn known_of<'a>(alloc: Global, text: &[u8], rows: &'a [&'a [u8]]) -> Made<Known<'a>> {
+pub(crate) fn known_of(alloc: Global, text: &[u8], rows: &[&[u8]]) -> Made<Known> {
     let key = NameKey::of(text);
     let known = Known {
         items: Vec::new(alloc),
