@@ -1,4 +1,3 @@
-mod Imports
 pub mod PlainReads
 pub mod SeenReads
 pub mod ShownReads
