@@ -1,30 +1,13 @@
 -- The least certificate of a sound program is accepted: each rule asks of the least masks what soundness
 -- says of paths.
-use Rattle.std.proofs.Common.{◌≡◌, ℕ, ◌+◌, ◌<◌, ◌≤◌, ◌⊎◌, Bool, true, false, not, ◌&&◌, ◌||◌, nat_eq, nat_lt, nat_le, if◌then◌else◌, Option, Some, None, List, [], ◌∷◌, map, length, get_or, slice_get, refl, sym, ◌∙◌, ap, subst, inl, inr, arith, suc, zero}
-use Rattle.std.specs.Prelude.{is_none, is_some}
-use Rattle.std.specs.List.{list_any}
-use Rattle.std.specs.List.Sorted.{IsStrictlyIncreasing}
-use Rattle.std.proofs.Math.Nat.{suc-add}
-use Rattle.std.proofs.lemmas.Bool.{or_cases, or_left, or_right, or_from, cases_Bool, cases_eq, ltb-true, ltb-false, lt-leb, eqb-true, eq-eqb, eqb-false, ne_eqb, cond-true, cond-false, and_parts}
-use Rattle.std.proofs.lemmas.List.{length-map}
-use Rattle.mips_instructions.specs.Words.{has}
-use Rattle.mips_instructions.specs.Instruction.{dests, released}
-use Rattle.task_descriptor.specs.Listing.{Listing, IsWellFormed}
-use Rattle.task_descriptor.specs.declared.descriptor.Marked.{Marked}
-use Rattle.task_descriptor.specs.declared.descriptor.Descriptor.{Descriptor}
-use Rattle.task_graph.specs.Edges.{Edge, Path, stay, onward, MayWrite, end_of, ends_of, sends, is_indirect}
-use Rattle.task_graph.specs.Members.{Reaches}
+use Rattle.annotator.proofs.Imports.{◌≡◌, ℕ, ◌+◌, ◌<◌, ◌≤◌, ◌⊎◌, Bool, true, false, not, ◌&&◌, ◌||◌, nat_eq, nat_lt, nat_le, if◌then◌else◌, Option, Some, None, List, [], ◌∷◌, map, length, get_or, slice_get, refl, sym, ◌∙◌, ap, subst, inl, inr, arith, suc, zero, is_none, is_some, list_any, IsStrictlyIncreasing, suc-add, or_cases, or_left, or_right, or_from, cases_Bool, cases_eq, ltb-true, ltb-false, lt-leb, eqb-true, eq-eqb, eqb-false, ne_eqb, cond-true, cond-false, and_parts, length-map, has, dests, released, Listing, IsWellFormed, Marked, Descriptor, Edge, Path, stay, onward, MayWrite, end_of, ends_of, sends, is_indirect, Reaches, mask_at, list_of, Rises, holds_at, any_of, holds_some, LeastList, IsLeast, IsWithin}
 use Rattle.task_graph.specs.Soundness.{is_target, is_entry, SoundTask, Sound}
 use Rattle.task_graph.proofs.EdgeLemmas.{edge_from}
 use Rattle.task_graph.proofs.WellFormed.{entry_inside}
-use Rattle.mask_certificate.specs.Lists.{mask_at, list_of, Rises}
 use Rattle.mark_checker.specs.Rules.{conditions, in_mask, next_has, stops_always, masked, places}
-use Rattle.mark_checker.specs.CheckerSteps.{holds_at}
 use Rattle.mark_checker.specs.Places.{IsClean, IsRight, AllRight, IsAccepted, PlaceSays}
-use Rattle.mark_checker.proofs.Ahead.{any_of, holds_some}
 use Rattle.mark_checker.proofs.Acceptance.{place_says, entry_says}
 use Rattle.mark_checker.proofs.PlaceLists.{accepted}
-use Rattle.annotator.specs.Least.{LeastList, IsLeast, IsWithin}
 use Rattle.annotator.proofs.Spread.{writes_before}
 
 -- Bools

@@ -1,23 +1,6 @@
 -- A list made of the reached indices and their masks; and lists that rise have no fault.
-use Rattle.std.proofs.Common.{◌≡◌, ℕ, ◌+◌, ◌<◌, ◌≤◌, ◌↔◌, Bool, true, false, eqb, ltb, leb, Option, Some, None, List, [], ◌∷◌, ◌++◌, map, take, length, get_or, slice_get, refl, sym, ◌∙◌, ap, subst, arith, zero, suc, inl, inr}
-use Rattle.std.specs.Prelude.{Contains, IsSome, is_some}
+use Rattle.annotator.proofs.Imports.{◌≡◌, ℕ, ◌+◌, ◌<◌, ◌≤◌, ◌↔◌, Bool, true, false, eqb, ltb, leb, Option, Some, None, List, [], ◌∷◌, ◌++◌, map, take, length, get_or, slice_get, refl, sym, ◌∙◌, ap, subst, arith, zero, suc, inl, inr, Contains, IsSome, is_some, All, IsStrictlyIncreasing, suc-add, cases_eq, cases_lt, eq-eqb, ne_eqb, le-ltb, lt-leb, cond-true, cond-false, get_or-map, length-map, map-append, get_or_append_left, get_or_push, length_push, All-map, All-head, All-tail, Contains-get_or, Contains-tail, slice_get_within, has, Listing, Descriptor, MayWrite, Reaches, list_of, mask_at, fault_in, first_fault, Rises, LeastList, IsLeast, AreExact}
 use Rattle.std.specs.Option.{option_or}
-use Rattle.std.specs.List.{All}
-use Rattle.std.specs.List.Sorted.{IsStrictlyIncreasing}
-use Rattle.std.proofs.Math.Nat.{suc-add}
-use Rattle.std.proofs.lemmas.Bool.{cases_eq, cases_lt, eq-eqb, ne_eqb, le-ltb, lt-leb, cond-true, cond-false}
-use Rattle.std.proofs.lemmas.List.{get_or-map, length-map, map-append, get_or_append_left, get_or_push, length_push}
-use Rattle.std.proofs.lemmas.List.Elements.{All-map, All-head, All-tail, Contains-get_or}
-use Rattle.std.proofs.lemmas.Map.Made.{Contains-tail}
-use Rattle.std.proofs.lemmas.Option.{slice_get_within}
-use Rattle.mips_instructions.specs.Words.{has}
-use Rattle.task_descriptor.specs.Listing.{Listing}
-use Rattle.task_descriptor.specs.declared.descriptor.Descriptor.{Descriptor}
-use Rattle.task_graph.specs.Edges.{MayWrite}
-use Rattle.task_graph.specs.Members.{Reaches}
-use Rattle.mask_certificate.specs.Lists.{list_of, mask_at, fault_in, first_fault, Rises}
-use Rattle.annotator.specs.Least.{LeastList, IsLeast}
-use Rattle.annotator.specs.Spreading.{AreExact}
 
 -- the indices with their masks
 abbrev pub entries_at : List ℕ → List ℕ → List (ℕ × ℕ)

@@ -1,3 +1,4 @@
+mod Imports
 pub mod Sources
 pub mod Widening
 pub mod Spread

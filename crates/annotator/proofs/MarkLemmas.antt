@@ -1,33 +1,6 @@
 -- The lists of the least certificate hold what the tasks reach; from them, which instructions are members,
 -- what tasks create, and which instructions write last.
-use Rattle.std.proofs.Common.{◌≡◌, ℕ, ◌+◌, ◌<◌, ◌≤◌, ◌⊎◌, ◌↔◌, Bool, true, false, not, ◌&&◌, ◌||◌, eqb, Option, Some, None, List, [], ◌∷◌, ◌++◌, map, take, length, get_or, set, replicate, slice_get, refl, sym, ◌∙◌, ap, subst, arith, zero, suc, inl, inr}
-use Rattle.std.specs.Prelude.{Contains, is_some, IsTrue}
-use Rattle.std.specs.List.{All, list_any}
-use Rattle.std.proofs.lemmas.Bool.{cases_eq, cases_lt, cases_Bool, or_cases, or_left, or_right, and_from, and_parts, eq-eqb, eqb-true, ne_eqb, cond-true, cond-false, false_from_ne_true}
-use Rattle.std.proofs.lemmas.List.{get_or-map, length-map, map-append, take_more, get_or-set_same, get_or-set_other, length-set, length-replicate, get_or_append_left, get_or_push, length_push, get_or_default}
-use Rattle.std.proofs.lemmas.List.Elements.{Contains-append_left, Contains-push, Contains-push_cases, Contains-get_or}
-use Rattle.std.proofs.lemmas.Map.Made.{Contains-tail}
-use Rattle.std.proofs.lemmas.Option.{slice_get_within, slice_get_read}
-use Rattle.mips_instructions.specs.Words.{has}
-use Rattle.mips_instructions.specs.Instruction.{dests, released}
-use Rattle.mips_instructions.specs.declared.instruction.Op.{Op}
-use Rattle.task_descriptor.specs.Listing.{Listing, IsWellFormed, has_destination, is_bad_mark, registers}
-use Rattle.task_descriptor.specs.WellFormed.{passes}
-use Rattle.task_descriptor.specs.declared.descriptor.Marked.{Marked}
-use Rattle.task_descriptor.specs.declared.descriptor.Descriptor.{Descriptor}
-use Rattle.task_graph.specs.declared.edges.Next.{Next}
-use Rattle.task_graph.specs.Edges.{Edge, Path, stay, onward, MayWrite}
-use Rattle.task_graph.specs.Members.{Reaches}
-use Rattle.task_graph.specs.SearchSteps.{is_marked}
-use Rattle.task_graph.specs.Neighbours.{Follows, is_among, is_it}
-use Rattle.task_graph.proofs.Searches.{unmarked_first, it, that}
-use Rattle.mask_certificate.specs.Lists.{list_of, mask_at}
-use Rattle.mark_checker.specs.CheckerSteps.{holds_at}
-use Rattle.mark_checker.proofs.Ahead.{holds_some, some_holds}
-use Rattle.annotator.specs.Least.{LeastList, IsLeast}
-use Rattle.annotator.specs.Proposed.{produces, Produces, IsMember, WritesLast}
-use Rattle.annotator.specs.Spreading.{AreExact, may}
-use Rattle.annotator.specs.Marking.{indices_of, AreMarked, AreMembers, WrittenBehind, ProducedAt, AreCreates, AreForwards}
+use Rattle.annotator.proofs.Imports.{◌≡◌, ℕ, ◌+◌, ◌<◌, ◌≤◌, ◌⊎◌, ◌↔◌, Bool, true, false, not, ◌&&◌, ◌||◌, eqb, Option, Some, None, List, [], ◌∷◌, ◌++◌, map, take, length, get_or, set, replicate, slice_get, refl, sym, ◌∙◌, ap, subst, arith, zero, suc, inl, inr, Contains, is_some, IsTrue, All, list_any, cases_eq, cases_lt, cases_Bool, or_cases, or_left, or_right, and_from, and_parts, eq-eqb, eqb-true, ne_eqb, cond-true, cond-false, false_from_ne_true, get_or-map, length-map, map-append, take_more, get_or-set_same, get_or-set_other, length-set, length-replicate, get_or_append_left, get_or_push, length_push, get_or_default, Contains-append_left, Contains-push, Contains-push_cases, Contains-get_or, Contains-tail, slice_get_within, slice_get_read, has, dests, released, Op, Listing, IsWellFormed, has_destination, is_bad_mark, registers, passes, Marked, Descriptor, Next, Edge, Path, stay, onward, MayWrite, Reaches, is_marked, Follows, is_among, is_it, unmarked_first, it, that, list_of, mask_at, holds_at, holds_some, some_holds, LeastList, IsLeast, produces, Produces, IsMember, WritesLast, AreExact, may, indices_of, AreMarked, AreMembers, WrittenBehind, ProducedAt, AreCreates, AreForwards}
 use Rattle.annotator.proofs.LeastMasks.{some_task}
 
 -- an index has a mask exactly where it is listed

@@ -1,30 +1,11 @@
 -- A program with other forward bits and create masks: what stays, that it is well formed, and that it has
 -- the same paths.
-use Rattle.std.proofs.Common.{◌≡◌, ℕ, ◌+◌, ◌<◌, ◌≤◌, ◌⊎◌, ◌↔◌, Bool, true, false, not, ◌&&◌, ◌||◌, nat_lt, nat_le, nat_eq, cond, Option, Some, None, List, [], ◌∷◌, ◌++◌, take, length, get_or, set, slice_get, refl, sym, ◌∙◌, ap, subst, arith, zero, suc, inl, inr, add-one}
-use Rattle.std.specs.Prelude.{position}
-use Rattle.std.specs.List.{list_any, position_or_len}
+use Rattle.annotator.proofs.Imports.{◌≡◌, ℕ, ◌+◌, ◌<◌, ◌≤◌, ◌⊎◌, ◌↔◌, Bool, true, false, not, ◌&&◌, ◌||◌, nat_lt, nat_le, nat_eq, cond, Option, Some, None, List, [], ◌∷◌, ◌++◌, take, length, get_or, set, slice_get, refl, sym, ◌∙◌, ap, subst, arith, zero, suc, inl, inr, add-one, position, list_any, position_or_len, or_cases, or_parts, or_from, cond-false, cases_Bool, ltb-true, ltb-false, false_from_ne_true, fails_before_first, slice_get_within, slice_get-get_or, get_or_from_slice_get, has, dests, released, Op, Listing, IsWellFormed, is_too_many, has_no_task, has_bad_entry, collide, has_duplicate, has_bad_mask, is_bad_mark, has_destination, stop_fits, release_fits, starts_at_no_entry, mark_fault, registers, build_fault, passes, Marked, Descriptor, Edge, edge, leaves, Path, stay, onward, MayWrite, Reaches, is_marked, list_of, LeastList, IsLeast, Produces, IsMember, WritesLast, IsRemarked, IsRedescribed, IsProposed, produces, AreCreates, AreForwards, with_forwards, with_creates, with_marks}
 use Rattle.std.specs.Str.{bytes_eq}
-use Rattle.std.proofs.lemmas.Bool.{or_cases, or_parts, or_from, cond-false, cases_Bool, ltb-true, ltb-false, false_from_ne_true}
 use Rattle.std.proofs.lemmas.List.Quantifiers.{position-Some}
-use Rattle.std.proofs.lemmas.List.Sums.{fails_before_first}
-use Rattle.std.proofs.lemmas.Option.{slice_get_within, slice_get-get_or, get_or_from_slice_get}
-use Rattle.mips_instructions.specs.Words.{has}
-use Rattle.mips_instructions.specs.Instruction.{dests, released}
 use Rattle.mips_instructions.proofs.RowLemmas.{zero_not_dest}
-use Rattle.mips_instructions.specs.declared.instruction.Op.{Op}
 use Rattle.mips_instructions.specs.declared.instruction.Op.TheVariants.{Release}
-use Rattle.task_descriptor.specs.Listing.{Listing, IsWellFormed, is_too_many, has_no_task, has_bad_entry, collide, has_duplicate, has_bad_mask, is_bad_mark, has_destination, stop_fits, release_fits, starts_at_no_entry, mark_fault, registers, build_fault}
-use Rattle.task_descriptor.specs.WellFormed.{passes}
-use Rattle.task_descriptor.specs.declared.descriptor.Marked.{Marked}
-use Rattle.task_descriptor.specs.declared.descriptor.Descriptor.{Descriptor}
 use Rattle.task_descriptor.specs.declared.program.BuildFault.{BuildFault}
-use Rattle.task_graph.specs.Edges.{Edge, edge, leaves, Path, stay, onward, MayWrite}
-use Rattle.task_graph.specs.Members.{Reaches}
-use Rattle.task_graph.specs.SearchSteps.{is_marked}
-use Rattle.mask_certificate.specs.Lists.{list_of}
-use Rattle.annotator.specs.Least.{LeastList, IsLeast}
-use Rattle.annotator.specs.Proposed.{Produces, IsMember, WritesLast, IsRemarked, IsRedescribed, IsProposed, produces}
-use Rattle.annotator.specs.Marking.{AreCreates, AreForwards, with_forwards, with_creates, with_marks}
 
 -- an instruction with another forward bit, a descriptor with another create mask
 abbrev pub forwarding : Marked → Bool → Marked

@@ -1,17 +1,5 @@
 -- The lists of sources: a source is put into the list of an index, and stays in it.
-use Rattle.std.proofs.Common.{◌≡◌, ℕ, ◌+◌, ◌<◌, ◌≤◌, ◌≢◌, ◌⊎◌, ◌↔◌, Bool, true, false, ◌||◌, Option, Some, None, List, [], ◌∷◌, ◌++◌, map, length, get_or, set, slice_get, replicate, refl, sym, ◌∙◌, ap, subst, inl, inr, arith, zero, suc}
-use Rattle.std.specs.Prelude.{Contains}
-use Rattle.std.specs.declared.alloc.Global.{Global}
-use Rattle.std.specs.declared.vec.Vec.{Vec}
-use Rattle.std.proofs.lemmas.Bool.{cases_eq, cases_lt, or_cases, or_left, or_right}
-use Rattle.std.proofs.lemmas.List.{get_or-set_same, get_or-set_other, get_or-map, length-set, length-replicate, map-set, map-append}
-use Rattle.std.proofs.lemmas.List.Elements.{Contains-append_left, Contains-push, Contains-push_cases}
-use Rattle.std.proofs.lemmas.Option.{slice_get_within}
-use Rattle.task_descriptor.specs.Listing.{Listing}
-use Rattle.task_graph.specs.declared.edges.Next.{Next}
-use Rattle.task_graph.specs.Neighbours.{Follows, is_among, is_it}
-use Rattle.task_graph.proofs.Searches.{it, that, first_inside, second_inside}
-use Rattle.annotator.specs.Spreading.{lists_of, sources_of, with_source, AreLeading}
+use Rattle.annotator.proofs.Imports.{◌≡◌, ℕ, ◌+◌, ◌<◌, ◌≤◌, ◌≢◌, ◌⊎◌, ◌↔◌, Bool, true, false, ◌||◌, Option, Some, None, List, [], ◌∷◌, ◌++◌, map, length, get_or, set, slice_get, replicate, refl, sym, ◌∙◌, ap, subst, inl, inr, arith, zero, suc, Contains, Global, Vec, cases_eq, cases_lt, or_cases, or_left, or_right, get_or-set_same, get_or-set_other, get_or-map, length-set, length-replicate, map-set, map-append, Contains-append_left, Contains-push, Contains-push_cases, slice_get_within, Listing, Next, Follows, is_among, is_it, it, that, first_inside, second_inside, lists_of, sources_of, with_source, AreLeading}
 
 -- the code's write, seen without where lists lie in memory
 pub put_there : (lists : List (Vec ℕ Global)) (j source : ℕ) (old new : Vec ℕ Global) → j < length lists → old ≡ get_or lists j old

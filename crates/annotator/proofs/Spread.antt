@@ -1,21 +1,7 @@
 -- Registers spread backward: what a mask holds may be written; and it holds what the instruction writes,
 -- and what each inner successor's mask holds, but for successors that wait.
-use Rattle.std.proofs.Common.{◌≡◌, ℕ, ◌+◌, ◌<◌, ◌≤◌, ◌⊎◌, ◌↔◌, true, false, Option, Some, None, List, [], ◌∷◌, ◌++◌, length, get_or, slice_get, refl, sym, ◌∙◌, ap, subst, inl, inr, arith, length-append, zero, suc}
-use Rattle.std.specs.Prelude.{Contains}
-use Rattle.std.specs.List.{All, range_with_len}
-use Rattle.std.proofs.lemmas.Bool.{cases_lt}
-use Rattle.std.proofs.lemmas.List.{get_or_past, get_or_append_left, get_or_push, map-id}
-use Rattle.std.proofs.lemmas.List.Elements.{Contains-append_left, Contains-push, Contains-push_cases, Contains-get_or}
+use Rattle.annotator.proofs.Imports.{◌≡◌, ℕ, ◌+◌, ◌<◌, ◌≤◌, ◌⊎◌, ◌↔◌, true, false, Option, Some, None, List, [], ◌∷◌, ◌++◌, length, get_or, slice_get, refl, sym, ◌∙◌, ap, subst, inl, inr, arith, length-append, zero, suc, Contains, All, range_with_len, cases_lt, get_or_past, get_or_append_left, get_or_push, map-id, Contains-append_left, Contains-push, Contains-push_cases, Contains-get_or, slice_get_within, slice_get-get_or, has, dests, has-empty, Listing, Marked, Edge, Path, stay, onward, MayWrite, Follows, may, sources_of, left_to_do, AreExact, AreDestinations, AreLeading, Widened}
 use Rattle.std.proofs.lemmas.List.FromFn.{length-range_with_len, get_or-range_with_len, map-range_with_len_more}
-use Rattle.std.proofs.lemmas.Option.{slice_get_within, slice_get-get_or}
-use Rattle.mips_instructions.specs.Words.{has}
-use Rattle.mips_instructions.specs.Instruction.{dests}
-use Rattle.mips_instructions.proofs.SetLemmas.{has-empty}
-use Rattle.task_descriptor.specs.Listing.{Listing}
-use Rattle.task_descriptor.specs.declared.descriptor.Marked.{Marked}
-use Rattle.task_graph.specs.Edges.{Edge, Path, stay, onward, MayWrite}
-use Rattle.task_graph.specs.Neighbours.{Follows}
-use Rattle.annotator.specs.Spreading.{may, sources_of, left_to_do, AreExact, AreDestinations, AreLeading, Widened}
 
 pub record Spread (p : Listing) (masks waiting : List ℕ) : Type 0 where
   pub sized : length masks ≡ length p.code

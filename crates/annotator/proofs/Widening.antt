@@ -1,14 +1,6 @@
 -- A mask is put into those of the sources, one source after another.
-use Rattle.std.proofs.Common.{◌≡◌, ℕ, ◌+◌, ◌*◌, ◌-◌, ◌^◌, ◌<◌, ◌≤◌, ◌≢◌, ◌⊎◌, Bool, true, false, ◌||◌, List, [], ◌∷◌, ◌++◌, length, get_or, set, refl, sym, ◌∙◌, ap, subst, inl, inr, arith, length-append}
-use Rattle.std.specs.Prelude.{Contains, sum_by, bit_and}
-use Rattle.std.proofs.lemmas.Bool.{cases_eq, or_cases, or_left, or_right}
-use Rattle.std.proofs.lemmas.List.{get_or-set_same, get_or-set_other, length-set}
-use Rattle.std.proofs.lemmas.List.Elements.{Contains-append_left, Contains-push, Contains-push_cases}
-use Rattle.std.proofs.lemmas.List.Sums.{sum_by-set}
+use Rattle.annotator.proofs.Imports.{◌≡◌, ℕ, ◌+◌, ◌*◌, ◌-◌, ◌^◌, ◌<◌, ◌≤◌, ◌≢◌, ◌⊎◌, Bool, true, false, ◌||◌, List, [], ◌∷◌, ◌++◌, length, get_or, set, refl, sym, ◌∙◌, ap, subst, inl, inr, arith, length-append, Contains, sum_by, bit_and, cases_eq, or_cases, or_left, or_right, get_or-set_same, get_or-set_other, length-set, Contains-append_left, Contains-push, Contains-push_cases, sum_by-set, has, subset_iff, may, room_of, left_to_do, Widened}
 use Rattle.std.proofs.lemmas.Nat.{and_le_r}
-use Rattle.mips_instructions.specs.Words.{has}
-use Rattle.mips_instructions.proofs.SetLemmas.{subset_iff}
-use Rattle.annotator.specs.Spreading.{may, room_of, left_to_do, Widened}
 
 -- a set that another contains is the lesser number
 pub subset_le : (a b : ℕ) → ((r : ℕ) → has a r ≡ true → has b r ≡ true) → a ≤ b

@@ -1,12 +1,6 @@
 -- What the classes of bytes have to do with each other.
-use Rattle.std.proofs.Common.{◌≡◌, ℕ, ◌<◌, ◌≤◌, List, [], ◌∷◌, Bool, true, false, arith, refl, ap, inl, inr}
-use Rattle.std.specs.Prelude.{◌==◌, nat_le}
-use Rattle.std.specs.List.{list_all}
-use Rattle.std.specs.Int.{is_in_range, IsInRange}
-use Rattle.std.specs.Char.{is_ascii_digit, is_ascii_alphanumeric, digit_value}
-use Rattle.std.specs.Fmt.{digit_glyph}
-use Rattle.std.proofs.lemmas.Bool.{and_parts, and_from, or_cases, or_left, le-leb, leb-true, eqb-true, or_from, agree_below_at}
-use Rattle.program_tokens.specs.Grammar.{is_text_byte, is_blank, is_name_byte}
+use Rattle.canonical_text.proofs.Imports.{◌≡◌, ℕ, ◌<◌, ◌≤◌, List, [], ◌∷◌, Bool, true, false, arith, refl, ap, inl, inr, ◌==◌, nat_le, list_all, is_in_range, is_ascii_digit, is_ascii_alphanumeric, digit_value, digit_glyph, and_parts, and_from, or_cases, or_left, le-leb, leb-true, eqb-true, or_from, agree_below_at, is_text_byte, is_blank, is_name_byte}
+use Rattle.std.specs.Int.{IsInRange}
 use Rattle.canonical_text.proofs.Spelling.{differs}
 
 pub all_of : (p q : ℕ → Bool) → ((b : ℕ) → p b ≡ true → q b ≡ true) → (bs : List ℕ) → list_all p bs ≡ true → list_all q bs ≡ true

@@ -1,23 +1,10 @@
 -- Lines of data, and the directives of sections, are read as what they say.
-use Rattle.std.proofs.Common.{◌≡◌, ℕ, zero, suc, ◌+◌, ◌*◌, ◌<◌, ◌^◌, List, [], ◌∷◌, ◌++◌, Result, Ok, Err, get_or, arith, refl, ap, ◌∙◌}
-use Rattle.std.specs.Prelude.{codes, pos, nat_lt}
-use Rattle.std.specs.Int.{w32, to_le_bytes}
-use Rattle.std.proofs.lemmas.Bool.{lt-ltb, cond-true}
-use Rattle.std.proofs.lemmas.List.{append-nil}
+use Rattle.canonical_text.proofs.Imports.{◌≡◌, ℕ, zero, suc, ◌+◌, ◌*◌, ◌<◌, ◌^◌, List, [], ◌∷◌, ◌++◌, Result, Ok, Err, get_or, arith, refl, ap, ◌∙◌, codes, pos, nat_lt, w32, to_le_bytes, lt-ltb, cond-true, append-nil, kind_of, token_of, Token, Small, hexadecimal, ◌>>=◌, numbers_of, words_of, bytes_of, word_statement, byte_statement, statement_of, in_data, with_marks, StatementFault, Section, Statement}
 use Rattle.std.proofs.lemmas.Nat.{le_bytes_4}
-use Rattle.program_tokens.specs.Grammar.{kind_of, token_of}
-use Rattle.program_tokens.specs.declared.token.Token.{Token}
 use Rattle.program_tokens.specs.declared.token.Token.TheVariants as token
 use Rattle.program_tokens.specs.declared.token.Directive.{Directive}
 use Rattle.program_tokens.specs.declared.token.Directive.TheVariants as directive
-use Rattle.program_tokens.specs.declared.token.Number.TheVariants.{Small}
-use Rattle.canonical_text.specs.CanonicalText.{hexadecimal}
-use Rattle.program_statements.specs.Steps.{◌>>=◌}
-use Rattle.program_statements.specs.Statements.{numbers_of, words_of, bytes_of, word_statement, byte_statement, statement_of, in_data, with_marks}
-use Rattle.program_statements.specs.declared.fault.StatementFault.{StatementFault}
 use Rattle.program_statements.specs.declared.fault.StatementFault.TheVariants as fault
-use Rattle.program_statements.specs.declared.statement.Section.{Section}
-use Rattle.program_statements.specs.declared.statement.Statement.{Statement}
 use Rattle.program_statements.specs.declared.statement.Statement.TheVariants as statement
 use Rattle.canonical_text.proofs.Spelling.{Reads, blank, joined, directive_stops, token as one_token}
 use Rattle.canonical_text.proofs.PiecesReadBack.{hexadecimal_reads}

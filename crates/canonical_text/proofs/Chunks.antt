@@ -1,21 +1,7 @@
 -- Texts of whole lines whose items are known, and how they are put together.
-use Rattle.std.proofs.Common.{◌≡◌, ℕ, ◌+◌, List, [], ◌∷◌, ◌++◌, Result, Ok, Err, map, refl, ap, sym, ◌∙◌, append_assoc}
-use Rattle.std.specs.Prelude.{◌==◌}
+use Rattle.canonical_text.proofs.Imports.{◌≡◌, ℕ, ◌+◌, List, [], ◌∷◌, ◌++◌, Result, Ok, Err, map, refl, ap, sym, ◌∙◌, append_assoc, ◌==◌, lines, append-nil, line_tokens, tokens_after, Token, line, ◌>>=◌, statement_of, labels_of, after_labels, label_item, statement_items, section_after, tokens_on_line, on_line, line_items, items_from, AsmFault, StatementFault, PlacedStatement, Section, Statement}
 use Rattle.std.proofs.lemmas.List.Splits.{slice_split_at}
-use Rattle.program_tokens.specs.Lines.{lines}
-use Rattle.std.proofs.lemmas.List.{append-nil}
-use Rattle.program_tokens.specs.Grammar.{line_tokens, tokens_after}
-use Rattle.program_tokens.specs.declared.token.Token.{Token}
 use Rattle.program_tokens.specs.declared.token.LineFault.{LineFault as TokenFault}
-use Rattle.canonical_text.specs.CanonicalText.{line}
-use Rattle.program_statements.specs.Steps.{◌>>=◌}
-use Rattle.program_statements.specs.Statements.{statement_of}
-use Rattle.annotated_asm.specs.Items.{labels_of, after_labels, label_item, statement_items, section_after, tokens_on_line, on_line, line_items, items_from}
-use Rattle.annotated_asm.specs.declared.fault.AsmFault.{AsmFault}
-use Rattle.program_statements.specs.declared.fault.StatementFault.{StatementFault}
-use Rattle.annotated_asm.specs.declared.item.PlacedStatement.{PlacedStatement}
-use Rattle.program_statements.specs.declared.statement.Section.{Section}
-use Rattle.program_statements.specs.declared.statement.Statement.{Statement}
 use Rattle.canonical_text.proofs.Spelling.{Reads, line_reads, no_newline}
 
 -- items in front of a reading

@@ -1,31 +1,12 @@
 -- A line of code, with its marks, is read as that instruction.
-use Rattle.std.proofs.Common.{◌≡◌, ℕ, List, [], ◌∷◌, ◌++◌, Bool, true, false, Option, Some, None, Result, Ok, map, refl, ap, ◌∙◌}
-use Rattle.std.specs.Prelude.{◌==◌, find, reverse, length}
-use Rattle.std.specs.List.{list_all, list_any}
-use Rattle.std.proofs.lemmas.Bool.{and_parts, and_from, or_from, false≢true}
-use Rattle.std.proofs.lemmas.List.Folds.{list_all-append}
-use Rattle.mips_instructions.specs.InstructionTable.{name_of, operands}
-use Rattle.mips_instructions.specs.declared.instruction.InstructionOperand.{InstructionOperand}
-use Rattle.mips_instructions.specs.declared.instruction.InstructionOperand.TheVariants.{Place, Registers}
-use Rattle.task_descriptor.specs.Listing.{release_fits}
-use Rattle.task_descriptor.specs.declared.descriptor.Descriptor.{Descriptor}
-use Rattle.task_descriptor.specs.declared.descriptor.Marked.{Marked}
-use Rattle.task_descriptor.specs.declared.descriptor.Stop.{Stop}
+use Rattle.canonical_text.proofs.Imports.{◌≡◌, ℕ, List, [], ◌∷◌, ◌++◌, Bool, true, false, Option, Some, None, Result, Ok, map, refl, ap, ◌∙◌, ◌==◌, find, reverse, list_all, list_any, and_parts, and_from, or_from, false≢true, list_all-append, name_of, operands, InstructionOperand, Place, Registers, release_fits, Descriptor, Marked, Stop, Token, members, ◌>>=◌, is_mark, no_marks, unmarked, with_marks, statement_of, labels_of, after_labels, StatementFault, Instruction, Statement, IsInRange}
+use Rattle.std.specs.Prelude.{length}
 use Rattle.task_descriptor.specs.declared.descriptor.Stop.TheVariants as stop
-use Rattle.program_tokens.specs.declared.token.Token.{Token}
 use Rattle.program_tokens.specs.declared.token.Token.TheVariants as token
-use Rattle.canonical_text.specs.CanonicalText.{members}
-use Rattle.program_statements.specs.Steps.{◌>>=◌}
-use Rattle.program_statements.specs.Statements.{is_mark, no_marks, unmarked, with_marks, statement_of}
-use Rattle.annotated_asm.specs.Items.{labels_of, after_labels}
-use Rattle.program_statements.specs.declared.fault.StatementFault.{StatementFault}
 use Rattle.program_statements.specs.declared.statement.Section.TheVariants as section
 use Rattle.program_statements.specs.declared.statement.Marks.{Marks}
-use Rattle.program_statements.specs.declared.statement.Instruction.{Instruction}
-use Rattle.program_statements.specs.declared.statement.Statement.{Statement}
 use Rattle.program_statements.specs.declared.statement.Statement.TheVariants as statement
 use Rattle.canonical_text.proofs.Operations.{comma_tokens, register_tokens, place_token_named, operand_tokens, behind_name, op_tokens, mark_tokens}
-use Rattle.canonical_text.specs.Ranges.{IsInRange}
 use Rattle.canonical_text.proofs.Meanings.{written, op_means}
 use Rattle.canonical_text.proofs.MarkedLines.{marked_statement}
 use Rattle.canonical_text.proofs.SourceItems.{code_statement}

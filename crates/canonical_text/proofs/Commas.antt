@@ -1,8 +1,6 @@
 -- One more piece after those that are joined: a comma stands before it unless it is the first.
-use Rattle.std.proofs.Common.{◌≡◌, ◌++◌, ◌∷◌, [], List, ℕ, Bool, true, false, refl, sym, ap, ◌∙◌, append_assoc, append-nil, ◌<◌, ◌+◌, zero, suc, nat_eq, length, map, take, get_or, arith}
-use Rattle.std.proofs.lemmas.List.{map_more}
-use Rattle.std.proofs.lemmas.Bool.{eqb-true, false_from_ne_true}
-use Rattle.canonical_text.specs.CanonicalText.{commas, comma_unless, no_pieces, listed}
+use Rattle.canonical_text.proofs.Imports.{◌≡◌, ◌++◌, ◌∷◌, [], List, ℕ, Bool, true, false, refl, sym, ap, ◌∙◌, append_assoc, ◌<◌, ◌+◌, zero, suc, nat_eq, length, map, take, get_or, arith, map_more, eqb-true, false_from_ne_true, commas, comma_unless, no_pieces, listed}
+use Rattle.std.proofs.Common.{append-nil}
 
 pub commas_more : (x : List ℕ) (xs : List (List ℕ)) (y : List ℕ) → commas (x ∷ (xs ++ y ∷ [])) ≡ commas (x ∷ xs) ++ (44 ∷ y)
 commas_more x [] y = refl

@@ -1,7 +1,5 @@
 -- Fewer than four bytes are written one by one.
-use Rattle.std.proofs.Common.{◌≡◌, ◌<◌, ◌∷◌, [], List, ℕ, length, refl, arith}
-use Rattle.std.specs.List.{flat_map}
-use Rattle.canonical_text.specs.CanonicalText.{data_lines, byte_line}
+use Rattle.canonical_text.proofs.Imports.{◌≡◌, ◌<◌, ◌∷◌, [], List, ℕ, length, refl, arith, flat_map, data_lines, byte_line}
 
 pub data_lines_short : (bytes : List ℕ) → length bytes < 4 → data_lines bytes ≡ flat_map byte_line bytes
 data_lines_short [] h = refl

@@ -1,7 +1,5 @@
 -- A number below 10 has one digit, and one below 100 has two.
-use Rattle.std.proofs.Common.{◌≡◌, ◌++◌, ◌∷◌, [], List, ℕ, ◌<◌, ◌≤◌, ◌+◌, ◌/◌, ◌%◌, sym, ap, ◌∙◌, append_assoc, arith}
-use Rattle.std.proofs.lemmas.Fmt.{decimal_digit, decimal_step}
-use Rattle.canonical_text.specs.CanonicalText.{register_text}
+use Rattle.canonical_text.proofs.Imports.{◌≡◌, ◌++◌, ◌∷◌, [], List, ℕ, ◌<◌, ◌≤◌, ◌+◌, ◌/◌, ◌%◌, sym, ap, ◌∙◌, append_assoc, arith, decimal_digit, decimal_step, register_text}
 
 one_digit : (n : ℕ) → n < 10 → register_text n ≡ 36 ∷ (48 + n) ∷ []
 one_digit n low = ap (λ (ds : List ℕ). 36 ∷ ds) (decimal_digit n low)

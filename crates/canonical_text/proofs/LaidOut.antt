@@ -1,26 +1,9 @@
 -- The layout of a canonical text's items: nothing is defined twice, and each task's label stands at its
 -- entry.
-use Rattle.std.proofs.Common.{◌≡◌, ℕ, ◌+◌, ◌≤◌, List, [], ◌∷◌, ◌++◌, Bool, false, Option, Some, None, Result, Ok, Err, length, map, arith, refl, ap, sym, ◌∙◌, append_assoc}
-use Rattle.std.specs.Prelude.{◌==◌, find, slice_get, is_some}
-use Rattle.std.specs.List.{list_any, AllByRecursion as All}
-use Rattle.std.specs.Str.{bytes_eq}
-use Rattle.std.proofs.lemmas.Bool.{or_parts, or_from, cond-false, eqb-true, le-ltb}
-use Rattle.std.proofs.lemmas.List.{append-nil}
-use Rattle.mips_instructions.specs.declared.instruction.Op.{Op}
-use Rattle.mips_instructions.specs.declared.instruction.Op.TheVariants.{Halt}
-use Rattle.task_descriptor.specs.Listing.{Listing, collide, has_duplicate}
-use Rattle.task_descriptor.specs.declared.descriptor.Descriptor.{Descriptor}
-use Rattle.task_descriptor.specs.declared.descriptor.Marked.{Marked}
-use Rattle.program_statements.specs.Steps.{◌>>=◌}
-use Rattle.annotated_asm.specs.Tables.{Names, lookup}
-use Rattle.annotated_asm.specs.Layout.{instruction_count, counted, grown, if_new, with_item, no_layout, laid, is_beyond}
-use Rattle.annotated_asm.specs.declared.fault.AsmFault.{AsmFault}
-use Rattle.annotated_asm.specs.declared.layout.Layout.{Layout}
+use Rattle.canonical_text.proofs.Imports.{◌≡◌, ℕ, ◌+◌, ◌≤◌, List, [], ◌∷◌, ◌++◌, Bool, false, Option, Some, None, Result, Ok, Err, length, map, arith, refl, ap, sym, ◌∙◌, append_assoc, ◌==◌, find, slice_get, is_some, list_any, bytes_eq, or_parts, or_from, cond-false, eqb-true, le-ltb, append-nil, Op, Halt, Listing, collide, has_duplicate, Descriptor, Marked, ◌>>=◌, Names, lookup, instruction_count, counted, grown, if_new, with_item, no_layout, laid, is_beyond, AsmFault, Layout, PlacedStatement, Section, Symbol}
+use Rattle.std.specs.List.{AllByRecursion as All}
 use Rattle.annotated_asm.specs.declared.layout.Sizes.{Sizes}
-use Rattle.annotated_asm.specs.declared.item.PlacedStatement.{PlacedStatement}
-use Rattle.program_statements.specs.declared.statement.Section.{Section}
 use Rattle.program_statements.specs.declared.statement.Section.TheVariants as section
-use Rattle.annotated_asm.specs.declared.table.Symbol.{Symbol}
 use Rattle.canonical_text.proofs.Meanings.{written}
 use Rattle.canonical_text.proofs.Layouts.{found, swap_bytes, code_symbol, label_rows, rows, lookup-append, other_label}
 use Rattle.canonical_text.proofs.SectionItems.{section_alike}

@@ -1,15 +1,5 @@
 -- Where the labels of a canonical text stand: each task's at its entry.
-use Rattle.std.proofs.Common.{◌≡◌, ℕ, zero, suc, ◌+◌, ◌<◌, ◌≤◌, List, [], ◌∷◌, ◌++◌, Bool, true, false, Option, Some, None, length, arith, refl, ap, sym, subst, ◌∙◌, inl, inr}
-use Rattle.std.specs.Prelude.{◌==◌, find, slice_get}
-use Rattle.std.specs.List.{list_any}
-use Rattle.std.specs.Str.{bytes_eq}
-use Rattle.std.proofs.lemmas.Bool.{cases_eq, cases_lt, cases_Bool, false≢true, or_parts, cond-true, cond-false, eqb-true, eq-eqb, false_from_ne_true}
-use Rattle.std.proofs.lemmas.Slice.Eq.{bytes_eq-Decides}
-use Rattle.task_descriptor.specs.Listing.{collide, has_duplicate}
-use Rattle.task_descriptor.specs.declared.descriptor.Descriptor.{Descriptor}
-use Rattle.task_descriptor.specs.declared.descriptor.Marked.{Marked}
-use Rattle.annotated_asm.specs.Tables.{Names, lookup}
-use Rattle.annotated_asm.specs.declared.table.Symbol.{Symbol}
+use Rattle.canonical_text.proofs.Imports.{◌≡◌, ℕ, zero, suc, ◌+◌, ◌<◌, ◌≤◌, List, [], ◌∷◌, ◌++◌, Bool, true, false, Option, Some, None, length, arith, refl, ap, sym, subst, ◌∙◌, inl, inr, ◌==◌, find, slice_get, list_any, bytes_eq, cases_eq, cases_lt, cases_Bool, false≢true, or_parts, cond-true, cond-false, eqb-true, eq-eqb, false_from_ne_true, bytes_eq-Decides, collide, has_duplicate, Descriptor, Marked, Names, lookup, Symbol}
 use Rattle.program_statements.specs.declared.statement.Section.TheVariants as section
 
 -- Tasks have entries and names of their own.

@@ -1,26 +1,8 @@
 -- A canonical text is shorter than the longest text that is read.
-use Rattle.std.proofs.Common.{◌≡◌, ℕ, suc, ◌+◌, ◌*◌, ◌<◌, ◌≤◌, ◌^◌, List, [], ◌∷◌, ◌++◌, Bool, true, false, Option, Some, None, length, map, arith, ◌∙◌, length-append}
-use Rattle.std.specs.Prelude.{◌==◌, ℤ, pos, negsuc, find, filter, IfSome, codes}
-use Rattle.std.specs.List.{flat_map, AllByRecursion as All}
-use Rattle.std.specs.Fmt.{decimal, signed_decimal}
-use Rattle.std.proofs.lemmas.Bool.{cond_both}
-use Rattle.std.proofs.lemmas.List.{length-map}
-use Rattle.std.proofs.lemmas.List.Elements.{recursion_from_All}
-use Rattle.std.proofs.lemmas.Fmt.{length-decimal-le}
-use Rattle.mips_instructions.specs.Words.{has}
-use Rattle.mips_instructions.specs.InstructionTable.{name_of, operands}
-use Rattle.mips_instructions.specs.declared.instruction.InstructionOperand.{InstructionOperand}
-use Rattle.mips_instructions.specs.declared.instruction.InstructionOperand.TheVariants.{Register, Amount, Signed, Unsigned, Offset, Place, Registers}
-use Rattle.mips_instructions.specs.declared.instruction.Op.{Op}
-use Rattle.task_descriptor.specs.Names.{is_name}
+use Rattle.canonical_text.proofs.Imports.{◌≡◌, ℕ, suc, ◌+◌, ◌*◌, ◌<◌, ◌≤◌, ◌^◌, List, [], ◌∷◌, ◌++◌, Bool, true, false, Option, Some, None, length, map, arith, ◌∙◌, length-append, ◌==◌, ℤ, pos, negsuc, find, filter, IfSome, codes, flat_map, decimal, signed_decimal, cond_both, length-map, recursion_from_All, length-decimal-le, has, name_of, operands, InstructionOperand, Register, Amount, Signed, Unsigned, Offset, Place, Registers, Op, is_name, Listing, registers, Descriptor, Marked, Stop, line, commas, listed, spelled, based, register_text, members, place_named, place_text, operand_text, op_text, forward_text, stop_text, marked_text, label_line, code_line, code_lines, task_line, start_line, hexadecimal, word_line, byte_line, data_lines, section, canonical_text, IsHalf, IsOperandInRange, IsInRange}
+use Rattle.std.specs.List.{AllByRecursion as All}
 use Rattle.task_descriptor.specs.NameFacts.{within_name}
-use Rattle.task_descriptor.specs.Listing.{Listing, registers}
-use Rattle.task_descriptor.specs.declared.descriptor.Descriptor.{Descriptor}
-use Rattle.task_descriptor.specs.declared.descriptor.Marked.{Marked}
-use Rattle.task_descriptor.specs.declared.descriptor.Stop.{Stop}
 use Rattle.task_descriptor.specs.declared.descriptor.Stop.TheVariants as stop
-use Rattle.canonical_text.specs.CanonicalText.{line, commas, listed, spelled, based, register_text, members, place_named, place_text, operand_text, op_text, forward_text, stop_text, marked_text, label_line, code_line, code_lines, task_line, start_line, hexadecimal, word_line, byte_line, data_lines, section, canonical_text}
-use Rattle.canonical_text.specs.Ranges.{IsHalf, IsOperandInRange, IsInRange}
 use Rattle.canonical_text.proofs.Numerals.{length-hexadecimal}
 use Rattle.canonical_text.proofs.Operations.{found_passes, members_below}
 use Rattle.canonical_text.proofs.Meanings.{is_named, few_operands}

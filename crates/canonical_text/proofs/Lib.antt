@@ -1,3 +1,4 @@
+mod Imports
 pub mod Commas
 pub mod Spelled
 pub mod Members

@@ -1,11 +1,8 @@
 -- One line more: what is written with it is where the lines after it begin.
-use Rattle.std.proofs.Common.{◌≡◌, ℕ, ◌+◌, List, [], ◌∷◌, Option, Some, None, Result, Ok, Err, ap, sym, ◌∙◌, subst, IfSome, IfNone}
-use Rattle.program_statements.specs.Steps.{◌>>=◌}
-use Rattle.program_statements.specs.declared.statement.Section.{Section}
+use Rattle.canonical_text.proofs.Imports.{◌≡◌, ℕ, ◌+◌, List, [], ◌∷◌, Option, Some, None, Result, Ok, Err, ap, sym, ◌∙◌, subst, IfNone, ◌>>=◌, Section, AsmFault, Written, with_line, with_lines, text_in}
+use Rattle.std.proofs.Common.{IfSome}
 use Rattle.annotated_asm.specs.Steps.{FailsText}
-use Rattle.annotated_asm.specs.declared.fault.AsmFault.{AsmFault}
 use Rattle.annotated_asm.specs.declared.fault.AsmFault.TheVariants as text
-use Rattle.canonical_text.specs.MarkedText.{Written, with_line, with_lines, text_in}
 
 pub line_more : (front next : Written) (n : ℕ) (here behind : Section) (line : List ℕ) (lines : List (List ℕ))
     → with_line front n here line ≡ Ok (next, behind) → with_lines front n here (line ∷ lines) ≡ with_lines next (n + 1) behind lines

@@ -1,16 +1,7 @@
 -- The marks at the end of a line are told apart from the tokens before them.
-use Rattle.std.proofs.Common.{◌≡◌, ◌+◌, ◌-◌, List, [], ◌∷◌, ◌++◌, Bool, true, false, length, take, drop, arith, refl, ap, sym, ◌∙◌, length-append}
-use Rattle.std.specs.Prelude.{reverse, take_while}
-use Rattle.std.specs.List.{list_all, list_any, prefix_len}
+use Rattle.canonical_text.proofs.Imports.{◌≡◌, ◌+◌, ◌-◌, List, [], ◌∷◌, ◌++◌, Bool, true, false, length, take, drop, arith, refl, ap, sym, ◌∙◌, length-append, reverse, take_while, list_all, list_any, prefix_len, and_parts, or_parts, cond-true, cond-false, reverse-append, length-take-le, prefix_len-le-length, Token, ◌>>=◌, is_mark, mark_count, unmarked, with_marks, statement_of, Section}
 use Rattle.std.proofs.Math.Seq.{take-append_seam, drop-append_seam}
-use Rattle.std.proofs.lemmas.Bool.{and_parts, or_parts, cond-true, cond-false}
-use Rattle.std.proofs.lemmas.List.{reverse-append, length-take-le}
-use Rattle.std.proofs.lemmas.List.Sums.{prefix_len-le-length}
 use Rattle.std.proofs.lemmas.List.Sorted.{IsPermutation-reverse, list_any-IsPermutation}
-use Rattle.program_tokens.specs.declared.token.Token.{Token}
-use Rattle.program_statements.specs.Steps.{◌>>=◌}
-use Rattle.program_statements.specs.Statements.{is_mark, mark_count, unmarked, with_marks, statement_of}
-use Rattle.program_statements.specs.declared.statement.Section.{Section}
 
 run_length : {X : Type 0} (p : X → Bool) (front rest : List X) → list_all p front ≡ true → prefix_len p rest ≡ 0
     → prefix_len p (front ++ rest) ≡ length front

@@ -1,11 +1,6 @@
 -- The tokens of an instruction mean that instruction.
-use Rattle.std.proofs.Common.{◌≡◌, ℕ, ◌<◌, ◌≤◌, ◌^◌, List, [], ◌∷◌, Bool, true, false, cond, Option, Some, None, Result, Ok, Err, arith, refl, ap, sym, ◌∙◌}
-use Rattle.std.specs.Prelude.{◌==◌, ◌||◌, ℤ, pos, negsuc, length, find, filter, nat_lt, nat_le}
-use Rattle.std.specs.List.{list_any, list_all, AllByRecursion}
-use Rattle.std.specs.Str.{bytes_eq}
-use Rattle.std.proofs.lemmas.Bool.{lt-ltb, le-leb, cond-true, false≢true, and_parts}
-use Rattle.std.proofs.lemmas.List.Elements.{recursion_from_All}
-use Rattle.std.proofs.lemmas.Slice.Eq.{bytes_eq-Decides}
+use Rattle.canonical_text.proofs.Imports.{◌≡◌, ℕ, ◌<◌, ◌≤◌, ◌^◌, List, [], ◌∷◌, Bool, true, false, cond, Option, Some, None, Result, Ok, Err, arith, refl, ap, sym, ◌∙◌, ◌==◌, ◌||◌, ℤ, pos, negsuc, find, filter, nat_lt, nat_le, list_any, list_all, AllByRecursion, bytes_eq, lt-ltb, le-leb, cond-true, false≢true, and_parts, recursion_from_All, bytes_eq-Decides, Op, Three, ShiftBy, ShiftVar, Imm, Logic, Lui, Mult, MoveFrom, MoveTo, Load, Store, BranchTwo, BranchOne, Jump, JumpLink, JumpReg, JumpLinkReg, Out, Release, Halt, is_name, Descriptor, Token, Small, members, mnemonic_named, mnemonics, mnemonic_of, word_of, name_of, operands, Names, target_place, ◌>>=◌, registers_at, release_of, unmarked, of_mnemonic, no_marks, instruction_of, StatementFault, Target, Instruction, with_registers, registers_of, append-nil, has, release_fits, registers, IsHalf, IsOperandInRange, IsInRange}
+use Rattle.std.specs.Prelude.{length}
 use Rattle.mips_instructions.specs.declared.instruction.ThreeKind.TheVariants.{Addu}
 use Rattle.mips_instructions.specs.declared.instruction.ShiftByKind.TheVariants.{Sll}
 use Rattle.mips_instructions.specs.declared.instruction.ShiftVarKind.TheVariants.{Sllv}
@@ -20,38 +15,19 @@ use Rattle.mips_instructions.specs.declared.instruction.BranchTwoKind.{BranchTwo
 use Rattle.mips_instructions.specs.declared.instruction.BranchTwoKind.TheVariants.{Beq}
 use Rattle.mips_instructions.specs.declared.instruction.BranchOneKind.{BranchOneKind}
 use Rattle.mips_instructions.specs.declared.instruction.BranchOneKind.TheVariants.{Blez}
-use Rattle.mips_instructions.specs.declared.instruction.Op.{Op}
-use Rattle.mips_instructions.specs.declared.instruction.Op.TheVariants.{Three, ShiftBy, ShiftVar, Imm, Logic, Lui, Mult, MoveFrom, MoveTo, Load, Store, BranchTwo, BranchOne, Jump, JumpLink, JumpReg, JumpLinkReg, Out, Release, Halt}
-use Rattle.task_descriptor.specs.Names.{is_name}
-use Rattle.task_descriptor.specs.declared.descriptor.Descriptor.{Descriptor}
-use Rattle.program_tokens.specs.declared.token.Token.{Token}
 use Rattle.program_tokens.specs.declared.token.Token.TheVariants as token
-use Rattle.program_tokens.specs.declared.token.Number.TheVariants.{Small}
-use Rattle.canonical_text.specs.CanonicalText.{members}
-use Rattle.mips_instructions.specs.InstructionTable.{mnemonic_named, mnemonics, mnemonic_of, word_of, name_of, operands}
-use Rattle.annotated_asm.specs.Tables.{Names}
-use Rattle.annotated_asm.specs.Resolve.{target_place, spelled}
-use Rattle.program_statements.specs.Steps.{◌>>=◌}
+use Rattle.annotated_asm.specs.Resolve.{spelled}
 use Rattle.program_statements.specs.Operands.{operands_of, operand_at, base_at, after_one, after_two}
 use Rattle.program_statements.specs.Rows.{three, shift_by, shift_var, imm, logic, lui, mult as mult_of, move_from, move_to, load, store, branch_two, branch_one, jump, jump_link, jump_reg, jump_link_reg, out, halt}
-use Rattle.program_statements.specs.Statements.{registers_at, release_of, unmarked, of_mnemonic, no_marks, instruction_of}
-use Rattle.program_statements.specs.declared.fault.StatementFault.{StatementFault}
 use Rattle.mips_instructions.specs.declared.instruction.Mnemonic.{Mnemonic}
 use Rattle.mips_instructions.specs.declared.instruction.Mnemonic.TheVariants as mnemonic
 use Rattle.program_statements.specs.declared.statement.Section.TheVariants as section
-use Rattle.program_statements.specs.declared.statement.Target.{Target}
 use Rattle.program_statements.specs.declared.statement.Target.TheVariants as target
-use Rattle.program_statements.specs.declared.statement.Instruction.{Instruction}
 use Rattle.program_statements.specs.declared.statement.Instruction.TheVariants as instruction
 use Rattle.program_statements.specs.declared.statement.Statement.TheVariants as statement
 use Rattle.program_statements.specs.Ranges.{signed_half}
-use Rattle.program_statements.specs.Statements.{with_registers, registers_of}
 use Rattle.program_statements.specs.declared.fault.StatementFault.TheVariants as fault
-use Rattle.std.proofs.lemmas.List.{append-nil}
-use Rattle.mips_instructions.specs.Words.{has}
-use Rattle.task_descriptor.specs.Listing.{release_fits, registers}
 use Rattle.canonical_text.proofs.SetTexts.{members_back, registers_back}
-use Rattle.canonical_text.specs.Ranges.{IsHalf, IsOperandInRange, IsInRange}
 use Rattle.canonical_text.proofs.Operations.{comma_tokens, register_tokens, place_token_named, reg, behind_name, op_tokens}
 
 -- a place by name where a task begins there

@@ -1,11 +1,6 @@
 -- The members among the numbers below n + 1 are those below n, and n where it is one.
-use Rattle.std.proofs.Common.{◌≡◌, ◌++◌, ◌+◌, ◌∷◌, [], List, ℕ, Bool, true, false, refl, sym, ap, ◌∙◌, map, filter, append-nil, add-one}
-use Rattle.std.proofs.lemmas.Bool.{cond-true, cond-false}
-use Rattle.std.proofs.lemmas.List.Elements.{filter-append}
-use Rattle.std.proofs.lemmas.List.{map-append}
-use Rattle.mips_instructions.specs.Words.{has}
-use Rattle.task_descriptor.specs.Listing.{numbers_below}
-use Rattle.canonical_text.specs.CanonicalText.{commas, comma_unless, no_pieces, register_text, members}
+use Rattle.canonical_text.proofs.Imports.{◌≡◌, ◌++◌, ◌+◌, ◌∷◌, [], List, ℕ, Bool, true, false, refl, sym, ap, ◌∙◌, map, add-one, cond-true, cond-false, filter-append, map-append, has, numbers_below, commas, comma_unless, no_pieces, register_text, members}
+use Rattle.std.proofs.Common.{filter, append-nil}
 use Rattle.canonical_text.proofs.Commas.{one_more, pushed_is_not_nil}
 
 abbrev pub texts_below : (set n : ℕ) → List (List ℕ)

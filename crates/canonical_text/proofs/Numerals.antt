@@ -1,18 +1,9 @@
 -- Numbers are read back from the digits that `decimal` and `hexadecimal` write.
-use Rattle.std.proofs.Common.{◌≡◌, ℕ, zero, suc, ◌*◌, ◌/◌, ◌%◌, ◌^◌, ◌<◌, List, [], ◌∷◌, ◌++◌, true, false, Some, None, length, drop, arith, refl, ap, ◌∙◌, length-append}
-use Rattle.std.specs.Prelude.{◌&&◌, nat_lt, nat_eq, slice_index, codes}
-use Rattle.std.specs.List.{list_all, starts_with}
-use Rattle.std.specs.Char.{is_ascii_digit, is_ascii_alphanumeric, is_digit, digit_value}
+use Rattle.canonical_text.proofs.Imports.{◌≡◌, ℕ, zero, suc, ◌*◌, ◌/◌, ◌%◌, ◌^◌, ◌<◌, List, [], ◌∷◌, ◌++◌, true, false, Some, None, length, drop, arith, refl, ap, ◌∙◌, length-append, ◌&&◌, nat_lt, slice_index, codes, list_all, starts_with, is_ascii_digit, is_ascii_alphanumeric, is_digit, digit_value, decimal, digit_glyph, and_parts, and_from, and_left, and_right, lt-ltb, ne_eqb, false≢true, cond-true, cond-false, decimal_is_IsNumeral, decimal_digit, first_decimal, list_all-append, begins_with_digit, number_in, magnitude_of, has_leading_zero, hexadecimal}
+use Rattle.std.specs.Prelude.{nat_eq}
 use Rattle.std.specs.Str.Parse.{AllDigits, digits_value}
-use Rattle.std.specs.Fmt.{decimal, digit_glyph}
-use Rattle.std.proofs.lemmas.Bool.{and_parts, and_from, and_left, and_right, lt-ltb, ne_eqb, false≢true, cond-true, cond-false}
-use Rattle.std.proofs.lemmas.Fmt.{decimal_is_IsNumeral, decimal_digit, first_decimal}
 use Rattle.std.proofs.lemmas.Int.Digits.{digits_value_push}
-use Rattle.std.proofs.lemmas.List.Folds.{list_all-append}
 use Rattle.std.proofs.lemmas.Str.Parse.{digit_from_value}
-use Rattle.program_tokens.specs.Numbers.{begins_with_digit, number_in, magnitude_of}
-use Rattle.program_tokens.specs.Registers.{has_leading_zero}
-use Rattle.canonical_text.specs.CanonicalText.{hexadecimal}
 use Rattle.canonical_text.proofs.ByteTests.{digit_of_range, glyph_alphanumeric, glyph_value}
 
 -- decimal digits, and the number that they write

@@ -1,31 +1,11 @@
 -- An instruction's text is read back as the tokens of its name and operands.
-use Rattle.std.proofs.Common.{◌≡◌, ℕ, ◌<◌, ◌≤◌, List, [], ◌∷◌, ◌++◌, Bool, true, false, Option, Some, None, map, arith, refl, sym}
-use Rattle.std.specs.Prelude.{◌==◌, ℤ, pos, find, filter, IfSome, codes, nat_lt}
+use Rattle.canonical_text.proofs.Imports.{◌≡◌, ℕ, ◌<◌, ◌≤◌, List, [], ◌∷◌, ◌++◌, Bool, true, false, Option, Some, None, map, arith, refl, sym, ◌==◌, ℤ, pos, find, filter, IfSome, codes, nat_lt, cond_both, ltb-true, AllPass-from_list_all, recursion_from_All, has, name_of, operands, InstructionOperand, Register, Amount, Signed, Unsigned, Offset, Place, Registers, Op, is_name, registers, Descriptor, Stop, kind_of, token_of, Token, Small, commas, spelled, based, register_text, members, place_named, place_text, operand_text, op_text, forward_text, stop_text, IsHalf, IsOperandInRange, IsInRange, append-nil, subst}
 use Rattle.std.specs.List.{AllByRecursion as All}
-use Rattle.std.proofs.lemmas.Bool.{cond_both, ltb-true}
-use Rattle.std.proofs.lemmas.List.Sums.{AllPass-from_list_all}
-use Rattle.std.proofs.lemmas.List.Elements.{recursion_from_All}
-use Rattle.mips_instructions.specs.Words.{has}
-use Rattle.mips_instructions.specs.InstructionTable.{name_of, operands}
-use Rattle.mips_instructions.specs.declared.instruction.InstructionOperand.{InstructionOperand}
-use Rattle.mips_instructions.specs.declared.instruction.InstructionOperand.TheVariants.{Register, Amount, Signed, Unsigned, Offset, Place, Registers}
-use Rattle.mips_instructions.specs.declared.instruction.Op.{Op}
-use Rattle.task_descriptor.specs.Names.{is_name}
-use Rattle.task_descriptor.specs.Listing.{registers}
-use Rattle.task_descriptor.specs.declared.descriptor.Descriptor.{Descriptor}
-use Rattle.task_descriptor.specs.declared.descriptor.Stop.{Stop}
 use Rattle.task_descriptor.specs.declared.descriptor.Stop.TheVariants as stop
-use Rattle.program_tokens.specs.Grammar.{kind_of, token_of}
-use Rattle.program_tokens.specs.declared.token.Token.{Token}
 use Rattle.program_tokens.specs.declared.token.Token.TheVariants as token
 use Rattle.program_tokens.specs.declared.token.Mark.TheVariants as mark
-use Rattle.program_tokens.specs.declared.token.Number.TheVariants.{Small}
-use Rattle.canonical_text.specs.CanonicalText.{commas, spelled, based, register_text, members, place_named, place_text, operand_text, op_text, forward_text, stop_text}
-use Rattle.canonical_text.specs.Ranges.{IsHalf, IsOperandInRange, IsInRange}
 use Rattle.canonical_text.proofs.Spelling.{Reads, nothing, blank, joined, mark_stops, token as one_token}
 use Rattle.canonical_text.proofs.PiecesReadBack.{name_reads, register_reads, decimal_reads, signed_reads, index_reads, comma, opened, closed}
-use Rattle.std.proofs.lemmas.List.{append-nil}
-use Rattle.std.proofs.Common.{subst}
 
 -- Pieces with commas between them.
 

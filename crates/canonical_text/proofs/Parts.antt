@@ -1,10 +1,6 @@
 -- The parts of a program's text, one after another, are its canonical text.
-use Rattle.std.proofs.Common.{◌≡◌, ◌++◌, List, ℕ, Option, ap, ◌∙◌, append_assoc, find, nat_eq, codes}
-use Rattle.std.specs.List.{flat_map}
-use Rattle.task_descriptor.specs.Listing.{Listing}
-use Rattle.task_descriptor.specs.declared.descriptor.Marked.{Marked}
-use Rattle.task_descriptor.specs.declared.descriptor.Descriptor.{Descriptor}
-use Rattle.canonical_text.specs.CanonicalText.{canonical_text, start_line, task_line, code_lines, section}
+use Rattle.canonical_text.proofs.Imports.{◌≡◌, ◌++◌, List, ℕ, Option, ap, ◌∙◌, append_assoc, nat_eq, flat_map, Listing, Marked, Descriptor, canonical_text, start_line, task_line, code_lines, section}
+use Rattle.std.proofs.Common.{find, codes}
 
 behind : (t u v a b : List ℕ) → u ≡ t ++ a → v ≡ u ++ b → v ≡ t ++ (a ++ b)
 behind t u v a b first second = second ∙ ap (λ (x : List ℕ). x ++ b) first ∙ append_assoc t a b

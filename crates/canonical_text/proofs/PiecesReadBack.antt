@@ -1,23 +1,8 @@
 -- Each piece of a line is read back as its one token.
-use Rattle.std.proofs.Common.{◌≡◌, ℕ, suc, ◌^◌, ◌<◌, List, [], ◌∷◌, ◌++◌, true, false, Option, Some, None, arith, refl, ap, sym, ◌∙◌}
-use Rattle.std.specs.Prelude.{◌==◌, not, ℤ, pos, negsuc, nat_lt, nat_le, codes}
-use Rattle.std.specs.List.{list_all}
+use Rattle.canonical_text.proofs.Imports.{◌≡◌, ℕ, suc, ◌^◌, ◌<◌, List, [], ◌∷◌, ◌++◌, true, false, Option, Some, None, arith, refl, ap, sym, ◌∙◌, ◌==◌, not, ℤ, pos, negsuc, nat_lt, nat_le, codes, list_all, byte, decimal, signed_decimal, is_ascii_digit, is_ascii_alphanumeric, and_parts, and_left, or_left, or_from, lt-ltb, le-leb, lt-leb, leb-true, ne_eqb, false_from_ne_true, cond-true, cond-false, false≢true, append-nil, is_name, begins_name, continues_name, begins_with_digit, magnitude_of, number_of, positive, negative, register_of, register_numbered, has_leading_zero, is_text_byte, is_name_byte, is_name_start, begins_number, kind_of, token_of, Token, Small, Large, register_text, hexadecimal, IsHalf}
 use Rattle.std.specs.Option.{option_map, option_and_then}
-use Rattle.std.specs.Str.{byte}
-use Rattle.std.specs.Fmt.{decimal, signed_decimal}
-use Rattle.std.specs.Char.{is_ascii_digit, is_ascii_alphanumeric}
-use Rattle.std.proofs.lemmas.Bool.{and_parts, and_left, or_left, or_from, lt-ltb, le-leb, lt-leb, leb-true, ne_eqb, false_from_ne_true, cond-true, cond-false, false≢true}
-use Rattle.std.proofs.lemmas.List.{append-nil}
-use Rattle.task_descriptor.specs.Names.{is_name, begins_name, continues_name}
-use Rattle.program_tokens.specs.Numbers.{begins_with_digit, magnitude_of, number_of, positive, negative}
-use Rattle.program_tokens.specs.Registers.{register_of, register_numbered, has_leading_zero}
-use Rattle.program_tokens.specs.Grammar.{is_text_byte, is_name_byte, is_name_start, begins_number, kind_of, token_of}
-use Rattle.program_tokens.specs.declared.token.Token.{Token}
 use Rattle.program_tokens.specs.declared.token.Token.TheVariants as token
 use Rattle.program_tokens.specs.declared.token.Number.{Number}
-use Rattle.program_tokens.specs.declared.token.Number.TheVariants.{Small, Large}
-use Rattle.canonical_text.specs.CanonicalText.{register_text, hexadecimal}
-use Rattle.canonical_text.specs.Ranges.{IsHalf}
 use Rattle.canonical_text.proofs.Spelling.{Reads, ends, differs, name_stops, register_stops, number_stops, index_stops, sign_stops, token as one_token, sign}
 use Rattle.canonical_text.proofs.ByteTests.{all_of, name_byte_text, not_blank, digit_alphanumeric, alphanumeric_name}
 use Rattle.canonical_text.proofs.Numerals.{IsDecimal, decimal_is, number_in_decimal, magnitude_decimal, first_digit, no_leading_zero, beyond, hexadecimal_plain, magnitude_hexadecimal}

@@ -1,23 +1,10 @@
 -- Every name of a canonical text stands for a place in code, so the items become the program again.
-use Rattle.std.proofs.Common.{◌≡◌, ℕ, ◌+◌, ◌≤◌, List, [], ◌∷◌, ◌++◌, Bool, true, false, cond, Option, Some, None, Result, Ok, Err, map, refl, ap, sym, ◌∙◌, append_assoc}
-use Rattle.std.specs.Prelude.{◌==◌, find, is_some, nat_le, IfSome}
+use Rattle.canonical_text.proofs.Imports.{◌≡◌, ℕ, ◌+◌, ◌≤◌, List, [], ◌∷◌, ◌++◌, Bool, true, false, cond, Option, Some, None, Result, Ok, Err, map, refl, ap, sym, ◌∙◌, append_assoc, ◌==◌, find, is_some, nat_le, IfSome, cond-true, eqb-true, le-leb, append-nil, Op, Listing, Descriptor, Marked, ◌>>=◌, Names, code_label, place_of, target_place, all_marked, target_places, descriptor, with_data, parts, no_parts, AsmFault, PlacedStatement, Section, parts_append}
 use Rattle.std.specs.List.{AllByRecursion as All}
-use Rattle.std.proofs.lemmas.Bool.{cond-true, eqb-true, le-leb}
-use Rattle.std.proofs.lemmas.List.{append-nil}
-use Rattle.mips_instructions.specs.declared.instruction.Op.{Op}
-use Rattle.task_descriptor.specs.Listing.{Listing}
-use Rattle.task_descriptor.specs.declared.descriptor.Descriptor.{Descriptor}
-use Rattle.task_descriptor.specs.declared.descriptor.Marked.{Marked}
-use Rattle.program_statements.specs.Steps.{◌>>=◌}
-use Rattle.annotated_asm.specs.Tables.{Names}
-use Rattle.annotated_asm.specs.Resolve.{code_label, place_of, target_place, spelled, all_marked, target_places, descriptor, with_data, parts, no_parts}
-use Rattle.annotated_asm.specs.declared.fault.AsmFault.{AsmFault}
+use Rattle.annotated_asm.specs.Resolve.{spelled}
 use Rattle.annotated_asm.specs.declared.fault.AsmFault.TheVariants as fault
-use Rattle.annotated_asm.specs.declared.item.PlacedStatement.{PlacedStatement}
-use Rattle.program_statements.specs.declared.statement.Section.{Section}
 use Rattle.program_statements.specs.declared.statement.Section.TheVariants as section
 use Rattle.task_descriptor.specs.declared.program.BuildFault.TheVariants.{TooMany}
-use Rattle.annotated_asm.proofs.Runs.{parts_append}
 use Rattle.canonical_text.proofs.Operations.{found_passes}
 use Rattle.canonical_text.proofs.Meanings.{target_named, target_of, written, written_back}
 use Rattle.canonical_text.proofs.SectionItems.{section_alike}

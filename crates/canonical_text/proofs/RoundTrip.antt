@@ -1,27 +1,10 @@
 -- The canonical text of a well-formed program is read back as that program.
-use Rattle.std.proofs.Common.{◌≡◌, ℕ, suc, ◌+◌, ◌<◌, ◌≤◌, ◌^◌, List, [], ◌∷◌, Bool, true, false, cond, Some, None, Result, Ok, Err, length, arith, refl, ap, sym, ◌∙◌, inl, inr}
-use Rattle.std.specs.Prelude.{◌==◌, ◌&&◌, ◌||◌, not, find, slice_get, is_some, nat_lt}
-use Rattle.std.specs.List.{list_any, position, position_or_len, All as AllAt, AllByRecursion as All}
-use Rattle.std.proofs.lemmas.Bool.{or_parts, cond-false, le-ltb, cases_lt, lt-ltb, cond-true, not-false}
-use Rattle.std.proofs.lemmas.List.Elements.{recursion_from_All}
-use Rattle.task_descriptor.specs.Names.{is_name}
-use Rattle.task_descriptor.specs.Listing.{Listing, IsWellFormed, is_bad_mark, release_fits, stop_fits, has_destination}
+use Rattle.canonical_text.proofs.Imports.{◌≡◌, ℕ, suc, ◌+◌, ◌<◌, ◌≤◌, ◌^◌, List, [], ◌∷◌, Bool, true, false, cond, Some, None, Result, Ok, Err, length, arith, refl, ap, sym, ◌∙◌, inl, inr, ◌==◌, ◌&&◌, ◌||◌, not, find, slice_get, is_some, nat_lt, list_any, position, position_or_len, or_parts, cond-false, le-ltb, cases_lt, lt-ltb, cond-true, not-false, recursion_from_All, is_name, Listing, IsWellFormed, is_bad_mark, release_fits, stop_fits, has_destination, Descriptor, Marked, lines, canonical_text, ◌>>=◌, items_from, laid, no_layout, index_of_symbol, code_label, AsmFault, Layout, PlacedStatement, IsInRange, IsTaskInRange}
+use Rattle.std.specs.List.{All as AllAt, AllByRecursion as All}
 use Rattle.task_descriptor.specs.WellFormed.{passes, limits, entry_below, start_is_entry}
-use Rattle.task_descriptor.specs.declared.descriptor.Descriptor.{Descriptor}
-use Rattle.task_descriptor.specs.declared.descriptor.Marked.{Marked}
-use Rattle.program_tokens.specs.Lines.{lines}
-use Rattle.canonical_text.specs.CanonicalText.{canonical_text}
-use Rattle.program_statements.specs.Steps.{◌>>=◌}
-use Rattle.annotated_asm.specs.Items.{items_from}
-use Rattle.annotated_asm.specs.Layout.{laid, no_layout}
-use Rattle.annotated_asm.specs.Resolve.{index_of_symbol, code_label}
 use Rattle.annotated_asm.specs.ProgramText.{built, program_of, parse}
-use Rattle.annotated_asm.specs.declared.fault.AsmFault.{AsmFault}
 use Rattle.annotated_asm.specs.declared.fault.AsmFault.TheVariants as fault
-use Rattle.annotated_asm.specs.declared.layout.Layout.{Layout}
-use Rattle.annotated_asm.specs.declared.item.PlacedStatement.{PlacedStatement}
 use Rattle.program_statements.specs.declared.statement.Section.TheVariants as section
-use Rattle.canonical_text.specs.Ranges.{IsInRange, IsTaskInRange}
 use Rattle.annotated_asm.proofs.Knowns.{built_of}
 use Rattle.canonical_text.proofs.Layouts.{rows, lookup_rows}
 use Rattle.canonical_text.proofs.SourceItems.{items}

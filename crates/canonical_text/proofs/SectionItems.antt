@@ -1,10 +1,6 @@
 -- The lines of a section are as one item with all its bytes: layout, names and program are the same.
-use Rattle.std.proofs.Common.{ℕ, ◌+◌, List, [], ◌∷◌, ◌++◌, refl}
-use Rattle.program_statements.specs.declared.statement.Section.{Section}
+use Rattle.canonical_text.proofs.Imports.{ℕ, ◌+◌, List, [], ◌∷◌, ◌++◌, refl, Section, blob, PlacedStatement, alike_same, alike_then, alike_behind, blob_joined}
 use Rattle.annotated_asm.specs.Alike.{AreAlike}
-use Rattle.annotated_asm.specs.Items.{blob}
-use Rattle.annotated_asm.specs.declared.item.PlacedStatement.{PlacedStatement}
-use Rattle.annotated_asm.proofs.Runs.{alike_same, alike_then, alike_behind, blob_joined}
 use Rattle.canonical_text.proofs.SourceItems.{byte_items, data_items, section_items}
 
 -- the bytes of one item, and what is as one item behind it

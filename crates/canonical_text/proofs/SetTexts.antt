@@ -1,17 +1,9 @@
 -- A set is read back from the list of its members.
-use Rattle.std.proofs.Common.{◌≡◌, ℕ, ◌*◌, ◌%◌, ◌<◌, ◌^◌, List, [], ◌∷◌, ◌++◌, Bool, true, false, cond, Ok, arith, refl, ap, sym, subst, ◌∙◌, inl, inr}
-use Rattle.std.specs.Prelude.{◌==◌, ◌||◌, ◌&&◌, bit_or, filter}
-use Rattle.std.specs.List.{list_any, AllByRecursion as All}
+use Rattle.canonical_text.proofs.Imports.{◌≡◌, ℕ, ◌*◌, ◌%◌, ◌<◌, ◌^◌, List, [], ◌∷◌, ◌++◌, Bool, true, false, cond, Ok, arith, refl, ap, sym, subst, ◌∙◌, inl, inr, ◌==◌, ◌||◌, ◌&&◌, bit_or, filter, list_any, cases_lt, and_right, false≢true, agree_below_at, eqb-true, has, registers, members, ◌>>=◌, registers_of, with_registers, Token}
+use Rattle.std.specs.List.{AllByRecursion as All}
 use Rattle.std.proofs.Math.Pow.{pow-lt}
 use Rattle.std.proofs.Math.Bool.{and-true}
-use Rattle.std.proofs.lemmas.Bool.{cases_lt, and_right, false≢true, agree_below_at, eqb-true}
-use Rattle.mips_instructions.specs.Words.{has}
 use Rattle.mips_instructions.proofs.SetLemmas.{has-insert, has-empty, has-above, same_set}
-use Rattle.task_descriptor.specs.Listing.{registers}
-use Rattle.canonical_text.specs.CanonicalText.{members}
-use Rattle.program_statements.specs.Steps.{◌>>=◌}
-use Rattle.program_statements.specs.Statements.{registers_of, with_registers}
-use Rattle.program_tokens.specs.declared.token.Token.{Token}
 use Rattle.program_tokens.specs.declared.token.Token.TheVariants as token
 use Rattle.canonical_text.proofs.Operations.{comma_tokens, register_tokens, members_below}
 

@@ -1,13 +1,6 @@
 -- The items of a canonical text, line by line.
-use Rattle.std.proofs.Common.{ℕ, ◌+◌, List, [], ◌∷◌, ◌++◌, Option, Some, None, map}
-use Rattle.std.specs.Prelude.{◌==◌, find}
-use Rattle.task_descriptor.specs.Listing.{Listing}
-use Rattle.task_descriptor.specs.declared.descriptor.Marked.{Marked}
-use Rattle.task_descriptor.specs.declared.descriptor.Descriptor.{Descriptor}
-use Rattle.annotated_asm.specs.declared.item.PlacedStatement.{PlacedStatement}
-use Rattle.program_statements.specs.declared.statement.Section.{Section}
+use Rattle.canonical_text.proofs.Imports.{ℕ, ◌+◌, List, [], ◌∷◌, ◌++◌, Option, Some, None, map, ◌==◌, find, Listing, Marked, Descriptor, PlacedStatement, Section, Statement}
 use Rattle.program_statements.specs.declared.statement.Section.TheVariants as section
-use Rattle.program_statements.specs.declared.statement.Statement.{Statement}
 use Rattle.program_statements.specs.declared.statement.Statement.TheVariants as statement
 use Rattle.canonical_text.proofs.Meanings.{target_of, written}
 

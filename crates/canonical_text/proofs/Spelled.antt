@@ -1,7 +1,5 @@
 -- One more operand after those that are written: a blank stands before the first, a comma before each other.
-use Rattle.std.proofs.Common.{◌≡◌, ◌++◌, ◌∷◌, [], List, ℕ, Bool, refl, sym, ap, ◌∙◌, append_assoc, ◌<◌, ◌+◌, nat_eq, length, map, take, get_or}
-use Rattle.std.proofs.lemmas.List.{map_more}
-use Rattle.canonical_text.specs.CanonicalText.{commas, no_pieces, spelled, before_operand}
+use Rattle.canonical_text.proofs.Imports.{◌≡◌, ◌++◌, ◌∷◌, [], List, ℕ, Bool, refl, sym, ap, ◌∙◌, append_assoc, ◌<◌, ◌+◌, nat_eq, length, map, take, get_or, map_more, commas, no_pieces, spelled, before_operand}
 use Rattle.canonical_text.proofs.Commas.{commas_more, none_so_far}
 
 spelled_push : (name : List ℕ) (pieces : List (List ℕ)) (piece : List ℕ)

@@ -1,18 +1,8 @@
 -- Texts that are read as their tokens wherever they stand before bytes that go on no token, and how such
 -- texts are put together from the right.
-use Rattle.std.proofs.Common.{◌≡◌, ℕ, zero, suc, ◌+◌, ◌-◌, List, [], ◌∷◌, ◌++◌, Bool, true, false, cond, Option, Some, Result, Ok, Err, length, take, refl, ap, sym, ◌∙◌, append_assoc, ne_eqb, inl, inr}
-use Rattle.std.specs.Prelude.{◌==◌, not, slice_index}
-use Rattle.std.specs.List.{list_all, prefix_len, All}
-use Rattle.std.specs.Str.{byte}
-use Rattle.std.specs.Char.{is_ascii_alphanumeric, is_ascii_lowercase}
+use Rattle.canonical_text.proofs.Imports.{◌≡◌, ℕ, zero, suc, ◌+◌, ◌-◌, List, [], ◌∷◌, ◌++◌, Bool, true, false, cond, Option, Some, Result, Ok, Err, length, take, refl, ap, sym, ◌∙◌, append_assoc, inl, inr, ◌==◌, not, slice_index, list_all, prefix_len, All, byte, is_ascii_alphanumeric, is_ascii_lowercase, append-nil, All-nil, All-cons, or_parts, and_parts, and_from, false≢true, cases_eq, cond-false, cond-true, list_all-append, is_text_byte, is_blank, is_name_byte, kind_of, goes_on, token_of, with_token, tokens_after, line_tokens, Token, LineFault}
+use Rattle.std.proofs.Common.{ne_eqb}
 use Rattle.std.specs.Str.Lines.{strip_carriage_return}
-use Rattle.std.proofs.lemmas.List.{append-nil}
-use Rattle.std.proofs.lemmas.List.Elements.{All-nil, All-cons}
-use Rattle.std.proofs.lemmas.Bool.{or_parts, and_parts, and_from, false≢true, cases_eq, cond-false, cond-true}
-use Rattle.std.proofs.lemmas.List.Folds.{list_all-append}
-use Rattle.program_tokens.specs.Grammar.{is_text_byte, is_blank, is_name_byte, kind_of, goes_on, token_of, with_token, tokens_after, line_tokens}
-use Rattle.program_tokens.specs.declared.token.Token.{Token}
-use Rattle.program_tokens.specs.declared.token.LineFault.{LineFault}
 use Rattle.program_tokens.specs.declared.token.LineFault.TheVariants as fault
 use Rattle.program_tokens.proofs.Steps.{with_tokens, token_again, blank_step}
 

@@ -1,27 +1,12 @@
 -- The line of a task is read as that task.
-use Rattle.std.proofs.Common.{◌≡◌, ℕ, ◌≤◌, ◌<◌, ◌^◌, List, [], ◌∷◌, ◌++◌, true, Option, Some, None, Result, Ok, map, refl, ap, sym, ◌∙◌, append_assoc}
-use Rattle.std.specs.Prelude.{◌==◌, find, nat_le, pos, codes}
-use Rattle.std.specs.List.{list_all, AllByRecursion as All}
-use Rattle.std.proofs.lemmas.Bool.{and_from, le-leb}
-use Rattle.std.proofs.lemmas.List.{append-nil}
-use Rattle.std.proofs.lemmas.List.Folds.{list_all-append}
-use Rattle.task_descriptor.specs.Names.{is_name}
-use Rattle.task_descriptor.specs.declared.descriptor.Descriptor.{Descriptor}
-use Rattle.program_tokens.specs.Grammar.{kind_of, token_of}
-use Rattle.program_tokens.specs.declared.token.Token.{Token}
+use Rattle.canonical_text.proofs.Imports.{◌≡◌, ℕ, ◌≤◌, ◌<◌, ◌^◌, List, [], ◌∷◌, ◌++◌, true, Option, Some, None, Result, Ok, map, refl, ap, sym, ◌∙◌, append_assoc, ◌==◌, find, nat_le, pos, codes, list_all, and_from, le-leb, append-nil, list_all-append, is_name, Descriptor, kind_of, token_of, Token, Small, line, listed, register_text, members, place_text, task_line, ◌>>=◌, registers_at, with_registers, places_of, targets_of, create_at, targets_at, task_of, with_marks, statement_of, StatementFault, Target, Statement}
+use Rattle.std.specs.List.{AllByRecursion as All}
 use Rattle.program_tokens.specs.declared.token.Token.TheVariants as token
 use Rattle.program_tokens.specs.declared.token.Directive.TheVariants as directive
-use Rattle.program_tokens.specs.declared.token.Number.TheVariants.{Small}
-use Rattle.canonical_text.specs.CanonicalText.{line, listed, register_text, members, place_text, task_line}
-use Rattle.program_statements.specs.Steps.{◌>>=◌}
-use Rattle.program_statements.specs.Statements.{registers_at, with_registers, places_of, targets_of, create_at, targets_at, task_of, with_marks, statement_of}
-use Rattle.program_statements.specs.declared.fault.StatementFault.{StatementFault}
 use Rattle.program_statements.specs.declared.operand.Operand.{Operand}
 use Rattle.program_statements.specs.declared.operand.Operand.TheVariants as operand
 use Rattle.program_statements.specs.declared.statement.Section.TheVariants as section
-use Rattle.program_statements.specs.declared.statement.Target.{Target}
 use Rattle.program_statements.specs.declared.statement.Target.TheVariants as target
-use Rattle.program_statements.specs.declared.statement.Statement.{Statement}
 use Rattle.canonical_text.proofs.Spelling.{Reads, blank, joined, directive_stops, token as one_token}
 use Rattle.canonical_text.proofs.PiecesReadBack.{name_reads, equals, minus}
 use Rattle.canonical_text.proofs.Operations.{ReadEach, done, more, comma_tokens, commas_read, register_tokens, registers_read, members_below, place_token_named, place_token, place_reads}

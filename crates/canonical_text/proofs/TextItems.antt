@@ -1,22 +1,12 @@
 -- A canonical text is read as its items.
-use Rattle.std.proofs.Common.{◌≡◌, ℕ, ◌+◌, ◌*◌, ◌<◌, ◌≤◌, ◌^◌, List, [], ◌∷◌, ◌++◌, true, Option, Some, None, Ok, map, arith, refl, sym, subst}
-use Rattle.std.specs.Prelude.{◌==◌, find, IfSome, codes}
-use Rattle.std.specs.List.{flat_map, AllByRecursion as All}
-use Rattle.task_descriptor.specs.Names.{is_name}
-use Rattle.task_descriptor.specs.Listing.{Listing, release_fits}
-use Rattle.task_descriptor.specs.declared.descriptor.Marked.{Marked}
-use Rattle.task_descriptor.specs.declared.descriptor.Descriptor.{Descriptor}
-use Rattle.program_tokens.specs.Lines.{lines}
-use Rattle.canonical_text.specs.CanonicalText.{line, start_line, task_line, label_line, marked_text, code_lines, word_line, byte_line, data_lines, section, canonical_text}
-use Rattle.annotated_asm.specs.Items.{label_item, items_from}
-use Rattle.program_statements.specs.declared.statement.Section.{Section}
+use Rattle.canonical_text.proofs.Imports.{◌≡◌, ℕ, ◌+◌, ◌*◌, ◌<◌, ◌≤◌, ◌^◌, List, [], ◌∷◌, ◌++◌, true, Option, Some, None, Ok, map, arith, refl, sym, subst, ◌==◌, find, IfSome, codes, flat_map, is_name, Listing, release_fits, Marked, Descriptor, lines, line, start_line, task_line, label_line, marked_text, code_lines, word_line, byte_line, data_lines, section, canonical_text, label_item, items_from, Section, IsInRange}
+use Rattle.std.specs.List.{AllByRecursion as All}
 use Rattle.program_statements.specs.declared.statement.Section.TheVariants as section
 use Rattle.program_statements.specs.declared.statement.Statement.TheVariants as statement
 use Rattle.canonical_text.proofs.Spelling.{blank, nothing, joined as joined_texts}
 use Rattle.canonical_text.proofs.PiecesReadBack.{name_reads, colon}
 use Rattle.canonical_text.proofs.Operations.{found_passes, op_reads, marks_read}
 use Rattle.canonical_text.proofs.Meanings.{is_named}
-use Rattle.canonical_text.specs.Ranges.{IsInRange}
 use Rattle.canonical_text.proofs.CodeLines.{code_said}
 use Rattle.canonical_text.proofs.TaskLines.{task_line_is, task_reads, task_said}
 use Rattle.canonical_text.proofs.CanonicalRoundTripDataLines.{IsData, start_reads, data_reads, rodata_reads, word_line_reads, byte_line_reads, word_said, byte_said, bytes_back}

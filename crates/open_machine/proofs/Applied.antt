@@ -1,16 +1,7 @@
 -- A machine stays one over each event that is allowed.
-use Rattle.std.specs.Prelude.{◌≡◌, ℕ, ◌+◌, ◌<◌, Bool, true, false, nat_lt, Option, Some, None, Ok}
-use Rattle.std.specs.Option.{option_or}
-use Rattle.std.proofs.Common.{refl, sym, ◌∙◌, subst, arith, inl, inr, add-one, ltb-true}
-use Rattle.task_descriptor.specs.Listing.{Listing}
-use Rattle.machine_model.specs.Machine.{State}
-use Rattle.machine_model.specs.Refusals.{unless}
-use Rattle.machine_model.specs.Answer.{after, later_refusal, most_events, refusal}
-use Rattle.machine_model.specs.declared.event.Event.{Event}
-use Rattle.machine_model.specs.declared.event.Refused.{Refused}
+use Rattle.open_machine.proofs.Imports.{◌+◌, true, false, nat_lt, Option, Some, None, Ok, option_or, refl, sym, ◌∙◌, subst, arith, inl, inr, add-one, ltb-true, Listing, State, unless, after, later_refusal, most_events, refusal, Event, Refused, ProcessorView, state_of, OpenView, state, Grew, IsOpen, Tries}
+use Rattle.std.specs.Prelude.{◌≡◌, ℕ, ◌<◌, Bool}
 use Rattle.machine_model.specs.declared.event.Refused.TheVariants as refused
-use Rattle.processor_steps.specs.Processors.{ProcessorView, state_of}
-use Rattle.open_machine.specs.Machines.{OpenView, state, Grew, IsOpen, Tries}
 use Rattle.open_machine.proofs.Growing.{grew_after}
 
 later_none : (p : Listing) (old : ProcessorView) (n : ℕ) (e : Event) (done : Unit {0}) (new : ProcessorView) → Tries p old n e (Ok done) new → later_refusal p old.queue.capacity (state_of old) n e ≡ None

@@ -1,19 +1,8 @@
 -- After an event there is at most one Assign more, and no log has more than one read more.
-use Rattle.std.specs.Prelude.{◌≡◌, ℕ, zero, suc, ◌+◌, ◌≤◌, Option, Some, None, List, [], ◌∷◌, ◌++◌, length, take, drop, pred, slice_get, slice_set}
-use Rattle.std.specs.Option.{option_or, option_and_then, unwrap_or}
-use Rattle.std.proofs.Common.{refl, ap, subst, arith, length-append}
-use Rattle.task_descriptor.specs.Listing.{Listing}
-use Rattle.task_descriptor.specs.declared.descriptor.Marked.{Marked}
-use Rattle.machine_model.specs.Machine.{Active, State, pass}
-use Rattle.machine_model.specs.Unit.{instruction_at, exit_of, put, after_drain, operand}
-use Rattle.machine_model.specs.Step.{started, filled, handed_over, retire_leaves}
-use Rattle.machine_model.specs.Answer.{after, with_unit, with_queue, exec_after}
-use Rattle.mips_plain.specs.declared.outcome.Read.{Read}
-use Rattle.machine_model.specs.declared.event.Event.{Event}
-use Rattle.machine_model.specs.declared.event.Event.TheVariants.{Assign, Exec, Transfer, Drain, Squash, Retire, Fault, Drop}
-use Rattle.processor_steps.proofs.Queues.{holds_after}
+use Rattle.open_machine.proofs.Imports.{zero, suc, ◌+◌, ◌≤◌, Option, Some, None, [], ◌∷◌, ◌++◌, drop, pred, slice_get, slice_set, option_or, option_and_then, refl, ap, subst, arith, length-append, Listing, Marked, Active, State, pass, instruction_at, exit_of, put, after_drain, operand, started, filled, handed_over, retire_leaves, after, with_unit, with_queue, exec_after, Read, Event, Assign, Exec, Transfer, Drain, Squash, Retire, Fault, Drop, holds_after, LogsWithin, Grew}
+use Rattle.std.specs.Prelude.{◌≡◌, ℕ, List, length, take}
+use Rattle.std.specs.Option.{unwrap_or}
 use Rattle.machine_model.specs.declared.event.Standing.TheVariants as standing
-use Rattle.open_machine.specs.Machines.{LogsWithin, Grew}
 
 within_more : (n : ℕ) (us : List Active) → LogsWithin n us → LogsWithin (suc n) us
 within_more n us h = λ k u e. let few = h k u e in omega arith

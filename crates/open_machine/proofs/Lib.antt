@@ -1,3 +1,4 @@
+mod Imports
 pub mod OpenLemmas
 pub mod Growing
 pub mod Applied

@@ -1,32 +1,11 @@
 -- What the calls on a unit, a queue and a processor leave is what the model's events leave.
-use Rattle.std.specs.Prelude.{◌≡◌, ℕ, ◌+◌, Bool, true, false, ◌||◌, nat_eq, Option, Some, None, is_none, List, [], ◌∷◌, ◌++◌, slice_set, slice_index, map, if◌then◌else◌, Result, Ok, Err, OnOk}
-use Rattle.std.proofs.Common.{refl, sym, ap, ◌∙◌, subst, cond, add-one}
-use Rattle.std.proofs.lemmas.List.{map-append}
-use Rattle.std.proofs.Math.Path.{fun_ext}
-use Rattle.mips_instructions.specs.Words.{has}
+use Rattle.open_machine.proofs.Imports.{◌+◌, true, false, nat_eq, Option, Some, None, is_none, [], ◌∷◌, ◌++◌, slice_set, slice_index, map, if◌then◌else◌, Result, Ok, Err, OnOk, refl, sym, ap, ◌∙◌, subst, cond, add-one, map-append, fun_ext, has, option_or, may_run_ahead, memory_after, output_after, outcome_after, Listing, Marked, Active, State, Words, task_at, value, after_exec, exec_refusal, instruction_at, lacks, operand, put, for_none, for_some, least, unless, is_reserved, started, stands, after, with_unit, exec_after, index_of_place, Assign, Refused, no_pairs, pairs, put_first, arrived_of, sent_of, arrived_fresh, UnitView, active_of, WorldView, memory_of, QueueView, ProcessorView, state_of, actives, changed, Executes, ExecutesAt}
+use Rattle.std.specs.Prelude.{◌≡◌, ℕ, Bool, ◌||◌, List}
 use Rattle.mips_instructions.specs.Instruction.{reg_a, reg_b, waits}
-use Rattle.std.specs.Option.{option_or}
 use Rattle.std.proofs.lemmas.Bool.{eqb-true}
-use Rattle.mips_plain.specs.Effect.{may_run_ahead, memory_after, output_after, outcome_after}
-use Rattle.task_descriptor.specs.Listing.{Listing}
-use Rattle.task_descriptor.specs.declared.descriptor.Marked.{Marked}
-use Rattle.machine_model.specs.Machine.{Active, State, Words, task_at, value}
-use Rattle.machine_model.specs.Unit.{after_exec, exec_refusal, instruction_at, lacks, operand, put}
-use Rattle.machine_model.specs.Refusals.{for_none, for_some, least, unless}
-use Rattle.machine_model.specs.Step.{is_reserved, started, stands}
-use Rattle.machine_model.specs.Answer.{after, with_unit, exec_after, index_of_place}
-use Rattle.machine_model.specs.declared.event.Event.TheVariants.{Assign}
-use Rattle.machine_model.specs.declared.event.Refused.{Refused}
 use Rattle.machine_model.specs.declared.event.Refused.TheVariants as refused
 use Rattle.machine_model.specs.declared.event.Spot.TheVariants.{Inside}
-use Rattle.register_ring.specs.Held.{no_pairs, pairs, put_first}
-use Rattle.register_ring.specs.Ports.{arrived_of, sent_of, arrived_fresh}
-use Rattle.unit_core.specs.Units.{UnitView, active_of}
-use Rattle.unit_core.specs.Worlds.{WorldView, memory_of}
-use Rattle.processor_steps.specs.Processors.{QueueView, ProcessorView, state_of, actives}
-use Rattle.processor_steps.proofs.Queues.{changed}
 use Rattle.open_machine.specs.Instructions.{IsAt}
-use Rattle.open_machine.specs.Executions.{Executes, ExecutesAt}
 use Rattle.unit_core.specs.declared.step.Next.{Next}
 
 -- a unit that begins is the one that the model starts

@@ -1,16 +1,8 @@
 -- Counts over a history: by induction on the events, one more after them, and several Execs.
-use Rattle.std.proofs.Common.{◌≡◌, ◌≢◌, ℕ, zero, suc, ◌+◌, ◌*◌, ◌%◌, ◌<◌, List, [], ◌∷◌, ◌++◌, length, inl, inr, sym, ap, ◌∙◌, subst, arith, Bool, true, false, true≢false, length-append, length-set, get_or-set_same, get_or-set_other, eq-eqb}
-use Rattle.std.proofs.lemmas.Bool.{cases_eq, ne_eqb}
+use Rattle.threaded_runner.proofs.Imports.{◌≡◌, ◌≢◌, ℕ, zero, suc, ◌+◌, ◌*◌, ◌%◌, ◌<◌, List, [], ◌∷◌, ◌++◌, length, inl, inr, sym, ap, ◌∙◌, subst, arith, Bool, true, false, true≢false, length-append, length-set, get_or-set_same, get_or-set_other, eq-eqb, cases_eq, ne_eqb, fold, sum, replicate, slice_index, slice_set, nat_eq, if◌then◌else◌, Listing, State, opening, unit_of, retired_after, active_after, Event, Exec, retired_by, active_by, events_from, events_of, IsCounted}
 use Rattle.std.proofs.lemmas.List.Sums.{sum_by-set}
-use Rattle.std.specs.Prelude.{fold, sum, replicate, slice_index, slice_set, nat_eq, if◌then◌else◌}
-use Rattle.task_descriptor.specs.Listing.{Listing}
-use Rattle.machine_model.specs.Machine.{State, opening}
 use Rattle.machine_model.specs.Replay.{ReplaysFrom, Replays}
 use Rattle.machine_model.specs.Laws.{EventsCount}
-use Rattle.machine_model.specs.HeadEvent.{unit_of, retired_after, active_after}
-use Rattle.machine_model.specs.declared.event.Event.{Event}
-use Rattle.machine_model.specs.declared.event.Event.TheVariants.{Exec}
-use Rattle.threaded_runner.specs.Counts.{retired_by, active_by, events_from, events_of, IsCounted}
 
 -- retired tasks and units at work
 

@@ -1,6 +1,5 @@
 -- A slot that is filled is not empty.
-use Rattle.std.proofs.Common.{◌≡◌, Option, Some, None}
-use Rattle.std.specs.Prelude.{IsSomeAnd}
+use Rattle.threaded_runner.proofs.Imports.{◌≡◌, Option, Some, None, IsSomeAnd}
 
 pub filled : {A : Type 0} (P : A → Type 0) (slot : Option A) → IsSomeAnd slot P → slot ≡ None → ⊥
 filled P None h e = h

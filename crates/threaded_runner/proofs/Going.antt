@@ -1,19 +1,5 @@
 -- Turns one after another.
-use Rattle.std.proofs.Common.{◌≡◌, ℕ, zero, suc, ◌+◌, ◌%◌, ◌<◌, ◌≤◌, List, [], ◌∷◌, ◌++◌, length, true, Some, inl, inr, refl, sym, ap, ◌∙◌, subst, arith, length-append}
-use Rattle.machine_model.specs.Machine.{State}
-use Rattle.machine_model.specs.Answer.{most_events}
-use Rattle.machine_model.specs.declared.event.Event.{Event}
-use Rattle.machine_model.specs.declared.event.Event.TheVariants.{Exec}
-use Rattle.sequencer.specs.Machines.{MachineView, state, units_of, Applies, SameRing}
-use Rattle.sequencer.specs.Rings.{unit_for}
-use Rattle.sequencer.specs.Choices.{choice_of}
-use Rattle.unit_turns.specs.Turns.{turn_of}
-use Rattle.unit_turns.specs.declared.turn.Turn.{Turn}
-use Rattle.unit_turns.specs.declared.turn.Turn.TheVariants.{Choose}
-use Rattle.threaded_runner.specs.declared.share.Share.{Share}
-use Rattle.threaded_runner.specs.Shares.{IsServed}
-use Rattle.threaded_runner.specs.Desks.{DeskView}
-use Rattle.threaded_runner.specs.Holds.{IsNamed, Acts, GoesBy, TakesTurns, RunsHead}
+use Rattle.threaded_runner.proofs.Imports.{◌≡◌, ℕ, zero, suc, ◌+◌, ◌%◌, ◌<◌, ◌≤◌, List, [], ◌∷◌, ◌++◌, length, true, Some, inl, inr, refl, sym, ap, ◌∙◌, subst, arith, length-append, State, most_events, Event, Exec, MachineView, state, units_of, Applies, SameRing, unit_for, choice_of, turn_of, Turn, Choose, Share, IsServed, DeskView, IsNamed, Acts, GoesBy, TakesTurns, RunsHead}
 use Rattle.threaded_runner.proofs.Turning.{exec_is_named}
 
 -- events one after another

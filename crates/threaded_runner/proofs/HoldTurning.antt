@@ -1,15 +1,5 @@
 -- The turns of a hold, one after another.
-use Rattle.std.proofs.Common.{◌≡◌, ℕ, ◌+◌, ◌<◌, length, refl, sym, subst, arith, add-one}
-use Rattle.std.specs.Prelude.{Result}
-use Rattle.machine_model.specs.declared.event.Event.{Event}
-use Rattle.machine_model.specs.declared.event.Refused.{Refused}
-use Rattle.sequencer.specs.Machines.{MachineView}
-use Rattle.unit_turns.specs.Turns.{turn_of}
-use Rattle.unit_turns.specs.declared.turn.Turn.{Turn}
-use Rattle.threaded_runner.specs.Shares.{IsFirst}
-use Rattle.threaded_runner.specs.Desks.{DeskView}
-use Rattle.threaded_runner.specs.Workers.{WorkerView}
-use Rattle.threaded_runner.specs.HoldTurns.{AppliesAtHead, DoesTurn, ExecutesAtHead, GoesInPlace, GoesInPlaceFor, HoldsFor, TakesTurn}
+use Rattle.threaded_runner.proofs.Imports.{◌≡◌, ℕ, ◌+◌, ◌<◌, length, refl, sym, subst, arith, add-one, Result, Event, Refused, MachineView, turn_of, Turn, IsFirst, DeskView, WorkerView, AppliesAtHead, DoesTurn, ExecutesAtHead, GoesInPlace, GoesInPlaceFor, HoldsFor, TakesTurn}
 
 pub turn_taken : (was_asked : MachineView → Event → Result (Unit {0}) Refused → Type 0) (w w' : WorkerView) (unit : ℕ) (t : Turn) (a b : DeskView)
     → IsFirst a.machine w.share unit → length a.machine.history < w.budget → t ≡ turn_of a.machine unit → DoesTurn was_asked w unit t a w' b → TakesTurn was_asked w a w' b

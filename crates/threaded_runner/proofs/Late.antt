@@ -1,9 +1,6 @@
 -- What follows once the budget is spent, by induction on the budget and the history.
-use Rattle.std.proofs.Common.{◌≡◌, ℕ, zero, suc, ◌<◌, List, [], ◌∷◌, ◌++◌, length, Bool, true, false, refl, sym, subst, arith}
-use Rattle.std.specs.Prelude.{replicate}
+use Rattle.threaded_runner.proofs.Imports.{◌≡◌, ℕ, zero, suc, ◌<◌, List, [], ◌∷◌, ◌++◌, length, Bool, true, false, refl, sym, subst, arith, replicate, Event, Exec}
 use Rattle.std.specs.List.{AllByRecursion}
-use Rattle.machine_model.specs.declared.event.Event.{Event}
-use Rattle.machine_model.specs.declared.event.Event.TheVariants.{Exec}
 use Rattle.threaded_runner.specs.Reports.{is_late, AreLate}
 
 abbrev AllLate : List Event → Type 0

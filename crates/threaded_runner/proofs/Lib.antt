@@ -1,3 +1,4 @@
+mod Imports
 pub mod Counting
 pub mod Locked
 pub mod Rounds

@@ -1,14 +1,5 @@
 -- The counts stay right where the machine and one worker's count grow by the same events.
-use Rattle.std.proofs.Common.{◌≡◌, ℕ, ◌+◌, ◌*◌, ◌%◌, ◌<◌, List, [], ◌∷◌, ◌++◌, length, Bool, sym, ap, ◌∙◌, subst, arith, length-set, append_assoc}
-use Rattle.std.proofs.lemmas.List.{replicate_more}
-use Rattle.std.specs.Prelude.{slice_index, slice_set, nat_eq, if◌then◌else◌, replicate}
-use Rattle.machine_model.specs.HeadEvent.{unit_of}
-use Rattle.machine_model.specs.declared.event.Event.{Event}
-use Rattle.machine_model.specs.declared.event.Event.TheVariants.{Exec}
-use Rattle.sequencer.specs.Machines.{MachineView, state, units_of}
-use Rattle.sequencer.specs.Rings.{unit_for}
-use Rattle.threaded_runner.specs.Counts.{retired_by, active_by, events_from, IsCounted}
-use Rattle.threaded_runner.specs.Desks.{IsDesk}
+use Rattle.threaded_runner.proofs.Imports.{◌≡◌, ℕ, ◌+◌, ◌*◌, ◌%◌, ◌<◌, List, [], ◌∷◌, ◌++◌, length, Bool, sym, ap, ◌∙◌, subst, arith, length-set, append_assoc, replicate_more, slice_index, slice_set, nat_eq, if◌then◌else◌, replicate, unit_of, Event, Exec, MachineView, state, units_of, unit_for, retired_by, active_by, events_from, IsCounted, IsDesk}
 use Rattle.threaded_runner.proofs.Counting.{counted_more, events_of_execs}
 
 once : (x : ℕ) → x + 0 ≡ 1 * x

@@ -1,8 +1,7 @@
 -- The rounds of a worker, one after another.
-use Rattle.std.proofs.Common.{ℕ, ◌+◌, sym, subst, add-one}
+use Rattle.threaded_runner.proofs.Imports.{ℕ, ◌+◌, sym, subst, add-one, IsRound, RoundsFor}
 use Rattle.threaded_runner.specs.declared.next.NextBurst.{NextBurst}
 use Rattle.threaded_runner.specs.declared.next.Then.{Then}
-use Rattle.threaded_runner.specs.Serving.{IsRound, RoundsFor}
 
 pub one_more_round : {B H W : Type 0} (holds : B → H → B → H → Then → Type 0) (away : B → W → H → NextBurst → B → W → H → Type 0)
     (in_place : B → W → NextBurst → B → W → Type 0) (n : ℕ) (b b1 b2 : B) (w w1 w2 : W) (h h1 h2 : H)

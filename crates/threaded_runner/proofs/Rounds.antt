@@ -1,6 +1,5 @@
 -- Places round a ring, counted from one of its units.
-use Rattle.std.proofs.Common.{◌≡◌, ℕ, ◌+◌, ◌-◌, ◌%◌, ◌<◌, ◌≤◌, ap, ◌∙◌, arith}
-use Rattle.std.proofs.Math.Nat.{add-mod_left, mod-eq_of_lt, mod-lt}
+use Rattle.threaded_runner.proofs.Imports.{◌≡◌, ℕ, ◌+◌, ◌-◌, ◌%◌, ◌<◌, ◌≤◌, ap, ◌∙◌, arith, add-mod_left, mod-eq_of_lt, mod-lt}
 
 -- the units from one on come first
 pub from_it : (n head unit : ℕ) → head < n → unit < n → head ≤ unit → (unit + (n - head)) % n ≡ unit - head

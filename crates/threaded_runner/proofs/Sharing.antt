@@ -1,20 +1,6 @@
 -- The first unit of a share that does not wait, round the ring.
-use Rattle.std.proofs.Common.{◌≡◌, ℕ, List, [], ◌∷◌, ◌+◌, ◌-◌, ◌%◌, ◌<◌, ◌≤◌, length, Bool, true, false, inl, inr, refl, sym, ap, ◌∙◌, subst, arith, true≢false}
-use Rattle.std.proofs.lemmas.Bool.{ltb-true, cases_lt}
-use Rattle.std.proofs.Math.Nat.{mod-lt}
-use Rattle.std.specs.Prelude.{◌&&◌, nat_lt, if◌then◌else◌, Option, Some, None, IfNone, slice_get}
-use Rattle.std.specs.Option.{option_map}
-use Rattle.machine_model.specs.Machine.{Active}
-use Rattle.machine_model.specs.declared.event.Spot.{Spot}
-use Rattle.machine_model.specs.Answer.{is_running, most_events}
-use Rattle.machine_model.specs.declared.event.Event.TheVariants.{Exec}
-use Rattle.sequencer.specs.Machines.{MachineView, state, units_of}
-use Rattle.sequencer.specs.Rings.{unit_for}
-use Rattle.unit_turns.specs.Turns.{turn_of, turn_at_position, position_of_unit}
-use Rattle.unit_turns.specs.declared.turn.Turn.{Turn}
-use Rattle.unit_turns.specs.declared.turn.Turn.TheVariants.{Wait}
-use Rattle.threaded_runner.specs.declared.share.Share.{Share}
-use Rattle.threaded_runner.specs.Shares.{IsShareOf, IsServed, IsFirst, AllWait, WaitBetween, IsFirstBetween, distance}
+use Rattle.threaded_runner.proofs.Imports.{◌≡◌, ℕ, List, [], ◌∷◌, ◌+◌, ◌-◌, ◌%◌, ◌<◌, ◌≤◌, length, Bool, true, false, inl, inr, refl, sym, ap, ◌∙◌, subst, arith, true≢false, ltb-true, cases_lt, mod-lt, ◌&&◌, nat_lt, if◌then◌else◌, IfNone, slice_get, option_map, Active, Spot, is_running, most_events, Exec, MachineView, state, units_of, unit_for, turn_of, turn_at_position, position_of_unit, Turn, Wait, Share, IsShareOf, IsServed, IsFirst, AllWait, WaitBetween, IsFirstBetween, distance}
+use Rattle.std.specs.Prelude.{Option, Some, None}
 use Rattle.threaded_runner.proofs.Rounds.{from_it, below_it, own_remainder, by_one}
 
 -- a unit that does not wait is on the ring

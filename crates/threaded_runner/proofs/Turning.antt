@@ -1,26 +1,10 @@
 -- What the turn of the head's unit says: it waits only where all units do, and where the head may execute an
 -- instruction it executes.
-use Rattle.std.proofs.Common.{◌≡◌, ℕ, ◌+◌, ◌-◌, ◌%◌, ◌<◌, ◌⊎◌, List, [], ◌∷◌, length, Bool, true, false, Option, Some, None, inl, inr, refl, sym, ap, ◌∙◌, subst, arith, true≢false}
-use Rattle.std.proofs.lemmas.Bool.{lt-ltb, ltb-true}
-use Rattle.std.proofs.Math.Nat.{mod-lt}
-use Rattle.std.specs.Prelude.{◌&&◌, nat_lt, if◌then◌else◌, slice_get}
-use Rattle.task_descriptor.specs.Listing.{Listing}
-use Rattle.machine_model.specs.Machine.{Active, State}
+use Rattle.threaded_runner.proofs.Imports.{◌≡◌, ℕ, ◌+◌, ◌-◌, ◌%◌, ◌<◌, ◌⊎◌, List, [], ◌∷◌, length, Bool, true, false, Option, Some, None, inl, inr, refl, sym, ap, ◌∙◌, subst, arith, true≢false, lt-ltb, ltb-true, mod-lt, ◌&&◌, nat_lt, if◌then◌else◌, slice_get, Listing, Active, State, is_running, most_events, head_event, event_of_queue, event_of_head, Event, Exec, Spot, MachineView, state, units_of, unit_for, turn_of, turn_of_head, turn_at_position, fits_burst, position_of_unit, Turn, Wait, IsNamed}
 use Rattle.machine_model.specs.Step.{Next}
-use Rattle.machine_model.specs.Answer.{is_running, most_events}
-use Rattle.machine_model.specs.HeadEvent.{head_event, event_of_queue, event_of_head}
-use Rattle.machine_model.specs.declared.event.Event.{Event}
-use Rattle.machine_model.specs.declared.event.Event.TheVariants.{Exec}
-use Rattle.machine_model.specs.declared.event.Spot.{Spot}
 use Rattle.machine_model.specs.declared.event.Spot.TheVariants.{Inside}
 use Rattle.machine_model.specs.declared.event.Standing.{Standing}
 use Rattle.machine_model.specs.declared.event.Standing.TheVariants as standing
-use Rattle.sequencer.specs.Machines.{MachineView, state, units_of}
-use Rattle.sequencer.specs.Rings.{unit_for}
-use Rattle.unit_turns.specs.Turns.{turn_of, turn_of_head, turn_at_position, fits_burst, position_of_unit}
-use Rattle.unit_turns.specs.declared.turn.Turn.{Turn}
-use Rattle.unit_turns.specs.declared.turn.Turn.TheVariants.{Wait}
-use Rattle.threaded_runner.specs.Holds.{IsNamed}
 use Rattle.threaded_runner.proofs.Rounds.{itself}
 
 -- tests

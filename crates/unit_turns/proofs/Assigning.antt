@@ -1,14 +1,5 @@
 -- What may follow the tail may be assigned to a free unit, test by test.
-use Rattle.std.proofs.Common.{◌≡◌, ℕ, ◌<◌, length, Bool, true, false, Option, Some, None, refl, sym, ◌∙◌, true≢false}
-use Rattle.std.specs.Prelude.{nat_lt, if◌then◌else◌}
-use Rattle.std.proofs.lemmas.Bool.{lt-ltb}
-use Rattle.task_descriptor.specs.Listing.{Listing}
-use Rattle.machine_model.specs.Machine.{State}
-use Rattle.machine_model.specs.Refusals.{unless}
-use Rattle.machine_model.specs.Answer.{refusal}
-use Rattle.machine_model.specs.declared.event.Event.TheVariants.{Assign}
-use Rattle.machine_model.specs.declared.event.Refused.{Refused}
-use Rattle.sequencer.specs.Choices.{MayFollow}
+use Rattle.unit_turns.proofs.Imports.{◌≡◌, ℕ, ◌<◌, length, Bool, true, false, Option, Some, None, refl, sym, ◌∙◌, true≢false, nat_lt, if◌then◌else◌, lt-ltb, Listing, State, unless, refusal, Assign, Refused, MayFollow}
 
 passes : (b : Bool) (why : Refused) (behind : Option Refused) → b ≡ true → unless b why behind ≡ behind
 passes true why behind e = refl

@@ -1,23 +1,9 @@
 -- The first of a unit's own events that is allowed, found test by test: of the registers, which stand in order,
 -- it is the least.
-use Rattle.std.proofs.Common.{◌≡◌, ℕ, zero, suc, ◌+◌, ◌<◌, ◌≤◌, inl, inr, Bool, true, false, cond, List, [], ◌∷◌, ◌++◌, Option, Some, None, refl, ap, ◌∙◌, subst, arith, Ok}
-use Rattle.std.specs.Prelude.{map, nat_lt, slice_get, is_none, IfSome}
-use Rattle.std.specs.List.{find, range_with_len}
-use Rattle.std.specs.Option.{option_map, option_or}
-use Rattle.std.proofs.lemmas.Bool.{cases_eq, cond-true, cond-false, ne_eqb, ltb-true}
+use Rattle.unit_turns.proofs.Imports.{◌≡◌, ℕ, zero, suc, ◌+◌, ◌<◌, ◌≤◌, inl, inr, Bool, true, false, cond, List, [], ◌∷◌, ◌++◌, Option, Some, None, refl, ap, ◌∙◌, subst, arith, Ok, map, nat_lt, slice_get, is_none, IfSome, find, range_with_len, option_map, option_or, cases_eq, cond-true, cond-false, ne_eqb, ltb-true, Listing, Active, State, unless, for_some, refusal, answer, ok_unless, is_running, most_events, Event, Exec, Transfer, Drain, Squash, Refused, NoSuch, Ended, Full, registers, first_allowed, TakesAllowed, SkipsRefused, GoesByLists, TakesLeast, AllowedIsUnrefused, own_events}
 use Rattle.std.proofs.lemmas.List.Folds.{find-append}
-use Rattle.task_descriptor.specs.Listing.{Listing}
-use Rattle.machine_model.specs.Machine.{Active, State}
 use Rattle.machine_model.specs.Unit.{exec_refusal}
-use Rattle.machine_model.specs.Refusals.{unless, for_some}
-use Rattle.machine_model.specs.Answer.{refusal, answer, ok_unless, is_running, most_events}
-use Rattle.machine_model.specs.declared.event.Event.{Event}
-use Rattle.machine_model.specs.declared.event.Event.TheVariants.{Exec, Transfer, Drain, Squash}
-use Rattle.machine_model.specs.declared.event.Refused.{Refused}
-use Rattle.machine_model.specs.declared.event.Refused.TheVariants.{NoSuch, Ended, Full}
 use Rattle.processor_steps.specs.LeastRegisters.{IsLeast}
-use Rattle.unit_turns.specs.FirstAllowed.{registers, first_allowed, TakesAllowed, SkipsRefused, GoesByLists, TakesLeast, AllowedIsUnrefused}
-use Rattle.unit_turns.specs.Turns.{own_events}
 
 -- what is found in a list of events, one for each register
 

@@ -1,23 +1,7 @@
 -- A run on its way: an event is one more in its list, and a turn that ends the run has one.
-use Rattle.std.proofs.Common.{◌≡◌, ℕ, zero, suc, ◌+◌, ◌-◌, ◌<◌, ◌≤◌, inl, inr, Bool, true, false, cond, List, [], ◌∷◌, ◌++◌, length, Option, Some, None, Ok, Err, refl, sym, ap, ◌∙◌, subst, arith, true≢false, length-append}
-use Rattle.std.specs.Prelude.{nat_lt, IsSome, Result, OnOk}
-use Rattle.std.proofs.lemmas.Bool.{cases_Bool, and_parts, ltb-true}
-use Rattle.task_descriptor.specs.Listing.{Listing}
-use Rattle.mark_checker.specs.Places.{Checked}
-use Rattle.machine_model.specs.Machine.{State, opening}
-use Rattle.machine_model.specs.Answer.{is_running}
-use Rattle.machine_model.specs.HeadEvent.{head_event}
-use Rattle.machine_model.specs.declared.event.Event.{Event}
-use Rattle.machine_model.specs.declared.event.Refused.{Refused}
-use Rattle.machine_model.specs.declared.event.Standing.{Standing}
-use Rattle.machine_model.specs.declared.event.Standing.TheVariants.{Running, Halted, Trapped, Unlisted}
-use Rattle.sequencer.specs.Choices.{choices_of, choice_of}
-use Rattle.sequencer.specs.Machines.{MachineView, state}
-use Rattle.unit_turns.specs.FirstAllowed.{first_allowed}
-use Rattle.unit_turns.specs.declared.predictor.Predictor.{Predictor}
+use Rattle.unit_turns.proofs.Imports.{◌≡◌, ℕ, zero, suc, ◌+◌, ◌-◌, ◌<◌, ◌≤◌, inl, inr, Bool, true, false, cond, List, [], ◌∷◌, ◌++◌, length, Option, Some, None, Ok, Err, refl, sym, ap, ◌∙◌, subst, arith, true≢false, length-append, nat_lt, IsSome, Result, OnOk, cases_Bool, and_parts, ltb-true, Listing, Checked, State, opening, is_running, head_event, Event, Refused, Standing, Running, Halted, Trapped, Unlisted, choices_of, choice_of, MachineView, state, first_allowed, Predictor, Course, beginning, goes_on, with_event, with_targets, with_task, turn, turns, step, after_steps, tries, Takes, course}
 use Rattle.unit_turns.specs.Predictions.{answer_for, asked}
-use Rattle.unit_turns.specs.Steps.{Course, beginning, goes_on, with_event, with_targets, with_task, turn_of, turn, turns, step, after_steps, tries, Takes}
-use Rattle.unit_turns.specs.Courses.{course}
+use Rattle.unit_turns.specs.Steps.{turn_of}
 
 -- a machine at its start, and one that has made some steps from it
 

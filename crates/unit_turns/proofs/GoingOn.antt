@@ -1,19 +1,5 @@
 -- The unit at position 0 has a turn while the run goes on and the history has room.
-use Rattle.std.proofs.Common.{◌≡◌, ℕ, ◌<◌, ◌≤◌, ◌∷◌, length, Option, Some, None, refl, sym, ap, ◌∙◌, arith, true≢false}
-use Rattle.std.specs.Prelude.{slice_get, IsSome, IfSome}
-use Rattle.std.proofs.lemmas.Option.{slice_get_within}
-use Rattle.task_descriptor.specs.Listing.{Listing}
-use Rattle.machine_model.specs.Machine.{State}
-use Rattle.machine_model.specs.Step.{Next}
-use Rattle.machine_model.specs.Answer.{most_events}
-use Rattle.machine_model.specs.HeadEvent.{head_event}
-use Rattle.machine_model.specs.declared.event.Event.{Event}
-use Rattle.machine_model.specs.declared.event.Event.TheVariants.{Assign, Exec, Transfer, Drain, Squash, Retire, Fault, Drop}
-use Rattle.machine_model.specs.declared.event.Standing.TheVariants.{Running}
-use Rattle.sequencer.specs.Machines.{MachineView, state, units_of}
-use Rattle.sequencer.specs.Rings.{unit_for}
-use Rattle.unit_turns.specs.Turns.{fits_burst, turn_of_head, turn_of}
-use Rattle.unit_turns.specs.declared.turn.Turn.TheVariants.{Wait}
+use Rattle.unit_turns.proofs.Imports.{◌≡◌, ℕ, ◌<◌, ◌≤◌, ◌∷◌, length, Option, Some, None, refl, sym, ap, ◌∙◌, arith, true≢false, slice_get, IsSome, IfSome, slice_get_within, Listing, State, Next, most_events, head_event, Event, Assign, Exec, Transfer, Drain, Squash, Retire, Fault, Drop, Running, MachineView, state, units_of, unit_for, fits_burst, turn_of_head, turn_of, Wait}
 use Rattle.unit_turns.proofs.RingPlaces.{at_place}
 use Rattle.unit_turns.proofs.TurnKinds.{head_acts}
 

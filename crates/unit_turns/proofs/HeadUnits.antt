@@ -1,17 +1,7 @@
 -- The head event is at position 0, by cases on the queue and on where its head stands.
-use Rattle.std.proofs.Common.{◌≡◌, ℕ, ◌+◌, ◌%◌, List, [], ◌∷◌, length, Bool, true, false, Option, Some, None, refl, sym, ap, ◌∙◌}
-use Rattle.std.specs.Prelude.{not, if◌then◌else◌}
-use Rattle.std.specs.Option.{option_map}
-use Rattle.task_descriptor.specs.Listing.{Listing}
-use Rattle.machine_model.specs.Machine.{Active}
-use Rattle.machine_model.specs.Answer.{is_running}
-use Rattle.machine_model.specs.HeadEvent.{head_event, event_of_queue, event_of_head, drain_or_retire, task_beginning, position_of}
-use Rattle.machine_model.specs.declared.event.Event.{Event}
-use Rattle.machine_model.specs.declared.event.Event.TheVariants.{Assign, Exec, Squash, Fault}
+use Rattle.unit_turns.proofs.Imports.{◌≡◌, ℕ, ◌+◌, ◌%◌, List, [], ◌∷◌, length, Bool, true, false, Option, Some, None, refl, sym, ap, ◌∙◌, not, if◌then◌else◌, option_map, Listing, Active, is_running, head_event, event_of_queue, event_of_head, drain_or_retire, task_beginning, position_of, Event, Assign, Exec, Squash, Fault, MachineView, state, units_of, unit_for}
 use Rattle.machine_model.specs.declared.event.Spot.{Spot}
 use Rattle.machine_model.specs.declared.event.Spot.TheVariants.{Inside, Stopped}
-use Rattle.sequencer.specs.Machines.{MachineView, state, units_of}
-use Rattle.sequencer.specs.Rings.{unit_for}
 
 -- the position of an event in a queue of this many units, 0 where there is none
 abbrev place_of : (active : ℕ) → Option Event → ℕ

@@ -1,3 +1,4 @@
+mod Imports
 pub mod HeadUnits
 pub mod Assigning
 pub mod EventOrder

@@ -1,11 +1,5 @@
 -- The loops: the turns that are left lead to the step's end, and the steps so far to the run's.
-use Rattle.std.proofs.Common.{◌≡◌, ℕ, suc, ◌<◌, ◌≤◌, true, length, sym, ap, ◌∙◌, subst}
-use Rattle.mark_checker.specs.Places.{Checked}
-use Rattle.task_descriptor.specs.Listing.{Listing}
-use Rattle.sequencer.specs.Machines.{MachineView, SameRing, units_of}
-use Rattle.unit_turns.specs.declared.predictor.Predictor.{Predictor}
-use Rattle.unit_turns.specs.Steps.{Course, turn, turns, step, after_steps}
-use Rattle.unit_turns.specs.Courses.{course}
+use Rattle.unit_turns.proofs.Imports.{◌≡◌, ℕ, suc, ◌<◌, ◌≤◌, true, length, sym, ap, ◌∙◌, subst, Checked, Listing, MachineView, SameRing, units_of, Predictor, Course, turn, turns, step, after_steps, course}
 use Rattle.unit_turns.proofs.Going.{goes, Grows, grows_on, by_turn}
 
 pub same_ring : (old mid new : MachineView) → SameRing old mid → SameRing mid new → SameRing old new

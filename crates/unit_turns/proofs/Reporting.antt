@@ -1,21 +1,7 @@
 -- A run in steps from a machine at its start leaves what its report says.
-use Rattle.std.proofs.Common.{◌≡◌, ℕ, ◌≤◌, List, [], false, length, sym, ap, ◌∙◌, subst}
-use Rattle.std.specs.Prelude.{◌↔◌, ◌&&◌, nat_lt}
-use Rattle.std.proofs.lemmas.Bool.{ltb-false}
-use Rattle.mark_checker.specs.Places.{Checked}
-use Rattle.machine_model.specs.Machine.{opening}
-use Rattle.machine_model.specs.Answer.{is_running}
+use Rattle.unit_turns.proofs.Imports.{◌≡◌, ℕ, ◌≤◌, List, [], false, length, sym, ap, ◌∙◌, subst, ◌↔◌, ◌&&◌, nat_lt, ltb-false, Checked, opening, is_running, Event, Standing, Running, MachineView, SameRing, state, units_of, Predictor, StepsReport, Course, beginning, after_steps, Takes, course, IsStepsReportOf}
 use Rattle.machine_model.specs.Replay.{Replays}
-use Rattle.machine_model.specs.declared.event.Event.{Event}
-use Rattle.machine_model.specs.declared.event.Standing.{Standing}
-use Rattle.machine_model.specs.declared.event.Standing.TheVariants.{Running}
-use Rattle.sequencer.specs.Machines.{MachineView, SameRing, state, units_of}
-use Rattle.unit_turns.specs.declared.predictor.Predictor.{Predictor}
 use Rattle.unit_turns.specs.declared.report.StepsEnd.TheVariants.{Ended, OutOfBudget}
-use Rattle.unit_turns.specs.declared.report.StepsReport.{StepsReport}
-use Rattle.unit_turns.specs.Steps.{Course, beginning, after_steps, Takes}
-use Rattle.unit_turns.specs.Courses.{course}
-use Rattle.unit_turns.specs.Reports.{IsStepsReportOf}
 use Rattle.unit_turns.proofs.Going.{goes, ran, steps_within, takes_from_start}
 
 -- where no step follows and the machine runs, the budget is used up

@@ -1,21 +1,9 @@
 -- The position of a unit is where an Exec belongs to it; and what a unit's turn is, by its position.
-use Rattle.std.proofs.Common.{◌≡◌, ℕ, zero, suc, ◌+◌, ◌-◌, ◌%◌, ◌<◌, ◌⊎◌, inl, inr, length, Bool, true, false, refl, sym, ap, ◌∙◌, subst, arith, true≢false}
-use Rattle.std.specs.Prelude.{◌&&◌, nat_lt, nat_eq, if◌then◌else◌}
-use Rattle.std.proofs.lemmas.Bool.{cases_lt, cases_eq, lt-ltb, le-ltb, eq-eqb, ne_eqb, ltb-true, cond-true, cond-false}
+use Rattle.unit_turns.proofs.Imports.{◌≡◌, ℕ, zero, suc, ◌+◌, ◌-◌, ◌%◌, ◌<◌, ◌⊎◌, inl, inr, length, Bool, true, false, refl, sym, ap, ◌∙◌, subst, arith, true≢false, ◌&&◌, nat_lt, nat_eq, if◌then◌else◌, cases_lt, cases_eq, lt-ltb, le-ltb, eq-eqb, ne_eqb, ltb-true, cond-true, cond-false, is_running, most_events, Assign, Exec, Running, MachineView, state, units_of, unit_for, choices_of, executed_in, first_allowed, position_of_unit, turn_at_position, turn_of, turn_ahead, turn_of_free, own_events, pauses, Wait}
 use Rattle.std.proofs.lemmas.Nat.{mod_below}
 use Rattle.std.proofs.Math.Nat.{add-mod_left, mod-eq_of_lt}
-use Rattle.machine_model.specs.Answer.{is_running, most_events}
-use Rattle.machine_model.specs.declared.event.Event.TheVariants.{Assign, Exec}
-use Rattle.machine_model.specs.declared.event.Standing.TheVariants.{Running}
-use Rattle.sequencer.specs.Machines.{MachineView, state, units_of}
-use Rattle.sequencer.specs.Rings.{unit_for}
-use Rattle.sequencer.specs.Choices.{choices_of}
-use Rattle.sequencer.specs.Histories.{executed_in}
 use Rattle.sequencer.proofs.Numbers.{one_place, around}
-use Rattle.unit_turns.specs.FirstAllowed.{first_allowed}
-use Rattle.unit_turns.specs.Turns.{position_of_unit, turn_at_position, turn_of, turn_ahead, turn_of_free, own_events, pauses}
 use Rattle.unit_turns.specs.declared.turn.Turn.{Turn}
-use Rattle.unit_turns.specs.declared.turn.Turn.TheVariants.{Wait}
 
 -- counted round the ring from the head, the position of a unit reaches it
 module _ (units retired unit : ℕ) (small : unit < units) where

@@ -1,14 +1,5 @@
 -- The first of the tries that is allowed: the Squash, else the Exec, else one that names a register.
-use Rattle.std.proofs.Common.{◌≡◌, ℕ, Option, Some, None, ap, ◌∙◌}
-use Rattle.std.specs.Prelude.{map}
-use Rattle.std.specs.Option.{option_or}
-use Rattle.task_descriptor.specs.Listing.{Listing}
-use Rattle.machine_model.specs.Machine.{State}
-use Rattle.machine_model.specs.Answer.{refusal}
-use Rattle.machine_model.specs.declared.event.Event.{Event}
-use Rattle.machine_model.specs.declared.event.Event.TheVariants.{Exec, Transfer, Drain, Squash}
-use Rattle.unit_turns.specs.FirstAllowed.{registers, first_allowed, TakesAllowed, SkipsRefused, GoesByLists}
-use Rattle.unit_turns.specs.Steps.{tries}
+use Rattle.unit_turns.proofs.Imports.{◌≡◌, ℕ, Option, Some, None, ap, ◌∙◌, map, option_or, Listing, State, refusal, Event, Exec, Transfer, Drain, Squash, registers, first_allowed, TakesAllowed, SkipsRefused, GoesByLists, tries}
 
 module _ (p : Listing) (units : ℕ) (s : State) (k : ℕ) where
   abbrev pub Refuses : Event → Type 0

@@ -1,9 +1,5 @@
 -- A turn by the kind of its event.
-use Rattle.std.proofs.Common.{◌≡◌, Bool, true, false, Some}
-use Rattle.machine_model.specs.declared.event.Event.{Event}
-use Rattle.machine_model.specs.declared.event.Event.TheVariants.{Assign, Exec, Transfer, Drain, Squash, Retire, Fault, Drop}
-use Rattle.unit_turns.specs.Turns.{turn_of_head}
-use Rattle.unit_turns.specs.declared.turn.Turn.TheVariants.{Wait}
+use Rattle.unit_turns.proofs.Imports.{◌≡◌, Bool, true, false, Some, Event, Assign, Exec, Transfer, Drain, Squash, Retire, Fault, Drop, turn_of_head, Wait}
 
 -- the head never waits for an event
 pub head_acts : (in_burst : Bool) (e : Event) → turn_of_head in_burst (Some e) ≡ Wait → ⊥

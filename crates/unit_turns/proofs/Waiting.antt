@@ -1,26 +1,5 @@
 -- What is allowed of a unit that waits: nothing but a Drop, or an Exec ahead of the head, where it pauses.
-use Rattle.std.proofs.Common.{◌≡◌, ℕ, zero, suc, ◌+◌, ◌%◌, ◌<◌, ◌≤◌, inl, inr, Bool, true, false, cond, List, [], ◌∷◌, length, Option, Some, None, refl, sym, ap, ◌∙◌, arith, true≢false}
-use Rattle.std.specs.Prelude.{slice_get, nat_lt, is_none, IfNone, if◌then◌else◌}
-use Rattle.std.specs.List.{find, range_with_len, last_or}
-use Rattle.std.proofs.lemmas.Bool.{cases_eq, cases_lt, ltb-true}
-use Rattle.std.proofs.lemmas.Option.{slice_get_within}
-use Rattle.task_descriptor.specs.Listing.{Listing}
-use Rattle.machine_model.specs.Machine.{Active, State}
-use Rattle.machine_model.specs.Step.{follows}
-use Rattle.machine_model.specs.Refusals.{unless, for_some}
-use Rattle.machine_model.specs.Answer.{refusal, most_events}
-use Rattle.machine_model.specs.declared.event.Event.{Event}
-use Rattle.machine_model.specs.declared.event.Event.TheVariants.{Assign, Exec, Transfer, Drain, Squash, Retire, Fault, Drop}
-use Rattle.machine_model.specs.declared.event.Refused.{Refused}
-use Rattle.machine_model.specs.declared.event.Refused.TheVariants.{NoSuch}
-use Rattle.machine_model.specs.declared.event.Standing.TheVariants.{Running}
-use Rattle.sequencer.specs.Machines.{MachineView, state, units_of}
-use Rattle.sequencer.specs.Rings.{unit_for}
-use Rattle.sequencer.specs.Choices.{choices_of, choice_of, MayFollow}
-use Rattle.sequencer.specs.Histories.{executed_in}
-use Rattle.unit_turns.specs.FirstAllowed.{registers, first_allowed}
-use Rattle.unit_turns.specs.Turns.{own_events, pauses, turn_ahead, turn_of_free, apply_or_wait, turn_of, NamesRegister, MayWait}
-use Rattle.unit_turns.specs.declared.turn.Turn.TheVariants.{Apply, Burst, Wait}
+use Rattle.unit_turns.proofs.Imports.{◌≡◌, ℕ, zero, suc, ◌+◌, ◌%◌, ◌<◌, ◌≤◌, inl, inr, Bool, true, false, cond, List, [], ◌∷◌, length, Option, Some, None, refl, sym, ap, ◌∙◌, arith, true≢false, slice_get, nat_lt, is_none, IfNone, if◌then◌else◌, find, range_with_len, last_or, cases_eq, cases_lt, ltb-true, slice_get_within, Listing, Active, State, follows, unless, for_some, refusal, most_events, Event, Assign, Exec, Transfer, Drain, Squash, Retire, Fault, Drop, Refused, NoSuch, Running, MachineView, state, units_of, unit_for, choices_of, choice_of, MayFollow, executed_in, registers, first_allowed, own_events, pauses, turn_ahead, turn_of_free, apply_or_wait, turn_of, NamesRegister, MayWait, Apply, Burst, Wait}
 use Rattle.unit_turns.proofs.EventOrder.{finds_transfer, finds_squash, finds_drain, finds_exec}
 use Rattle.unit_turns.proofs.RingPlaces.{at_place, at_work, at_free}
 

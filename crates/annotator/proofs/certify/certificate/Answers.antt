@@ -1,13 +1,4 @@
-use Rattle.std.proofs.Common.{◌≡◌, ◌<◌, ◌++◌, ◌∷◌, [], ℕ, None, List, length, map, sym, ◌∙◌, ap, subst, arith}
-use Rattle.std.specs.declared.alloc.Global.{Global}
-use Rattle.std.specs.declared.vec.Vec.{Vec}
-use Rattle.std.proofs.lemmas.List.{map-append, length-map}
-use Rattle.std.proofs.lemmas.Option.{slice_get_within}
-use Rattle.task_descriptor.specs.declared.descriptor.Descriptor.{Descriptor}
-use Rattle.task_descriptor.specs.WellFormed.{limits}
-use Rattle.mask_certificate.specs.Lists.{entries_of, first_fault}
-use Rattle.annotator.specs.Least.{IsLeast}
-use Rattle.annotator.specs.Spreading.{AreExact}
+use Rattle.annotator.proofs.Imports.{◌≡◌, ◌<◌, ◌++◌, ◌∷◌, [], ℕ, None, List, length, map, sym, ◌∙◌, ap, subst, arith, Global, Vec, map-append, length-map, slice_get_within, Descriptor, limits, entries_of, first_fault, IsLeast, AreExact}
 use Rattle.annotator.proofs.LeastMasks.{below_none, below_more, below_rises, below_whole, no_fault}
 use Rattle.annotator.proofs.certify.certificate.Goals as goal
 

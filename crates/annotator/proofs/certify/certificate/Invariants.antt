@@ -1,4 +1,4 @@
-use Rattle.mask_certificate.specs.Lists.{entries_of}
+use Rattle.annotator.proofs.Imports.{entries_of}
 use Rattle.annotator.proofs.LeastMasks.{LeastBelow}
 use Rattle.annotator.proofs.certify.certificate.Given as goal
 

@@ -1,6 +1,4 @@
-use Rattle.std.proofs.Common.{◌≡◌, ◌+◌, ◌<◌, ℕ, List, length, get_or, take, subst, sym, ◌∙◌, ap, arith}
-use Rattle.std.proofs.lemmas.List.{take_all, take_more, get_or_default}
-use Rattle.task_descriptor.specs.WellFormed.{limits}
+use Rattle.annotator.proofs.Imports.{◌≡◌, ◌+◌, ◌<◌, ℕ, List, length, get_or, take, subst, sym, ◌∙◌, ap, arith, take_all, take_more, get_or_default, limits}
 use Rattle.annotator.proofs.LeastMasks.{entries_at, reached_inside, entries_more, least_list, some_task}
 use Rattle.annotator.proofs.certify.list_of_task.Goals as goal
 

@@ -1,4 +1,4 @@
-use Rattle.std.proofs.Common.{◌≡◌, take}
+use Rattle.annotator.proofs.Imports.{◌≡◌, take}
 use Rattle.annotator.proofs.LeastMasks.{entries_at}
 use Rattle.annotator.proofs.certify.list_of_task.Given as goal
 

@@ -1,5 +1,4 @@
-use Rattle.std.proofs.Common.{◌≡◌, [], replicate}
-use Rattle.annotator.specs.Spreading.{lists_of}
+use Rattle.annotator.proofs.Imports.{◌≡◌, [], replicate, lists_of}
 use Rattle.annotator.proofs.leading.empty_lists.Given as goal
 
 abbrev pub invariant-loop : goal.invariant-loop

@@ -1,10 +1,4 @@
-use Rattle.std.proofs.Common.{◌≡◌, ◌<◌, ℕ, List, length, map, sym, ◌∙◌, ap, subst, arith}
-use Rattle.std.proofs.lemmas.List.{length-map}
-use Rattle.std.specs.declared.alloc.Global.{Global}
-use Rattle.std.specs.declared.vec.Vec.{Vec}
-use Rattle.task_descriptor.specs.declared.descriptor.Marked.{Marked}
-use Rattle.annotator.specs.Spreading.{lists_of, AreLeading}
-use Rattle.task_graph.proofs.Searches.{first_inside, second_inside}
+use Rattle.annotator.proofs.Imports.{◌≡◌, ◌<◌, ℕ, List, length, map, sym, ◌∙◌, ap, subst, arith, length-map, Global, Vec, Marked, lists_of, AreLeading, first_inside, second_inside}
 use Rattle.annotator.proofs.Sources.{leading_none, leading_more, length-with_source}
 use Rattle.annotator.proofs.leading.leading.Goals as goal
 

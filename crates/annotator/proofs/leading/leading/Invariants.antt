@@ -1,4 +1,4 @@
-use Rattle.annotator.specs.Spreading.{lists_of, AreLeading}
+use Rattle.annotator.proofs.Imports.{lists_of, AreLeading}
 use Rattle.annotator.proofs.leading.leading.Given as goal
 
 abbrev pub invariant-loop-i : goal.invariant-loop-i

@@ -1,5 +1,4 @@
-use Rattle.std.proofs.Common.{◌≡◌, ℕ, Option, sym, ◌∙◌, ap}
-use Rattle.annotator.specs.Spreading.{lists_of, with_source}
+use Rattle.annotator.proofs.Imports.{◌≡◌, ℕ, Option, sym, ◌∙◌, ap, lists_of, with_source}
 use Rattle.annotator.proofs.Sources.{put_there}
 use Rattle.annotator.proofs.leading.put.Goals as goal
 

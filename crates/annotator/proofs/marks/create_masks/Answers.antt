@@ -1,7 +1,4 @@
-use Rattle.std.proofs.Common.{◌≡◌, ℕ, ◌+◌, ◌<◌, List, length, sym, ◌∙◌, ap, subst, arith}
-use Rattle.task_descriptor.specs.declared.descriptor.Marked.{Marked}
-use Rattle.task_descriptor.specs.declared.descriptor.Descriptor.{Descriptor}
-use Rattle.annotator.specs.Marking.{AreCreates}
+use Rattle.annotator.proofs.Imports.{◌≡◌, ℕ, ◌+◌, ◌<◌, List, length, sym, ◌∙◌, ap, subst, arith, Marked, Descriptor, AreCreates}
 use Rattle.annotator.proofs.MarkLemmas.{creates_none, creates_more, entries_inside}
 use Rattle.annotator.proofs.marks.create_masks.Goals as goal
 

@@ -1,4 +1,4 @@
-use Rattle.annotator.specs.Marking.{AreCreates}
+use Rattle.annotator.proofs.Imports.{AreCreates}
 use Rattle.annotator.proofs.marks.create_masks.Given as goal
 
 abbrev pub invariant-loop-task : goal.invariant-loop-task

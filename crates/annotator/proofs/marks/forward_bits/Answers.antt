@@ -1,8 +1,4 @@
-use Rattle.std.proofs.Common.{◌≡◌, ℕ, ◌<◌, Bool, true, false, List, length, slice_get, Some, refl, sym, ◌∙◌, ap, subst, arith}
-use Rattle.std.proofs.lemmas.Option.{slice_get_read, slice_get_within}
-use Rattle.task_descriptor.specs.declared.descriptor.Marked.{Marked}
-use Rattle.task_graph.specs.SearchSteps.{is_marked}
-use Rattle.annotator.specs.Marking.{AreForwards}
+use Rattle.annotator.proofs.Imports.{◌≡◌, ℕ, ◌<◌, Bool, true, false, List, length, slice_get, Some, refl, sym, ◌∙◌, ap, subst, arith, slice_get_read, slice_get_within, Marked, is_marked, AreForwards}
 use Rattle.annotator.proofs.MarkLemmas.{forwards_none, forwards_more, member_bit, other_bit}
 use Rattle.annotator.proofs.Remarked.{forward_fits}
 use Rattle.annotator.proofs.marks.forward_bits.Goals as goal

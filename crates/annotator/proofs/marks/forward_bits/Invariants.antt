@@ -1,4 +1,4 @@
-use Rattle.annotator.specs.Marking.{AreForwards}
+use Rattle.annotator.proofs.Imports.{AreForwards}
 use Rattle.annotator.proofs.marks.forward_bits.Given as goal
 
 abbrev pub invariant-loop-i : goal.invariant-loop-i

@@ -1,6 +1,4 @@
-use Rattle.std.proofs.Common.{◌≡◌, ℕ, ◌+◌, ◌<◌, Bool, List, length, get_or, take, sym, ap, subst, arith}
-use Rattle.std.proofs.lemmas.List.{take_all}
-use Rattle.annotator.specs.Marking.{indices_of, AreMarked}
+use Rattle.annotator.proofs.Imports.{◌≡◌, ℕ, ◌+◌, ◌<◌, Bool, List, length, get_or, take, sym, ap, subst, arith, take_all, indices_of, AreMarked}
 use Rattle.annotator.proofs.MarkLemmas.{marked_none, marked_more, one_index_more}
 use Rattle.annotator.proofs.marks.mark_all.Goals as goal
 

@@ -1,5 +1,4 @@
-use Rattle.std.proofs.Common.{take}
-use Rattle.annotator.specs.Marking.{indices_of, AreMarked}
+use Rattle.annotator.proofs.Imports.{take, indices_of, AreMarked}
 use Rattle.annotator.proofs.marks.mark_all.Given as goal
 
 abbrev pub invariant-loop-index : goal.invariant-loop-index

@@ -1,8 +1,4 @@
-use Rattle.std.proofs.Common.{◌≡◌, ℕ, ◌+◌, ◌<◌, ◌++◌, false, Bool, List, length, take, drop, replicate, sym, ◌∙◌, ap, subst, arith, rules}
-use Rattle.std.proofs.lemmas.List.{take_at}
-use Rattle.task_descriptor.specs.declared.descriptor.Marked.{Marked}
-use Rattle.task_descriptor.specs.declared.descriptor.Descriptor.{Descriptor}
-use Rattle.annotator.specs.Marking.{indices_of, AreMarked, AreMembers}
+use Rattle.annotator.proofs.Imports.{◌≡◌, ℕ, ◌+◌, ◌<◌, ◌++◌, false, Bool, List, length, take, drop, replicate, sym, ◌∙◌, ap, subst, arith, rules, take_at, Marked, Descriptor, indices_of, AreMarked, AreMembers}
 use Rattle.annotator.proofs.MarkLemmas.{members_none, members_more, entries_inside}
 use Rattle.annotator.proofs.marks.members_of_any.Goals as goal
 

@@ -1,4 +1,4 @@
-use Rattle.annotator.specs.Marking.{AreMembers}
+use Rattle.annotator.proofs.Imports.{AreMembers}
 use Rattle.annotator.proofs.marks.members_of_any.Given as goal
 
 abbrev pub invariant-loop-task : goal.invariant-loop-task

@@ -1,6 +1,5 @@
-use Rattle.task_graph.proofs.Searches.{first_inside, second_inside}
+use Rattle.annotator.proofs.Imports.{first_inside, second_inside, length}
 use Rattle.annotator.proofs.MarkLemmas.{behind_exact}
-use Rattle.std.proofs.Common.{length}
 use Rattle.annotator.proofs.marks.written_behind.Goals as goal
 
 pub mask_of-requires : goal.mask_of-requires

@@ -1,6 +1,4 @@
-use Rattle.std.proofs.Common.{◌≡◌, ℕ, length, refl, subst, arith}
-use Rattle.std.proofs.lemmas.Option.{slice_get_read}
-use Rattle.annotator.specs.Spreading.{AreDestinations}
+use Rattle.annotator.proofs.Imports.{◌≡◌, ℕ, length, refl, subst, arith, slice_get_read, AreDestinations}
 use Rattle.annotator.proofs.Spread.{destinations_none, destinations_more}
 use Rattle.annotator.proofs.masks.destinations.Goals as goal
 

@@ -1,4 +1,4 @@
-use Rattle.annotator.specs.Spreading.{AreDestinations}
+use Rattle.annotator.proofs.Imports.{AreDestinations}
 use Rattle.annotator.proofs.masks.destinations.Given as goal
 
 abbrev pub invariant-loop-marked : goal.invariant-loop-marked

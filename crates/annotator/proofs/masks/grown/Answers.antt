@@ -1,4 +1,4 @@
-use Rattle.std.proofs.Common.{◌≡◌, arith}
+use Rattle.annotator.proofs.Imports.{◌≡◌, arith}
 use Rattle.annotator.proofs.Widening.{nothing_new}
 use Rattle.annotator.proofs.masks.grown.Goals as goal
 

@@ -1,4 +1,4 @@
-use Rattle.std.proofs.Common.{◌≡◌, ℕ, List, ◌++◌, ◌∷◌, [], ◌∙◌, ap, sym}
+use Rattle.annotator.proofs.Imports.{◌≡◌, ℕ, List, ◌++◌, ◌∷◌, [], ◌∙◌, ap, sym}
 use Rattle.annotator.proofs.Spread.{range_more}
 use Rattle.annotator.proofs.masks.indices.Goals as goal
 

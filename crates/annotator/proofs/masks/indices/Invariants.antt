@@ -1,5 +1,4 @@
-use Rattle.std.proofs.Common.{◌≡◌}
-use Rattle.std.specs.List.{range_with_len}
+use Rattle.annotator.proofs.Imports.{◌≡◌, range_with_len}
 use Rattle.annotator.proofs.masks.indices.Given as goal
 
 abbrev pub invariant-loop-i : goal.invariant-loop-i

@@ -1,11 +1,4 @@
-use Rattle.std.proofs.Common.{◌≡◌, ◌<◌, ◌++◌, ◌-◌, ◌∷◌, [], ℕ, List, length, get_or, take, map, None, sym, ◌∙◌, ap, subst, arith}
-use Rattle.std.specs.declared.alloc.Global.{Global}
-use Rattle.std.specs.declared.vec.Vec.{Vec}
-use Rattle.std.proofs.lemmas.List.{get_or_default, get_or-map, length-map}
-use Rattle.std.proofs.lemmas.List.Elements.{Contains-push}
-use Rattle.std.specs.Prelude.{Contains}
-use Rattle.task_descriptor.specs.Listing.{Listing}
-use Rattle.annotator.specs.Spreading.{lists_of, sources_of, AreLeading, Widened}
+use Rattle.annotator.proofs.Imports.{◌≡◌, ◌<◌, ◌++◌, ◌-◌, ◌∷◌, [], ℕ, List, length, get_or, take, map, None, sym, ◌∙◌, ap, subst, arith, Global, Vec, get_or_default, get_or-map, length-map, Contains-push, Contains, Listing, lists_of, sources_of, AreLeading, Widened}
 use Rattle.annotator.proofs.Spread.{Spread, begins, sources_inside, spreads_on, less_to_do, spread_ends}
 use Rattle.annotator.proofs.masks.least_masks.Goals as goal
 

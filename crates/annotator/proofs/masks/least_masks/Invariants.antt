@@ -1,4 +1,4 @@
-use Rattle.annotator.specs.Spreading.{left_to_do}
+use Rattle.annotator.proofs.Imports.{left_to_do}
 use Rattle.annotator.proofs.Spread.{Spread}
 use Rattle.annotator.proofs.masks.least_masks.Given as goal
 

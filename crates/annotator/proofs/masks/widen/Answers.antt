@@ -1,7 +1,4 @@
-use Rattle.std.proofs.Common.{◌≡◌, ◌+◌, ◌<◌, ◌∷◌, [], ◌++◌, ◌||◌, true, ℕ, List, length, get_or, set, take, ◌∙◌, ap, sym, subst, arith}
-use Rattle.std.proofs.lemmas.List.{take_all, take_more, get_or_default}
-use Rattle.mips_instructions.specs.Words.{has}
-use Rattle.annotator.specs.Spreading.{Widened, room_of}
+use Rattle.annotator.proofs.Imports.{◌≡◌, ◌+◌, ◌<◌, ◌∷◌, [], ◌++◌, ◌||◌, true, ℕ, List, length, get_or, set, take, ◌∙◌, ap, sym, subst, arith, take_all, take_more, get_or_default, has, Widened, room_of}
 use Rattle.annotator.proofs.Widening.{widened_none, widened_same, widened_more}
 use Rattle.annotator.proofs.masks.widen.Goals as goal
 use Rattle.annotator.proofs.masks.widen.Goals.{in-Some+in_ok-push, in_default}

@@ -1,5 +1,4 @@
-use Rattle.std.proofs.Common.{take}
-use Rattle.annotator.specs.Spreading.{Widened}
+use Rattle.annotator.proofs.Imports.{take, Widened}
 use Rattle.annotator.proofs.masks.widen.Given as goal
 
 abbrev pub invariant-loop-source : goal.invariant-loop-source

@@ -1,8 +1,4 @@
-use Rattle.std.proofs.Common.{◌≡◌, ℕ, Bool, List, length, sym, ◌∙◌, ap, subst}
-use Rattle.task_descriptor.specs.Listing.{Listing, IsWellFormed}
-use Rattle.annotator.specs.Least.{IsLeast}
-use Rattle.annotator.specs.Proposed.{IsProposed}
-use Rattle.annotator.specs.Marking.{AreForwards, AreCreates, with_marks}
+use Rattle.annotator.proofs.Imports.{◌≡◌, ℕ, Bool, List, length, sym, ◌∙◌, ap, subst, Listing, IsWellFormed, IsLeast, IsProposed, AreForwards, AreCreates, with_marks}
 use Rattle.annotator.proofs.Remarked.{marks_pass, proposed, least_stays}
 use Rattle.annotator.proofs.propose.propose.Goals as goal
 

@@ -1,6 +1,4 @@
-use Rattle.std.proofs.Common.{◌≡◌, ℕ, List, length, get_or, take, sym, ◌∙◌, ap, subst, arith}
-use Rattle.std.proofs.lemmas.List.{take_all, get_or_default}
-use Rattle.annotator.specs.Marking.{with_creates}
+use Rattle.annotator.proofs.Imports.{◌≡◌, ℕ, List, length, get_or, take, sym, ◌∙◌, ap, subst, arith, take_all, get_or_default, with_creates}
 use Rattle.annotator.proofs.Remarked.{creates_left, creates_set}
 use Rattle.annotator.proofs.propose.set_creates.Goals as goal
 

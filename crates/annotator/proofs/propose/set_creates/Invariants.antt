@@ -1,5 +1,4 @@
-use Rattle.std.proofs.Common.{◌≡◌, take}
-use Rattle.annotator.specs.Marking.{with_creates}
+use Rattle.annotator.proofs.Imports.{◌≡◌, take, with_creates}
 use Rattle.annotator.proofs.propose.set_creates.Given as goal
 
 abbrev pub invariant-loop-task : goal.invariant-loop-task

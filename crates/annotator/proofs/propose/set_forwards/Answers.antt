@@ -1,6 +1,4 @@
-use Rattle.std.proofs.Common.{◌≡◌, ℕ, Bool, List, length, get_or, take, sym, ◌∙◌, ap, subst, arith}
-use Rattle.std.proofs.lemmas.List.{take_all}
-use Rattle.annotator.specs.Marking.{with_forwards}
+use Rattle.annotator.proofs.Imports.{◌≡◌, ℕ, Bool, List, length, get_or, take, sym, ◌∙◌, ap, subst, arith, take_all, with_forwards}
 use Rattle.annotator.proofs.Remarked.{forwards_left, forwards_set}
 use Rattle.annotator.proofs.propose.set_forwards.Goals as goal
 

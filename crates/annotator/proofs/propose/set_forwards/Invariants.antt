@@ -1,5 +1,4 @@
-use Rattle.std.proofs.Common.{◌≡◌, take}
-use Rattle.annotator.specs.Marking.{with_forwards}
+use Rattle.annotator.proofs.Imports.{◌≡◌, take, with_forwards}
 use Rattle.annotator.proofs.propose.set_forwards.Given as goal
 
 abbrev pub invariant-loop-i : goal.invariant-loop-i

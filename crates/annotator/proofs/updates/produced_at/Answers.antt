@@ -1,8 +1,4 @@
-use Rattle.std.proofs.Common.{◌≡◌, ◌↔◌, ℕ, ◌+◌, ◌<◌, ◌||◌, true, false, List, length, get_or, take, refl, sym, ◌∙◌, ap, subst, arith}
-use Rattle.std.proofs.lemmas.List.{take_all}
-use Rattle.std.proofs.lemmas.Option.{slice_get-get_or}
-use Rattle.mips_instructions.specs.Words.{has}
-use Rattle.annotator.specs.Marking.{indices_of, ProducedAt}
+use Rattle.annotator.proofs.Imports.{◌≡◌, ◌↔◌, ℕ, ◌+◌, ◌<◌, ◌||◌, true, false, List, length, get_or, take, refl, sym, ◌∙◌, ap, subst, arith, take_all, slice_get-get_or, has, indices_of, ProducedAt}
 use Rattle.annotator.proofs.MarkLemmas.{produced_none, produced_more, one_index_more}
 use Rattle.annotator.proofs.updates.produced_at.Goals as goal
 

@@ -1,6 +1,4 @@
-use Rattle.std.proofs.Common.{◌≡◌, ◌↔◌, true, ℕ, take}
-use Rattle.mips_instructions.specs.Words.{has}
-use Rattle.annotator.specs.Marking.{indices_of, ProducedAt}
+use Rattle.annotator.proofs.Imports.{◌≡◌, ◌↔◌, true, ℕ, take, has, indices_of, ProducedAt}
 use Rattle.annotator.proofs.updates.produced_at.Given as goal
 
 abbrev pub invariant-loop-index : goal.invariant-loop-index

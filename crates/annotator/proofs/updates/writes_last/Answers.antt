@@ -1,5 +1,5 @@
 -- Each destination is left when those written after are taken off.
-use Rattle.std.proofs.Common.{sym, ◌∙◌}
+use Rattle.annotator.proofs.Imports.{sym, ◌∙◌}
 use Rattle.annotator.proofs.MarkLemmas.{last_exact, some_written, none_written}
 use Rattle.annotator.proofs.updates.writes_last.Goals as goal
 

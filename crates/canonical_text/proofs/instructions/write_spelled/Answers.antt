@@ -1,7 +1,5 @@
 -- Each operand adds one piece.
-use Rattle.std.proofs.Common.{◌++◌, ◌∙◌, ap, nat_eq, arith, string_bytes}
-use Rattle.mips_instructions.specs.declared.instruction.InstructionOperand.{InstructionOperand}
-use Rattle.canonical_text.specs.CanonicalText.{operand_text, before_operand}
+use Rattle.canonical_text.proofs.Imports.{◌++◌, ◌∙◌, ap, nat_eq, arith, string_bytes, InstructionOperand, operand_text, before_operand}
 use Rattle.canonical_text.proofs.Spelled.{one_more_operand}
 use Rattle.canonical_text.proofs.instructions.write_spelled.Goals as goal
 

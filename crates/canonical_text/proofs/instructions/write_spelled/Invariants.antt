@@ -1,6 +1,5 @@
 -- The name and the operands so far are written.
-use Rattle.std.proofs.Common.{◌≡◌, ◌++◌, take, map, string_bytes}
-use Rattle.canonical_text.specs.CanonicalText.{spelled, operand_text}
+use Rattle.canonical_text.proofs.Imports.{◌≡◌, ◌++◌, take, map, string_bytes, spelled, operand_text}
 use Rattle.canonical_text.proofs.instructions.write_spelled.Given as goal
 
 abbrev pub invariant-loop-index : goal.invariant-loop-index

@@ -1,9 +1,5 @@
 -- By the stages of the assembler, from what the program's invariant and its values' types say.
-use Rattle.std.proofs.Common.{◌<◌, ℕ, List, subst}
-use Rattle.std.specs.List.{All}
-use Rattle.task_descriptor.specs.declared.descriptor.Descriptor.{Descriptor}
-use Rattle.task_descriptor.specs.declared.descriptor.Marked.{Marked}
-use Rattle.canonical_text.specs.Ranges.{IsInRange, IsTaskInRange}
+use Rattle.canonical_text.proofs.Imports.{◌<◌, ℕ, List, subst, All, Descriptor, Marked, IsInRange, IsTaskInRange}
 use Rattle.canonical_text.proofs.RoundTrip as lemmas
 use Rattle.canonical_text.proofs.laws.reads_back.Goals as goal
 

@@ -1,6 +1,5 @@
 -- A place is one piece more.
-use Rattle.std.proofs.Common.{◌++◌, ◌∙◌, ap, ℕ, nat_eq, arith, string_bytes}
-use Rattle.canonical_text.specs.CanonicalText.{place_text, comma_unless}
+use Rattle.canonical_text.proofs.Imports.{◌++◌, ◌∙◌, ap, ℕ, nat_eq, arith, string_bytes, place_text, comma_unless}
 use Rattle.canonical_text.proofs.Commas.{one_more_of}
 use Rattle.canonical_text.proofs.pieces.write_places.Goals as goal
 

@@ -1,6 +1,5 @@
 -- The places so far are written, with commas between them.
-use Rattle.std.proofs.Common.{◌≡◌, ◌++◌, take, map, string_bytes}
-use Rattle.canonical_text.specs.CanonicalText.{commas, place_text}
+use Rattle.canonical_text.proofs.Imports.{◌≡◌, ◌++◌, take, map, string_bytes, commas, place_text}
 use Rattle.canonical_text.proofs.pieces.write_places.Given as goal
 
 abbrev pub invariant-loop-index : goal.invariant-loop-index

@@ -1,6 +1,5 @@
 -- After the `$` stands one digit, or two.
-use Rattle.std.proofs.Common.{arith}
-use Rattle.std.proofs.lemmas.Result.{on_ok_weaker}
+use Rattle.canonical_text.proofs.Imports.{arith, on_ok_weaker}
 use Rattle.canonical_text.proofs.Digits.{one_written, two_written}
 use Rattle.canonical_text.proofs.pieces.write_register.Goals as goal
 

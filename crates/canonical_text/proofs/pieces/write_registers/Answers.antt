@@ -1,8 +1,7 @@
 -- A register that is a member is one piece more.
-use Rattle.std.proofs.Common.{◌≡◌, ◌++◌, List, ℕ, arith, not, sym, ◌∙◌, ap, string_bytes}
-use Rattle.canonical_text.specs.CanonicalText.{commas}
+use Rattle.canonical_text.proofs.Imports.{◌≡◌, ◌++◌, List, ℕ, arith, sym, ◌∙◌, ap, string_bytes, commas, no_pieces}
+use Rattle.std.proofs.Common.{not}
 use Rattle.canonical_text.proofs.Members.{member_written, member_not_first, members_without, texts_below, all_members}
-use Rattle.canonical_text.specs.CanonicalText.{no_pieces}
 use Rattle.canonical_text.proofs.pieces.write_registers.Goals as goal
 use Rattle.canonical_text.proofs.pieces.write_registers.Goals.{then-has_number+in_ok-write_next_register, else-has_number}
 

@@ -1,6 +1,5 @@
 -- The members so far are written, with commas between them; the first is still to come where there is none.
-use Rattle.std.proofs.Common.{◌≡◌, ◌++◌, string_bytes}
-use Rattle.canonical_text.specs.CanonicalText.{commas, no_pieces}
+use Rattle.canonical_text.proofs.Imports.{◌≡◌, ◌++◌, string_bytes, commas, no_pieces}
 use Rattle.canonical_text.proofs.Members.{texts_below}
 use Rattle.canonical_text.proofs.pieces.write_registers.Given as goal
 

@@ -1,7 +1,7 @@
 -- One part of the text after another, the first after nothing.
-use Rattle.std.proofs.Common.{◌∙◌, ◌++◌, List, ℕ, ap, codes}
+use Rattle.canonical_text.proofs.Imports.{◌∙◌, ◌++◌, List, ℕ, ap, canonical_text, section}
+use Rattle.std.proofs.Common.{codes}
 use Rattle.std.specs.Global.{Vec}
-use Rattle.canonical_text.specs.CanonicalText.{canonical_text, section}
 use Rattle.canonical_text.proofs.Parts.{program_written}
 use Rattle.canonical_text.proofs.print.print.Goals as goal
 

@@ -1,7 +1,5 @@
 -- The bytes so far are written, each on a line of its own.
-use Rattle.std.proofs.Common.{◌≡◌, ◌++◌, take}
-use Rattle.std.specs.List.{flat_map}
-use Rattle.canonical_text.specs.CanonicalText.{byte_line}
+use Rattle.canonical_text.proofs.Imports.{◌≡◌, ◌++◌, take, flat_map, byte_line}
 use Rattle.canonical_text.proofs.print.write_bytes.Given as goal
 
 abbrev pub invariant-loop-byte : goal.invariant-loop-byte

@@ -1,6 +1,5 @@
 -- What is written, with the lines of the instructions that are left, is the whole.
-use Rattle.std.proofs.Common.{◌≡◌, ◌++◌, drop, string_bytes}
-use Rattle.canonical_text.specs.CanonicalText.{code_lines}
+use Rattle.canonical_text.proofs.Imports.{◌≡◌, ◌++◌, drop, string_bytes, code_lines}
 use Rattle.canonical_text.proofs.print.write_code.Given as goal
 
 abbrev pub invariant-loop-index : goal.invariant-loop-index

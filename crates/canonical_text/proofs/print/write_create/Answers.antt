@@ -1,6 +1,6 @@
 -- Either there is a member, and the list is written, or there is none, and a `-` is.
-use Rattle.std.proofs.Common.{◌≡◌, Bool, true, false, not, refl, map}
-use Rattle.canonical_text.specs.CanonicalText.{members, register_text}
+use Rattle.canonical_text.proofs.Imports.{◌≡◌, Bool, true, false, refl, map, members, register_text}
+use Rattle.std.proofs.Common.{not}
 use Rattle.canonical_text.proofs.Commas.{listed_some, listed_none}
 use Rattle.canonical_text.proofs.print.write_create.Goals as goal
 

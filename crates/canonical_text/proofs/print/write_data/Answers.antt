@@ -1,7 +1,5 @@
 -- Fewer than four bytes are left.
-use Rattle.std.proofs.Common.{◌++◌, ◌∙◌, List, ℕ, ap, sym, drop, arith, length-drop}
-use Rattle.std.specs.List.{flat_map}
-use Rattle.canonical_text.specs.CanonicalText.{byte_line}
+use Rattle.canonical_text.proofs.Imports.{◌++◌, ◌∙◌, List, ℕ, ap, sym, drop, arith, length-drop, flat_map, byte_line}
 use Rattle.canonical_text.proofs.DataLines.{data_lines_short}
 use Rattle.canonical_text.proofs.print.write_data.Goals as goal
 

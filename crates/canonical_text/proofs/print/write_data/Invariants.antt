@@ -1,6 +1,5 @@
 -- What is written, with the lines of the bytes that are left, is the whole.
-use Rattle.std.proofs.Common.{◌≡◌, ◌≤◌, ◌-◌, ◌++◌, drop, length}
-use Rattle.canonical_text.specs.CanonicalText.{data_lines}
+use Rattle.canonical_text.proofs.Imports.{◌≡◌, ◌≤◌, ◌-◌, ◌++◌, drop, length, data_lines}
 use Rattle.canonical_text.proofs.print.write_data.Given as goal
 
 abbrev pub invariant-loop-at : goal.invariant-loop-at

@@ -1,6 +1,5 @@
 -- One instruction more.
-use Rattle.std.proofs.Common.{arith}
-use Rattle.canonical_text.specs.Ranges.{IsInRange}
+use Rattle.canonical_text.proofs.Imports.{arith, IsInRange}
 use Rattle.canonical_text.proofs.Loops.{all_more, all_done}
 use Rattle.canonical_text.proofs.ranges.code_in_range.Goals as goal
 

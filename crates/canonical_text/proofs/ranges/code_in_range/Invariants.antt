@@ -1,7 +1,5 @@
 -- The instructions so far are in range.
-use Rattle.std.proofs.Common.{take}
-use Rattle.std.specs.List.{All}
-use Rattle.canonical_text.specs.Ranges.{IsInRange}
+use Rattle.canonical_text.proofs.Imports.{take, All, IsInRange}
 use Rattle.canonical_text.proofs.ranges.code_in_range.Given as goal
 
 abbrev pub invariant-loop-marked : goal.invariant-loop-marked

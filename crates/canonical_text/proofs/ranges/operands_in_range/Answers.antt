@@ -1,6 +1,5 @@
 -- The step of the loop: one more operand.
-use Rattle.std.proofs.Common.{arith}
-use Rattle.canonical_text.specs.Ranges.{IsOperandInRange}
+use Rattle.canonical_text.proofs.Imports.{arith, IsOperandInRange}
 use Rattle.canonical_text.proofs.Loops.{all_more, all_done}
 use Rattle.canonical_text.proofs.ranges.operands_in_range.Goals as goal
 

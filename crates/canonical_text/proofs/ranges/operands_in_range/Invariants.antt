@@ -1,7 +1,5 @@
 -- The operands so far are in range.
-use Rattle.std.proofs.Common.{take}
-use Rattle.std.specs.List.{All}
-use Rattle.canonical_text.specs.Ranges.{IsOperandInRange}
+use Rattle.canonical_text.proofs.Imports.{take, All, IsOperandInRange}
 use Rattle.canonical_text.proofs.ranges.operands_in_range.Given as goal
 
 abbrev pub invariant-loop-operand : goal.invariant-loop-operand

@@ -1,5 +1,5 @@
 -- One place more.
-use Rattle.std.proofs.Common.{◌≤◌, arith}
+use Rattle.canonical_text.proofs.Imports.{◌≤◌, arith}
 use Rattle.canonical_text.proofs.Loops.{all_more, all_done}
 use Rattle.canonical_text.proofs.ranges.places_in_range.Goals as goal
 

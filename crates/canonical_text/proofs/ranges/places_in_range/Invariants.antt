@@ -1,6 +1,5 @@
 -- The places so far are in range.
-use Rattle.std.proofs.Common.{◌≤◌, take}
-use Rattle.std.specs.List.{All}
+use Rattle.canonical_text.proofs.Imports.{◌≤◌, take, All}
 use Rattle.canonical_text.proofs.ranges.places_in_range.Given as goal
 
 abbrev pub invariant-loop-place : goal.invariant-loop-place

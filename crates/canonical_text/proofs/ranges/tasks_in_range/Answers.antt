@@ -1,6 +1,5 @@
 -- One task more.
-use Rattle.std.proofs.Common.{arith}
-use Rattle.canonical_text.specs.Ranges.{IsTaskInRange}
+use Rattle.canonical_text.proofs.Imports.{arith, IsTaskInRange}
 use Rattle.canonical_text.proofs.Loops.{all_more, all_done}
 use Rattle.canonical_text.proofs.ranges.tasks_in_range.Goals as goal
 

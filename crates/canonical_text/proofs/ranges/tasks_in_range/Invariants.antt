@@ -1,7 +1,5 @@
 -- The tasks so far are in range.
-use Rattle.std.proofs.Common.{take}
-use Rattle.std.specs.List.{All}
-use Rattle.canonical_text.specs.Ranges.{IsTaskInRange}
+use Rattle.canonical_text.proofs.Imports.{take, All, IsTaskInRange}
 use Rattle.canonical_text.proofs.ranges.tasks_in_range.Given as goal
 
 abbrev pub invariant-loop-task : goal.invariant-loop-task

@@ -1,6 +1,5 @@
 -- The tokens after the labels are those of the rest, which becomes shorter.
-use Rattle.std.proofs.Common.{◌≡◌, length}
-use Rattle.annotated_asm.specs.Items.{after_labels}
+use Rattle.canonical_text.proofs.Imports.{◌≡◌, length, after_labels}
 use Rattle.canonical_text.proofs.reading.after_labels.Given as goal
 
 abbrev pub invariant-labels : goal.invariant-labels

@@ -1,10 +1,7 @@
 -- The last line ends the text, and so does the first fault of a line.
-use Rattle.std.proofs.Common.{◌≡◌, ◌<◌, ◌∷◌, [], length, Result, ◌∙◌, sym, ap, IfSome, IfNone, subst, arith}
-use Rattle.std.proofs.lemmas.Result.{err_from_is_err_and}
-use Rattle.program_tokens.specs.Lines.{lines}
-use Rattle.program_statements.specs.declared.statement.Section.TheVariants.{Text}
-use Rattle.annotated_asm.specs.declared.fault.AsmFault.{AsmFault}
-use Rattle.canonical_text.specs.MarkedText.{Written, nothing_of, with_lines, text_in, marked_text}
+use Rattle.canonical_text.proofs.Imports.{◌≡◌, ◌<◌, ◌∷◌, [], length, Result, ◌∙◌, sym, ap, IfNone, subst, arith, err_from_is_err_and, lines, Text, AsmFault, Written, nothing_of, with_lines, text_in}
+use Rattle.std.proofs.Common.{IfSome}
+use Rattle.canonical_text.specs.MarkedText.{marked_text}
 use Rattle.canonical_text.proofs.LineSteps.{line_more, line_last, line_fault}
 use Rattle.canonical_text.proofs.reading.marked_text.Goals as goal
 

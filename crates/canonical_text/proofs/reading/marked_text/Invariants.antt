@@ -1,9 +1,6 @@
 -- What is written so far, with the lines that are left, is what is written of all lines; each line before the rest
 -- took a byte.
-use Rattle.std.proofs.Common.{◌≡◌, ◌+◌, ◌≤◌, length}
-use Rattle.program_tokens.specs.Lines.{lines}
-use Rattle.program_statements.specs.declared.statement.Section.TheVariants.{Text}
-use Rattle.canonical_text.specs.MarkedText.{nothing_of, with_lines}
+use Rattle.canonical_text.proofs.Imports.{◌≡◌, ◌+◌, ◌≤◌, length, lines, Text, nothing_of, with_lines}
 use Rattle.canonical_text.proofs.reading.marked_text.Given as goal
 
 abbrev pub invariant-lines : goal.invariant-lines

@@ -1,8 +1,4 @@
-use Rattle.std.proofs.Common.{ℕ, Bool, not, ◌&&◌, ap, ◌∙◌}
-use Rattle.std.specs.Prelude.{is_none}
-use Rattle.mips_instructions.specs.Words.{has}
-use Rattle.machine_model.specs.Machine.{creates}
-use Rattle.unit_core.specs.Units.{active_of}
+use Rattle.open_machine.proofs.Imports.{ℕ, Bool, not, ◌&&◌, ap, ◌∙◌, is_none, has, creates, active_of}
 use Rattle.processor_steps.proofs.Leasts.{not_some, least_is}
 use Rattle.open_machine.proofs.allowed.unsent.Goals as goal
 

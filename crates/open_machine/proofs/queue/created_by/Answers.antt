@@ -1,10 +1,4 @@
-use Rattle.std.proofs.Common.{◌<◌, ℕ, Bool, ◌||◌, length, take, sym, ap, ◌∙◌, arith}
-use Rattle.std.specs.Prelude.{map}
-use Rattle.mips_instructions.specs.Words.{has}
-use Rattle.machine_model.specs.Machine.{creates}
-use Rattle.machine_model.specs.Step.{is_reserved}
-use Rattle.unit_core.specs.Units.{active_of}
-use Rattle.processor_steps.proofs.Queues.{reserved_more}
+use Rattle.open_machine.proofs.Imports.{◌<◌, ℕ, Bool, ◌||◌, length, take, sym, ap, ◌∙◌, arith, map, has, creates, is_reserved, active_of, reserved_more}
 use Rattle.open_machine.proofs.queue.created_by.Goals as goal
 
 pub loop-unit-preserved : goal.loop-unit-preserved

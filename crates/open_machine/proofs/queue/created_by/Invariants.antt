@@ -1,9 +1,5 @@
 -- the masks of the units that the loop has gone over
-use Rattle.std.proofs.Common.{◌≡◌, ℕ, take}
-use Rattle.std.specs.Prelude.{map}
-use Rattle.mips_instructions.specs.Words.{has}
-use Rattle.machine_model.specs.Step.{is_reserved}
-use Rattle.unit_core.specs.Units.{active_of}
+use Rattle.open_machine.proofs.Imports.{◌≡◌, ℕ, take, map, has, is_reserved, active_of}
 use Rattle.open_machine.proofs.queue.created_by.Given as goal
 
 abbrev pub invariant-loop-unit : goal.invariant-loop-unit

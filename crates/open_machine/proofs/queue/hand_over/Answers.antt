@@ -1,8 +1,5 @@
-use Rattle.std.proofs.Common.{◌≡◌, ℕ, ◌<◌, Option, sym, ap, ◌∙◌, arith, length, length-set, unwrap_or, true}
-use Rattle.std.specs.Prelude.{slice_index, slice_set}
-use Rattle.mips_instructions.specs.Words.{has}
-use Rattle.unit_core.specs.Units.{active_of}
-use Rattle.processor_steps.proofs.Changed.{handed_more, rest_more, handed_all}
+use Rattle.open_machine.proofs.Imports.{◌≡◌, ℕ, ◌<◌, sym, ap, ◌∙◌, arith, length, length-set, unwrap_or, slice_index, slice_set, has, active_of, handed_more, rest_more, handed_all}
+use Rattle.std.proofs.Common.{Option, true}
 use Rattle.open_machine.proofs.queue.hand_over.Goals as goal
 
 pub loop-register-preserved : goal.loop-register-preserved

@@ -1,9 +1,6 @@
 -- below the number that the loop looks from all is handed over, and nothing from it on
-use Rattle.std.proofs.Common.{◌≡◌, ℕ, ◌-◌, ◌<◌, ◌≤◌, length}
-use Rattle.std.specs.Prelude.{slice_index}
-use Rattle.mips_instructions.specs.Words.{has}
-use Rattle.unit_core.specs.Units.{active_of}
-use Rattle.processor_steps.proofs.Changed.{handed}
+use Rattle.open_machine.proofs.Imports.{◌≡◌, ℕ, ◌-◌, ◌<◌, length, slice_index, has, active_of, handed}
+use Rattle.std.proofs.Common.{◌≤◌}
 use Rattle.open_machine.proofs.queue.hand_over.Given as goal
 
 abbrev pub invariant-loop-register : goal.invariant-loop-register

@@ -1,4 +1,4 @@
-use Rattle.std.proofs.Common.{◌≡◌, true, rules}
+use Rattle.threaded_runner.proofs.Imports.{◌≡◌, true, rules}
 use Rattle.threaded_runner.proofs.Filling.{filled}
 use Rattle.threaded_runner.proofs.away.make_away.Goals as goal
 

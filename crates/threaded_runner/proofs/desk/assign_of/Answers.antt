@@ -1,18 +1,7 @@
 -- The task that is chosen may be assigned: the run goes on where there are choices, a unit is free, and the task may
 -- follow.
-use Rattle.std.proofs.Common.{◌≡◌, ℕ, ◌<◌, List, [], length, Bool, true, false, None, refl, sym, ◌∙◌, subst, true≢false}
-use Rattle.std.proofs.lemmas.Bool.{lt-ltb}
-use Rattle.std.specs.Prelude.{nat_lt, if◌then◌else◌, Option}
-use Rattle.task_descriptor.specs.Listing.{Listing}
-use Rattle.machine_model.specs.Machine.{State}
-use Rattle.machine_model.specs.Refusals.{unless}
-use Rattle.machine_model.specs.Answer.{refusal, is_running}
-use Rattle.machine_model.specs.declared.event.Event.{Event}
-use Rattle.machine_model.specs.declared.event.Event.TheVariants.{Assign}
-use Rattle.machine_model.specs.declared.event.Refused.{Refused}
-use Rattle.sequencer.specs.Machines.{state, units_of}
-use Rattle.sequencer.specs.Choices.{MayFollow}
-use Rattle.unit_turns.specs.Turns.{IsOwn}
+use Rattle.threaded_runner.proofs.Imports.{◌≡◌, ℕ, ◌<◌, List, [], length, Bool, true, false, None, refl, sym, ◌∙◌, subst, true≢false, lt-ltb, nat_lt, if◌then◌else◌, Listing, State, unless, refusal, is_running, Event, Assign, Refused, state, units_of, MayFollow, IsOwn}
+use Rattle.std.specs.Prelude.{Option}
 use Rattle.threaded_runner.proofs.Turning.{runs}
 use Rattle.threaded_runner.proofs.desk.assign_of.Goals as goal
 

@@ -1,7 +1,5 @@
-use Rattle.std.specs.Prelude.{◌≡◌, ◌++◌, replicate}
-use Rattle.machine_model.specs.declared.event.Event.TheVariants.{Exec}
-use Rattle.sequencer.specs.Machines.{SameRing}
-use Rattle.threaded_runner.specs.Holds.{RunsHead}
+use Rattle.threaded_runner.proofs.Imports.{replicate, Exec, SameRing, RunsHead}
+use Rattle.std.specs.Prelude.{◌≡◌, ◌++◌}
 use Rattle.threaded_runner.proofs.desk.exec_head.Given as goal
 
 -- this many instructions were executed

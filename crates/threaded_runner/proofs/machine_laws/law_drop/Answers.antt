@@ -1,15 +1,5 @@
-use Rattle.std.proofs.Common.{◌≡◌, ℕ, ◌<◌, length, Bool, true, false, Option, None, inl, inr, refl, sym, ap, ◌∙◌, arith, true≢false}
-use Rattle.std.proofs.lemmas.Bool.{lt-ltb}
-use Rattle.std.proofs.lemmas.Option.{slice_get_cases}
-use Rattle.std.specs.Prelude.{nat_lt}
-use Rattle.task_descriptor.specs.Listing.{Listing}
-use Rattle.machine_model.specs.Machine.{Active, State}
-use Rattle.machine_model.specs.Answer.{refusal}
-use Rattle.machine_model.specs.Refusals.{unless, for_some}
-use Rattle.machine_model.specs.declared.event.Event.TheVariants.{Drop}
-use Rattle.machine_model.specs.declared.event.Refused.{Refused}
+use Rattle.threaded_runner.proofs.Imports.{◌≡◌, ℕ, ◌<◌, length, Bool, true, false, Option, None, inl, inr, refl, sym, ap, ◌∙◌, arith, true≢false, lt-ltb, slice_get_cases, nat_lt, Listing, Active, State, refusal, unless, for_some, Drop, Refused, state, units_of}
 use Rattle.machine_model.specs.declared.event.Refused.TheVariants as refused
-use Rattle.sequencer.specs.Machines.{state, units_of}
 use Rattle.threaded_runner.proofs.machine_laws.law_drop.Goals as goal
 
 passes : (b : Bool) (why : Refused) → b ≡ true → unless b why None ≡ None

@@ -1,5 +1,5 @@
 -- There are as many bells as workers so far.
-use Rattle.std.proofs.Common.{◌≡◌, length}
+use Rattle.threaded_runner.proofs.Imports.{◌≡◌, length}
 use Rattle.threaded_runner.proofs.runner.new_bells.Given as goal
 
 abbrev pub invariant-loop : goal.invariant-loop

@@ -1,5 +1,4 @@
-use Rattle.std.proofs.Common.{◌+◌}
-use Rattle.threaded_runner.specs.Away.{IsInPlace, IsMadeAway}
+use Rattle.threaded_runner.proofs.Imports.{◌+◌, IsInPlace, IsMadeAway}
 use Rattle.threaded_runner.proofs.RoundByRound.{one_more_round}
 use Rattle.threaded_runner.proofs.serving.serve_rounds.Goals as goal
 

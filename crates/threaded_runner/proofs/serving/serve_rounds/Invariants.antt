@@ -1,6 +1,5 @@
 use Rattle.std.specs.Prelude.{ℕ}
-use Rattle.threaded_runner.specs.Away.{IsInPlace, IsMadeAway}
-use Rattle.threaded_runner.specs.Serving.{RoundsFor}
+use Rattle.threaded_runner.proofs.Imports.{IsInPlace, IsMadeAway, RoundsFor}
 use Rattle.threaded_runner.proofs.serving.serve_rounds.Given as goal
 
 -- some rounds were gone through

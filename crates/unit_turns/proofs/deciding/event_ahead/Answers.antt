@@ -1,7 +1,4 @@
-use Rattle.std.proofs.Common.{length, Some, None, true≢false, sym, ◌∙◌, arith}
-use Rattle.machine_model.specs.Answer.{refusal}
-use Rattle.machine_model.specs.declared.event.Event.TheVariants.{Squash, Transfer, Drain}
-use Rattle.sequencer.specs.Machines.{state, units_of}
+use Rattle.unit_turns.proofs.Imports.{length, Some, None, true≢false, sym, ◌∙◌, arith, refusal, Squash, Transfer, Drain, state, units_of}
 use Rattle.unit_turns.proofs.EventOrder.{allowed_by, least_found, finds_transfer, finds_squash, finds_drain, finds_exec, finds_nothing, runs_ahead}
 use Rattle.unit_turns.proofs.deciding.event_ahead.Goals as goal
 

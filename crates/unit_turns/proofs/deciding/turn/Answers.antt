@@ -1,7 +1,4 @@
-use Rattle.std.proofs.Common.{◌≡◌, ◌<◌, length, sym, ◌∙◌, arith, rules}
-use Rattle.machine_model.specs.Answer.{most_events}
-use Rattle.machine_model.specs.declared.event.Standing.TheVariants.{Running}
-use Rattle.sequencer.specs.Machines.{state, units_of}
+use Rattle.unit_turns.proofs.Imports.{◌≡◌, ◌<◌, length, sym, ◌∙◌, arith, rules, most_events, Running, state, units_of}
 use Rattle.unit_turns.proofs.RingPlaces.{at_place}
 use Rattle.unit_turns.proofs.deciding.turn.Goals as goal
 

@@ -1,6 +1,4 @@
-use Rattle.std.proofs.Common.{◌<◌, length, refl, sym, ◌∙◌, arith}
-use Rattle.machine_model.specs.Answer.{most_events}
-use Rattle.sequencer.specs.Machines.{state, units_of}
+use Rattle.unit_turns.proofs.Imports.{◌<◌, length, refl, sym, ◌∙◌, arith, most_events, state, units_of}
 use Rattle.unit_turns.proofs.GoingOn.{some_unit}
 use Rattle.unit_turns.proofs.RingPlaces.{at_place}
 use Rattle.unit_turns.proofs.deciding.turn_at_head.Goals as goal

@@ -1,8 +1,4 @@
-use Rattle.std.proofs.Common.{◌≡◌, None, sym, ap, ◌∙◌, subst}
-use Rattle.machine_model.specs.Answer.{refusal}
-use Rattle.machine_model.specs.declared.event.Event.{Event}
-use Rattle.sequencer.specs.Machines.{state, units_of}
-use Rattle.sequencer.specs.Rings.{unit_for}
+use Rattle.unit_turns.proofs.Imports.{◌≡◌, None, sym, ap, ◌∙◌, subst, refusal, Event, state, units_of, unit_for}
 use Rattle.unit_turns.proofs.Assigning.{assign_allowed}
 use Rattle.unit_turns.proofs.deciding.turn_of_free.Goals as goal
 

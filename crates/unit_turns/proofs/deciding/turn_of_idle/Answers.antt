@@ -1,9 +1,4 @@
-use Rattle.std.proofs.Common.{◌≡◌, ◌<◌, length, refl, sym, ◌∙◌}
-use Rattle.std.specs.Prelude.{nat_lt}
-use Rattle.std.proofs.lemmas.Bool.{lt-ltb, ltb-true}
-use Rattle.machine_model.specs.declared.event.Event.TheVariants.{Assign, Exec}
-use Rattle.sequencer.specs.Machines.{state, units_of}
-use Rattle.sequencer.specs.Rings.{unit_for}
+use Rattle.unit_turns.proofs.Imports.{◌≡◌, ◌<◌, length, refl, sym, ◌∙◌, nat_lt, lt-ltb, ltb-true, Assign, Exec, state, units_of, unit_for}
 use Rattle.unit_turns.proofs.Assigning.{next_is, none_next}
 use Rattle.unit_turns.proofs.RingPlaces.{at_place, at_free, ahead_of_head, neither}
 use Rattle.unit_turns.proofs.deciding.turn_of_idle.Goals as goal

@@ -1,4 +1,4 @@
-use Rattle.sequencer.specs.Machines.{state, units_of}
+use Rattle.unit_turns.proofs.Imports.{state, units_of}
 use Rattle.sequencer.proofs.Runs.{queue_fits}
 use Rattle.unit_turns.proofs.laws.law_ring.Goals as goal
 

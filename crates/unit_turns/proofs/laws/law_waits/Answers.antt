@@ -1,5 +1,4 @@
-use Rattle.std.proofs.Common.{length}
-use Rattle.sequencer.specs.Machines.{state, units_of}
+use Rattle.unit_turns.proofs.Imports.{length, state, units_of}
 use Rattle.unit_turns.proofs.EventOrder.{allowed_by, room_by}
 use Rattle.unit_turns.proofs.Waiting.{allowed_of_waiting, no_task_by}
 use Rattle.unit_turns.proofs.laws.law_waits.Goals as goal

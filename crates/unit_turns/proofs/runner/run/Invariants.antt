@@ -1,5 +1,5 @@
 -- So many steps were taken; each has an event, and the budget bounds these.
-use Rattle.std.proofs.Common.{◌-◌, length}
+use Rattle.unit_turns.proofs.Imports.{◌-◌, length}
 use Rattle.unit_turns.proofs.Looping.{Running}
 use Rattle.unit_turns.proofs.runner.run.Given as goal
 

@@ -1,6 +1,4 @@
-use Rattle.std.proofs.Common.{ℕ, sym, subst, ◌∙◌}
-use Rattle.unit_turns.specs.declared.report.StepsReport.{StepsReport}
-use Rattle.unit_turns.specs.Reports.{IsStepsReportOf}
+use Rattle.unit_turns.proofs.Imports.{ℕ, sym, subst, ◌∙◌, StepsReport, IsStepsReportOf}
 use Rattle.unit_turns.proofs.Reporting.{reported}
 use Rattle.unit_turns.proofs.runner.run_steps_on.Goals as goal
 

@@ -1,4 +1,4 @@
-use Rattle.std.proofs.Common.{◌≡◌, ℕ, suc, ◌-◌, subst, arith}
+use Rattle.unit_turns.proofs.Imports.{◌≡◌, ℕ, suc, ◌-◌, subst, arith}
 use Rattle.unit_turns.proofs.Looping.{Turning, turned}
 use Rattle.unit_turns.proofs.runner.step.Goals as goal
 

@@ -1,8 +1,4 @@
-use Rattle.std.proofs.Common.{length, Some, None, true≢false, refl, sym, ◌∙◌, arith}
-use Rattle.std.specs.Prelude.{map}
-use Rattle.machine_model.specs.declared.event.Event.TheVariants.{Exec, Squash, Transfer, Drain}
-use Rattle.sequencer.specs.Machines.{state, units_of}
-use Rattle.unit_turns.specs.FirstAllowed.{registers, first_allowed}
+use Rattle.unit_turns.proofs.Imports.{length, Some, None, true≢false, refl, sym, ◌∙◌, arith, map, Exec, Squash, Transfer, Drain, state, units_of, registers, first_allowed}
 use Rattle.unit_turns.proofs.Tries.{finds_exec, finds_register}
 use Rattle.unit_turns.proofs.turns.event_at_work.Goals as goal
 

@@ -1,7 +1,4 @@
-use Rattle.std.proofs.Common.{◌≡◌, true, length, sym, ◌∙◌}
-use Rattle.sequencer.specs.Machines.{state, units_of}
-use Rattle.unit_turns.specs.Steps.{goes_on}
-use Rattle.unit_turns.specs.Courses.{course}
+use Rattle.unit_turns.proofs.Imports.{◌≡◌, true, length, sym, ◌∙◌, state, units_of, goes_on, course}
 use Rattle.unit_turns.proofs.Going.{on_ok, on_turn}
 use Rattle.unit_turns.proofs.turns.turn_behind.Goals as goal
 

@@ -1,5 +1,4 @@
-use Rattle.std.proofs.Common.{length}
-use Rattle.sequencer.specs.Machines.{state}
+use Rattle.unit_turns.proofs.Imports.{length, state}
 use Rattle.unit_turns.specs.declared.predictor.Predictor.TheVariants.{First}
 use Rattle.unit_turns.proofs.Going.{on_ok, one_more, runs_on}
 use Rattle.unit_turns.proofs.turns.turn_of_head.Goals as goal

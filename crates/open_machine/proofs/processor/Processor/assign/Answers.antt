@@ -1,7 +1,5 @@
-use Rattle.std.proofs.Common.{◌≡◌, ◌+◌, refl, subst}
-use Rattle.machine_model.specs.Answer.{after}
-use Rattle.machine_model.specs.declared.event.Event.TheVariants.{Assign}
-use Rattle.processor_steps.specs.Processors.{ProcessorView, state_of}
+use Rattle.open_machine.proofs.Imports.{◌≡◌, refl, subst, after, Assign, ProcessorView, state_of}
+use Rattle.std.proofs.Common.{◌+◌}
 use Rattle.open_machine.proofs.OpenLemmas.{begins_started, assigned}
 use Rattle.open_machine.proofs.processor.Processor.assign.Goals as goal
 

@@ -1,4 +1,4 @@
-use Rattle.processor_steps.proofs.Changed.{front}
+use Rattle.open_machine.proofs.Imports.{front}
 use Rattle.open_machine.proofs.processor.Processor.drop_from.Goals as goal
 
 pub returns-clause-state : goal.returns-clause-state

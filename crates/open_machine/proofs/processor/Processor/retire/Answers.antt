@@ -1,14 +1,7 @@
 -- The head's reads are kept before it goes, and the registers are those that it handed over.
-use Rattle.std.proofs.Common.{◌≡◌, ℕ, Some, List, ◌∷◌, [], ◌++◌, length, drop, sym, ap, ◌∙◌, arith}
-use Rattle.std.specs.Prelude.{slice_get, slice_index}
-use Rattle.std.proofs.lemmas.List.{drop-map}
-use Rattle.mips_plain.specs.declared.outcome.Read.{Read}
-use Rattle.machine_model.specs.Machine.{Active, task_at}
-use Rattle.machine_model.specs.Step.{filled}
+use Rattle.open_machine.proofs.Imports.{◌≡◌, ℕ, List, length, sym, ap, ◌∙◌, arith, slice_get, slice_index, drop-map, Read, Active, task_at, filled, active_of, QueueView, ProcessorView, actives, retired}
+use Rattle.std.proofs.Common.{Some, ◌∷◌, [], ◌++◌, drop}
 use Rattle.machine_model.specs.declared.event.Commit.{Commit}
-use Rattle.unit_core.specs.Units.{active_of}
-use Rattle.processor_steps.specs.Processors.{QueueView, ProcessorView, actives}
-use Rattle.processor_steps.proofs.Changed.{retired}
 use Rattle.open_machine.proofs.processor.Processor.retire.Goals as goal
 
 pub overflow_cast-commit : goal.overflow_cast-commit

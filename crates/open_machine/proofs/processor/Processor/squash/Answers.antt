@@ -1,4 +1,4 @@
-use Rattle.processor_steps.proofs.Changed.{front_more}
+use Rattle.open_machine.proofs.Imports.{front_more}
 use Rattle.open_machine.proofs.processor.Processor.squash.Goals as goal
 
 pub returns-clause-state : goal.returns-clause-state

@@ -1,10 +1,4 @@
-use Rattle.std.proofs.Common.{◌≡◌, ap, ◌∙◌}
-use Rattle.machine_model.specs.Machine.{Active}
-use Rattle.machine_model.specs.Unit.{put}
-use Rattle.unit_core.specs.Units.{active_of}
-use Rattle.processor_steps.specs.Processors.{QueueView, actives}
-use Rattle.processor_steps.proofs.Queues.{unit_is, changed}
-use Rattle.processor_steps.proofs.Outcomes.{arrived_ok}
+use Rattle.open_machine.proofs.Imports.{◌≡◌, ap, ◌∙◌, Active, put, active_of, QueueView, actives, unit_is, changed, arrived_ok}
 use Rattle.open_machine.proofs.queue.Queue.arrive.Goals as goal
 
 pub returns-clause-active : goal.returns-clause-active

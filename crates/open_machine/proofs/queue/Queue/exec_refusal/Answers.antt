@@ -1,9 +1,4 @@
-use Rattle.std.proofs.Common.{refl, sym, ap, ◌∙◌}
-use Rattle.std.specs.Prelude.{nat_eq}
-use Rattle.unit_core.specs.Units.{active_of}
-use Rattle.processor_steps.specs.Processors.{QueueView, actives}
-use Rattle.processor_steps.proofs.Queues.{is_there}
-use Rattle.processor_steps.proofs.Outcomes.{refusal_at}
+use Rattle.open_machine.proofs.Imports.{refl, sym, ap, ◌∙◌, nat_eq, active_of, QueueView, actives, is_there, refusal_at}
 use Rattle.open_machine.proofs.queue.Queue.exec_refusal.Goals as goal
 
 pub returns-in-Some : goal.returns-in-Some

@@ -1,10 +1,5 @@
-use Rattle.std.proofs.Common.{◌≡◌, ℕ, List, [], ◌∷◌, Some, ap, ◌∙◌}
-use Rattle.std.specs.Prelude.{slice_get, slice_set, map}
-use Rattle.machine_model.specs.Machine.{Active}
-use Rattle.machine_model.specs.Step.{filled}
-use Rattle.register_ring.specs.Ports.{filled_with}
-use Rattle.unit_core.specs.Units.{UnitView, active_of}
-use Rattle.processor_steps.specs.Processors.{QueueView, actives}
+use Rattle.open_machine.proofs.Imports.{◌≡◌, ℕ, List, ap, ◌∙◌, slice_get, slice_set, map, Active, filled, filled_with, UnitView, active_of, QueueView, actives}
+use Rattle.std.proofs.Common.{[], ◌∷◌, Some}
 use Rattle.open_machine.proofs.queue.Queue.fill_head.Goals as goal
 
 -- the head filled is the queue filled

@@ -1,11 +1,6 @@
 -- The head hands over what it holds before it goes.
-use Rattle.std.proofs.Common.{◌≡◌, ◌++◌, None, ap, ◌∙◌, unwrap_or}
-use Rattle.std.specs.Prelude.{slice_index, if◌then◌else◌}
-use Rattle.mips_instructions.specs.Words.{has}
-use Rattle.machine_model.specs.Machine.{Active}
-use Rattle.unit_core.specs.Units.{active_of}
-use Rattle.processor_steps.specs.Processors.{QueueView, actives}
-use Rattle.processor_steps.proofs.Queues.{unit_is}
+use Rattle.open_machine.proofs.Imports.{◌≡◌, ap, ◌∙◌, unwrap_or, slice_index, if◌then◌else◌, has, Active, active_of, QueueView, actives, unit_is}
+use Rattle.std.proofs.Common.{◌++◌, None}
 use Rattle.open_machine.proofs.queue.Queue.pop_into.Goals as goal
 
 pub returns-clause-registers : goal.returns-clause-registers

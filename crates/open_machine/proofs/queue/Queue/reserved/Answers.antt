@@ -1,10 +1,4 @@
-use Rattle.std.proofs.Common.{Bool, ◌||◌, List, sym, ap, ◌∙◌}
-use Rattle.std.specs.Prelude.{map}
-use Rattle.mips_instructions.specs.Words.{has}
-use Rattle.machine_model.specs.Step.{is_reserved}
-use Rattle.unit_core.specs.Units.{UnitView, active_of}
-use Rattle.processor_steps.specs.Processors.{QueueView, actives}
-use Rattle.processor_steps.proofs.Queues.{reserved_joined}
+use Rattle.open_machine.proofs.Imports.{Bool, ◌||◌, List, sym, ap, ◌∙◌, map, has, is_reserved, UnitView, active_of, QueueView, actives, reserved_joined}
 use Rattle.open_machine.proofs.queue.Queue.reserved.Goals as goal
 
 pub returns : goal.returns

@@ -1,10 +1,4 @@
-use Rattle.std.proofs.Common.{◌≡◌, ap, ◌∙◌}
-use Rattle.machine_model.specs.Machine.{Active, Words}
-use Rattle.machine_model.specs.Unit.{put}
-use Rattle.register_ring.specs.Held.{put_first}
-use Rattle.unit_core.specs.Units.{active_of}
-use Rattle.processor_steps.specs.Processors.{QueueView, actives}
-use Rattle.processor_steps.proofs.Queues.{unit_is, changed}
+use Rattle.open_machine.proofs.Imports.{◌≡◌, ap, ◌∙◌, Active, Words, put, put_first, active_of, QueueView, actives, unit_is, changed}
 use Rattle.open_machine.proofs.OpenLemmas.{first_is_put}
 use Rattle.open_machine.proofs.queue.Queue.send.Goals as goal
 

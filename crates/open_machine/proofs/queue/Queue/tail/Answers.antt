@@ -1,9 +1,6 @@
-use Rattle.std.proofs.Common.{None, ap, ◌∙◌}
-use Rattle.std.specs.Option.{option_map}
+use Rattle.open_machine.proofs.Imports.{ap, ◌∙◌, option_map, active_of, QueueView, actives, last_is, last_map}
+use Rattle.std.proofs.Common.{None}
 use Rattle.std.specs.List.{last_or}
-use Rattle.unit_core.specs.Units.{active_of}
-use Rattle.processor_steps.specs.Processors.{QueueView, actives}
-use Rattle.processor_steps.proofs.Queues.{last_is, last_map}
 use Rattle.open_machine.proofs.queue.Queue.tail.Goals as goal
 
 pub returns : goal.returns

@@ -1,8 +1,7 @@
 -- What the code finds is the first refusal of the model.
-use Rattle.std.proofs.Common.{Bool, ◌||◌, Some, None, ap, ◌∙◌}
-use Rattle.machine_model.specs.Refusals.{unless}
+use Rattle.open_machine.proofs.Imports.{Bool, ◌||◌, ap, ◌∙◌, unless, active_of}
+use Rattle.std.proofs.Common.{Some, None}
 use Rattle.machine_model.specs.declared.event.Refused.TheVariants as refused
-use Rattle.unit_core.specs.Units.{active_of}
 use Rattle.open_machine.proofs.OpenLemmas.{exec_refused}
 use Rattle.open_machine.proofs.unit.OpenUnit.exec_refusal.Goals as goal
 

@@ -1,7 +1,4 @@
-use Rattle.std.proofs.Common.{◌≡◌, ◌+◌, ◌%◌, ◌<◌, ◌∷◌, [], length, refl, sym, ap, ◌∙◌, subst, vec_len}
-use Rattle.std.specs.Prelude.{slice_index}
-use Rattle.sequencer.specs.Rings.{unit_for}
-use Rattle.threaded_runner.specs.Desks.{DeskView}
+use Rattle.threaded_runner.proofs.Imports.{◌≡◌, ◌+◌, ◌%◌, ◌<◌, ◌∷◌, [], length, refl, sym, ap, ◌∙◌, subst, vec_len, slice_index, unit_for, DeskView}
 use Rattle.threaded_runner.proofs.Late.{next_late}
 use Rattle.threaded_runner.proofs.Locked.{one_own, more, as_many}
 use Rattle.threaded_runner.proofs.desk.Desk.apply.Goals as goal

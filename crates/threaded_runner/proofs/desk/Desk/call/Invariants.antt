@@ -1,5 +1,5 @@
-use Rattle.std.specs.Prelude.{◌≡◌, ℕ, ◌<◌, ◌≤◌, slice_get, Some, true, false}
-use Rattle.threaded_runner.specs.Shares.{AllWait}
+use Rattle.threaded_runner.proofs.Imports.{slice_get, AllWait}
+use Rattle.std.specs.Prelude.{◌≡◌, ℕ, ◌<◌, ◌≤◌, Some, true, false}
 use Rattle.threaded_runner.specs.Calls.{IsAsleep}
 use Rattle.threaded_runner.proofs.desk.Desk.call.Given as goal
 

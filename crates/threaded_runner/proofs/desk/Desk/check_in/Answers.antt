@@ -1,14 +1,7 @@
-use Rattle.std.proofs.Common.{◌≡◌, ℕ, ◌+◌, ◌%◌, length, Option, sym, ap, ◌∙◌, subst, arith}
-use Rattle.std.proofs.lemmas.List.{length-replicate}
-use Rattle.std.specs.Prelude.{replicate, slice_index, slice_set, unwrap_or, vec_len}
-use Rattle.std.specs.Option.{option_map}
-use Rattle.machine_model.specs.declared.event.Event.TheVariants.{Exec}
+use Rattle.threaded_runner.proofs.Imports.{◌≡◌, ℕ, ◌+◌, ◌%◌, length, Option, sym, ap, ◌∙◌, subst, arith, length-replicate, replicate, slice_index, slice_set, unwrap_or, option_map, Exec, MachineView, state, Takes, DeskView, unit_for}
+use Rattle.std.specs.Prelude.{vec_len}
 use Rattle.unit_core.specs.Units.{UnitView}
 use Rattle.processor_steps.specs.Processors.{position_with}
-use Rattle.sequencer.specs.Machines.{MachineView, state}
-use Rattle.sequencer.specs.Bursts.{Takes}
-use Rattle.threaded_runner.specs.Desks.{DeskView}
-use Rattle.sequencer.specs.Rings.{unit_for}
 use Rattle.threaded_runner.proofs.Late.{execs_late}
 use Rattle.threaded_runner.proofs.Locked.{execs_own, more, as_many}
 use Rattle.threaded_runner.proofs.desk.Desk.check_in.Goals as goal

@@ -1,4 +1,4 @@
-use Rattle.std.proofs.Common.{◌≡◌, ◌-◌, length}
+use Rattle.threaded_runner.proofs.Imports.{◌≡◌, ◌-◌, length}
 use Rattle.threaded_runner.proofs.desk.Desk.finish.Given as goal
 
 abbrev pub invariant-loop-self : goal.invariant-loop-self

@@ -1,7 +1,4 @@
-use Rattle.std.proofs.Common.{◌+◌, ◌%◌, length, sym, ◌∙◌, vec_len}
-use Rattle.std.proofs.lemmas.List.{length-replicate}
-use Rattle.std.specs.Prelude.{replicate, slice_index}
-use Rattle.machine_model.specs.declared.event.Event.TheVariants.{Exec}
+use Rattle.threaded_runner.proofs.Imports.{◌+◌, ◌%◌, length, sym, ◌∙◌, vec_len, length-replicate, replicate, slice_index, Exec}
 use Rattle.threaded_runner.proofs.Late.{execs_late}
 use Rattle.threaded_runner.proofs.Locked.{execs_own, more, as_many}
 use Rattle.threaded_runner.proofs.desk.Desk.run_head.Goals as goal

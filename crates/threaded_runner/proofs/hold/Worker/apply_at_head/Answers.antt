@@ -1,13 +1,4 @@
-use Rattle.std.proofs.Common.{◌≡◌, ℕ, ◌<◌, ◌≤◌, ◌⊎◌, length, inl, inr, rules, sym, ap, ◌∙◌, subst, arith, true≢false}
-use Rattle.machine_model.specs.declared.event.Event.TheVariants.{Exec}
-use Rattle.sequencer.specs.Machines.{MachineView, units_of}
-use Rattle.sequencer.specs.Rings.{unit_for}
-use Rattle.unit_turns.specs.Turns.{turn_of}
-use Rattle.unit_turns.specs.declared.turn.Turn.TheVariants.{Apply, Wait}
-use Rattle.threaded_runner.specs.declared.share.Share.{Share}
-use Rattle.threaded_runner.specs.Shares.{IsShareOf, IsServed}
-use Rattle.threaded_runner.specs.HoldTurns.{GaveUp}
-use Rattle.threaded_runner.specs.Workers.{DoesEvent}
+use Rattle.threaded_runner.proofs.Imports.{◌≡◌, ℕ, ◌<◌, ◌≤◌, ◌⊎◌, length, inl, inr, rules, sym, ap, ◌∙◌, subst, arith, true≢false, Exec, MachineView, units_of, unit_for, turn_of, Apply, Wait, Share, IsShareOf, IsServed, GaveUp, DoesEvent}
 use Rattle.threaded_runner.proofs.Sharing.{head_served, on_ring}
 use Rattle.threaded_runner.proofs.hold.Worker.apply_at_head.Goals as goal
 

@@ -1,8 +1,4 @@
-use Rattle.std.proofs.Common.{◌≡◌, false, sym, ◌∙◌, subst}
-use Rattle.sequencer.specs.Machines.{MachineView}
-use Rattle.threaded_runner.specs.Paces.{is_held}
-use Rattle.unit_turns.specs.Turns.{turn_of}
-use Rattle.unit_turns.specs.declared.turn.Turn.TheVariants.{Choose}
+use Rattle.threaded_runner.proofs.Imports.{◌≡◌, false, sym, ◌∙◌, subst, MachineView, is_held, turn_of, Choose}
 use Rattle.threaded_runner.proofs.Going.{one_turn, choice_named}
 use Rattle.threaded_runner.proofs.HoldTurning.{turn_taken}
 use Rattle.threaded_runner.proofs.hold.Worker.choose.Goals as goal

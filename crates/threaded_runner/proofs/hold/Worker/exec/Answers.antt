@@ -1,9 +1,4 @@
-use Rattle.std.proofs.Common.{◌≡◌, ℕ, ◌<◌, inl, sym, ap, subst, arith}
-use Rattle.machine_model.specs.declared.event.Event.TheVariants.{Exec}
-use Rattle.sequencer.specs.Machines.{MachineView, units_of}
-use Rattle.sequencer.specs.Rings.{unit_for}
-use Rattle.threaded_runner.specs.declared.share.Share.{Share}
-use Rattle.threaded_runner.specs.Holds.{IsStoppedAt, RunsHead}
+use Rattle.threaded_runner.proofs.Imports.{◌≡◌, ℕ, ◌<◌, inl, sym, ap, subst, arith, Exec, MachineView, units_of, unit_for, Share, IsStoppedAt, RunsHead}
 use Rattle.threaded_runner.proofs.Going.{runs_are_turns}
 use Rattle.threaded_runner.proofs.hold.Worker.exec.Goals as goal
 

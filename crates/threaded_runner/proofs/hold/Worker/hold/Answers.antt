@@ -1,6 +1,4 @@
-use Rattle.std.proofs.Common.{◌≡◌, true, inl, sym, ◌∙◌, subst, true≢false, arith}
-use Rattle.threaded_runner.specs.declared.share.Share.{Share}
-use Rattle.threaded_runner.specs.Holds.{TakesTurns}
+use Rattle.threaded_runner.proofs.Imports.{◌≡◌, true, inl, sym, ◌∙◌, subst, true≢false, arith, Share, TakesTurns}
 use Rattle.threaded_runner.proofs.Going.{more_turns}
 use Rattle.threaded_runner.proofs.HoldTurning.{one_more_turn}
 use Rattle.threaded_runner.proofs.hold.Worker.hold.Goals as goal

@@ -1,6 +1,4 @@
-use Rattle.threaded_runner.specs.Holds.{TakesTurns}
-use Rattle.threaded_runner.specs.HoldTurns.{HoldsFor}
-use Rattle.threaded_runner.specs.Workers.{IsSameWorker}
+use Rattle.threaded_runner.proofs.Imports.{TakesTurns, HoldsFor, IsSameWorker}
 use Rattle.threaded_runner.proofs.hold.Worker.hold.Given as goal
 
 -- this many turns were taken

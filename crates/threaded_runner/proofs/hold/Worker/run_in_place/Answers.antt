@@ -1,14 +1,4 @@
-use Rattle.std.proofs.Common.{◌≡◌, ℕ, ◌+◌, rules, refl, sym, ◌∙◌, subst, arith}
-use Rattle.std.specs.Prelude.{Result}
-use Rattle.machine_model.specs.declared.event.Event.{Event}
-use Rattle.machine_model.specs.declared.event.Refused.{Refused}
-use Rattle.sequencer.specs.Machines.{MachineView}
-use Rattle.threaded_runner.specs.declared.share.Share.{Share}
-use Rattle.threaded_runner.specs.Desks.{DeskView}
-use Rattle.threaded_runner.specs.Holds.{TakesTurns}
-use Rattle.threaded_runner.specs.HoldTurns.{GoesInPlace}
-use Rattle.threaded_runner.specs.Paces.{after_in_place, pace_of}
-use Rattle.threaded_runner.specs.Workers.{WorkerView, with_pace}
+use Rattle.threaded_runner.proofs.Imports.{◌≡◌, ℕ, ◌+◌, rules, refl, sym, ◌∙◌, subst, arith, Result, Event, Refused, MachineView, Share, DeskView, TakesTurns, GoesInPlace, after_in_place, pace_of, WorkerView, with_pace}
 use Rattle.threaded_runner.proofs.Going.{some_turns}
 use Rattle.threaded_runner.proofs.HoldTurning.{one_more_event, at_last, at_once}
 use Rattle.threaded_runner.proofs.hold.Worker.run_in_place.Goals.{else-loop-test, then-loop-test+then-left-eq0, then-loop-test+else-left-eq0+then-not-apply_at_head}

@@ -1,7 +1,5 @@
 use Rattle.std.specs.Prelude.{◌+◌, ◌≤◌, length}
-use Rattle.threaded_runner.specs.Holds.{TakesTurns}
-use Rattle.threaded_runner.specs.HoldTurns.{GoesInPlaceFor}
-use Rattle.threaded_runner.specs.Workers.{IsSameWorker}
+use Rattle.threaded_runner.proofs.Imports.{TakesTurns, GoesInPlaceFor, IsSameWorker}
 use Rattle.threaded_runner.proofs.hold.Worker.run_in_place.Given as goal
 
 -- what was used and what is left is no more than what was asked for

@@ -1,9 +1,4 @@
-use Rattle.std.proofs.Common.{◌<◌, length, sym, ap, ◌∙◌, subst, arith, refl}
-use Rattle.machine_model.specs.declared.event.Event.TheVariants.{Exec}
-use Rattle.sequencer.specs.Machines.{MachineView, state, units_of}
-use Rattle.sequencer.specs.Rings.{unit_for}
-use Rattle.threaded_runner.specs.declared.share.Share.{Share}
-use Rattle.threaded_runner.specs.Shares.{IsShareOf}
+use Rattle.threaded_runner.proofs.Imports.{◌<◌, length, sym, ap, ◌∙◌, subst, arith, refl, Exec, MachineView, state, units_of, unit_for, Share, IsShareOf}
 use Rattle.threaded_runner.proofs.Going.{runs_are_turns, fewer_turns}
 use Rattle.threaded_runner.proofs.Sharing.{head_served, at_work}
 use Rattle.threaded_runner.proofs.hold.Worker.run_inside.Goals as goal

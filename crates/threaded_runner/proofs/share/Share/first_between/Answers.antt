@@ -1,4 +1,4 @@
-use Rattle.std.proofs.Common.{arith}
+use Rattle.threaded_runner.proofs.Imports.{arith}
 use Rattle.threaded_runner.proofs.Sharing.{one_more_waits}
 use Rattle.threaded_runner.proofs.share.Share.first_between.Goals as goal
 

@@ -1,4 +1,4 @@
-use Rattle.threaded_runner.specs.Shares.{WaitBetween}
+use Rattle.threaded_runner.proofs.Imports.{WaitBetween}
 use Rattle.threaded_runner.proofs.share.Share.first_between.Given as goal
 
 -- those below this one wait

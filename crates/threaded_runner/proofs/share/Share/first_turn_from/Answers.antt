@@ -1,4 +1,4 @@
-use Rattle.std.proofs.lemmas.Option.{IfSome_then}
+use Rattle.threaded_runner.proofs.Imports.{IfSome_then}
 use Rattle.threaded_runner.proofs.Sharing.{first_high, first_low, all_between, none_then}
 use Rattle.threaded_runner.proofs.share.Share.first_turn_from.Goals as goal
 

@@ -1,6 +1,4 @@
-use Rattle.std.proofs.Common.{ℕ, sym, ap, ◌∙◌, subst}
-use Rattle.unit_turns.specs.Turns.{turn_of}
-use Rattle.threaded_runner.specs.Shares.{IsFirst}
+use Rattle.threaded_runner.proofs.Imports.{ℕ, sym, ap, ◌∙◌, subst, turn_of, IsFirst}
 use Rattle.threaded_runner.proofs.Sharing.{head_first}
 use Rattle.threaded_runner.proofs.share.Share.head_turn.Goals as goal
 

@@ -1,8 +1,4 @@
-use Rattle.std.proofs.Common.{ℕ, sym, ap, ◌∙◌, subst}
-use Rattle.std.proofs.lemmas.Option.{IfSome_then}
-use Rattle.unit_turns.specs.Turns.{IsTurn, turn_of}
-use Rattle.unit_turns.specs.declared.turn.Turn.{Turn}
-use Rattle.threaded_runner.specs.Shares.{IsFirst}
+use Rattle.threaded_runner.proofs.Imports.{ℕ, sym, ap, ◌∙◌, subst, IfSome_then, IsTurn, turn_of, Turn, IsFirst}
 use Rattle.threaded_runner.proofs.Sharing.{only_unit, only_waits, none_then}
 use Rattle.threaded_runner.proofs.share.Share.own_turn.Goals as goal
 

@@ -1,5 +1,4 @@
-use Rattle.std.proofs.Common.{subst}
-use Rattle.threaded_runner.specs.Desks.{DeskView}
+use Rattle.threaded_runner.proofs.Imports.{subst, DeskView}
 use Rattle.threaded_runner.specs.Stations.{TakesHold}
 use Rattle.threaded_runner.proofs.station.StationBench.hold.Goals as goal
 

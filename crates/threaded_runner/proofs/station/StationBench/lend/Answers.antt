@@ -1,7 +1,5 @@
-use Rattle.std.proofs.Common.{◌≡◌, rules, sym, subst}
+use Rattle.threaded_runner.proofs.Imports.{◌≡◌, rules, sym, subst, IsAtWork, MachineView}
 use Rattle.std.specs.Sync.Mutex.{mutex_guard_value}
-use Rattle.sequencer.specs.Bursts.{IsAtWork}
-use Rattle.sequencer.specs.Machines.{MachineView}
 use Rattle.threaded_runner.proofs.station.StationBench.lend.Goals as goal
 
 pub returns-clause-none : goal.returns-clause-none

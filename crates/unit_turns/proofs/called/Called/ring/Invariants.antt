@@ -1,4 +1,5 @@
-use Rattle.std.proofs.Common.{◌≡◌, ℕ, ◌<◌, slice_get, Some, true}
+use Rattle.unit_turns.proofs.Imports.{◌≡◌, ℕ, ◌<◌, Some, true}
+use Rattle.std.proofs.Common.{slice_get}
 use Rattle.unit_turns.proofs.called.Called.ring.Given as goal
 
 -- the bells so far are rung
