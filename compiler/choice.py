@@ -173,14 +173,14 @@ def divided(program: Program, way: Way, flow: Flow) -> Cut:
     return made
 
 
-def written(shape: Shape, way: Way, tool: Tool, head: list[str], is_plain: bool) -> Choice:
-    """A text made in one way. The run on one unit says which target follows most often."""
+def written(shape: Shape, way: Way, tool: Tool, head: list[str], is_plain: bool, is_bare: bool = False) -> Choice:
+    """A text made in one way, bare if it is only to be measured. The run on one unit says which target follows most often."""
     if not is_plain and shape.trace is None:
         shape.trace = shape.run_in_order()
     program = shape.program.copied()
     made = divided(program, way, shape.flow.of_copy(program))
-    about = [*head, f"Tasks: {way}. This translation is not proved; `multiscalar check` judges its marks."]
-    writer = Writer(program, made, about)
+    about = [] if is_bare else [*head, f"Tasks: {way}. This translation is not proved; `multiscalar check` judges its marks."]
+    writer = Writer(program, made, about, is_bare)
     if not is_plain:
         writer.followed = shape.followed(made)
     return Choice(way, marked(writer, tool), len(made.tasks), program)

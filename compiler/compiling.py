@@ -72,6 +72,9 @@ class Compiling:
         """What GCC makes of a C file, or the preprocessor of a file of assembler text."""
         if file.endswith(".s"):
             return Path(file).read_text(errors="surrogateescape")
+        for it in self.flags:
+            if it in ("pic", "PIC", "pie", "PIE"):
+                raise refuse(Place(file), f"position-independent code needs tables that nothing here fills; leave out -f{it}")
         if file.endswith(".S"):
             target = [it for it in self.own_flags() if it.startswith("--target")]
             return self.call([*target, "-E", "-x", "assembler-with-cpp", *self.preprocessor_words(), as_word(file)])

@@ -26,11 +26,15 @@ class Flow:
         self.program = program
         self.code = program.code
         self.index_of = program.index_of()
+        # Where each branch or jump goes that names a label.
+        self.goes_to = [self.index_of.get(it.destination) for it in self.code]
         self.taken = self.taken_addresses()
         self.by_address = {self.at(it) for it in self.taken if not is_local(it)}
         self.tables = self.found_tables()
         self.routines = {self.at(it.destination) for it in self.code if it.comes_back}
         self.functions: dict[int, Function] = {}
+        # The loops of each function, by its entry, once someone has asked for them.
+        self.loops: dict[int, list[tuple[int, set[int]]]] = {}
         self.find_functions()
 
     def of_copy(self, program: Program) -> "Flow":
@@ -163,7 +167,13 @@ class Flow:
         return sorted(it for it in places if it < len(self.code))
 
     def loop_heads(self, function: Function) -> list[tuple[int, set[int]]]:
-        """The heads of loops with the instructions of each loop, by depth-first search: where an edge goes back."""
+        """The heads of loops with the instructions of each loop."""
+        if function.entry not in self.loops:
+            self.loops[function.entry] = self.found_loops(function)
+        return self.loops[function.entry]
+
+    def found_loops(self, function: Function) -> list[tuple[int, set[int]]]:
+        """By depth-first search: where an edge goes back is a head."""
         heads: dict[int, set[int]] = {}
         state: dict[int, int] = {}
         before: dict[int, list[int]] = {}

@@ -101,6 +101,12 @@ class Instruction:
     def __post_init__(self) -> None:
         self.form = FORM_OF[self.name]
 
+    def copied(self) -> "Instruction":
+        """A copy with its own labels."""
+        made = object.__new__(Instruction)
+        made.__dict__ = self.__dict__ | {"labels": list(self.labels), "targets": list(self.targets)}
+        return made
+
     @property
     def writes(self) -> tuple[int, ...]:
         if self.form in WRITES_FIRST:

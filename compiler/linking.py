@@ -41,8 +41,7 @@ class Program:
 
     def copied(self) -> "Program":
         """A copy with its own code; data stay shared, since nothing changes them after the layout."""
-        code = [replace(it, labels=list(it.labels), targets=list(it.targets)) for it in self.code]
-        return replace(self, code=code, dropped=set(self.dropped))
+        return replace(self, code=[it.copied() for it in self.code], dropped=set(self.dropped))
 
     def index_of(self) -> dict[str, int]:
         return {label: index for index, it in enumerate(self.code) for label in it.labels}

@@ -7,16 +7,18 @@ machine; the costs are about those of a machine of today.
 import random
 from itertools import cycle
 
+from block_order import ENDS
 from choice import SHAPES, Choice, Chosen, Settings, Shape, Way, judge, written
 from flow import Flow
+from instructions import MEMORY
 from linking import Program
 from refusal import Refused
 from releases import MODES
 from tasks import POLICIES, heads, leaders
-from tool import Tool
+from tool import Steps, Tool
 
-# What a trial costs in seconds: as such, for each instruction, for each step of its run.
-TRIAL, INSTRUCTION, STEP = 0.02, 0.0001, 0.000001
+# What a trial costs in seconds: to make the text, for each instruction of it, to run it, for each step of that.
+TEXT, INSTRUCTION, RUN, STEP = 0.005, 0.00006, 0.003, 0.0000006
 # How many of the best cuts by rules the search goes on from.
 BEGINS = 3
 
@@ -29,6 +31,8 @@ class Trials:
         self.shapes: dict[str, Shape] = {}
         self.known: dict[Way, Choice | None] = {}
         self.first_refusal: Refused | None = None
+        # The steps of each text; two ways may lead to one.
+        self.steps: dict[str, Steps] = {}
         self.seconds = 0.0
 
     def shape(self, code: str) -> Shape:
@@ -36,20 +40,23 @@ class Trials:
             self.shapes[code] = Shape(self.program, code, self.tool)
         return self.shapes[code]
 
-    def made(self, way: Way) -> Choice | None:
+    def made(self, way: Way, is_bare: bool = False) -> Choice | None:
         """A text that is not measured yet, or None if the program cannot be cut so."""
         try:
-            return written(self.shape(way.code), way, self.tool, self.head, self.settings.plain)
+            return written(self.shape(way.code), way, self.tool, self.head, self.settings.plain, is_bare)
         except Refused as refused:
             self.first_refusal = self.first_refusal or refused
             return None
 
     def choice(self, way: Way) -> Choice | None:
         if way not in self.known:
-            choice = self.made(way)
+            choice = self.made(way, is_bare=True)
             if choice:
-                choice.last = self.tool.steps(choice.text, self.settings.units)
-                self.seconds += TRIAL + choice.instructions * INSTRUCTION + choice.last.steps * STEP
+                self.seconds += TEXT + choice.instructions * INSTRUCTION
+                if choice.text not in self.steps:
+                    self.steps[choice.text] = self.tool.steps(choice.text, self.settings.units)
+                    self.seconds += RUN + self.steps[choice.text].steps * STEP
+                choice.last = self.steps[choice.text]
             self.known[way] = choice
         return self.known[way]
 
@@ -75,8 +82,10 @@ def chosen(trials: Trials) -> Chosen:
     found = Chosen([it for it in trials.known.values() if it])
     if not found.choices:
         raise trials.first_refusal
-    found.best.on_one = tool.steps(judge(found.best, tool).text, 1)
-    found.rival = rival(trials, codes, found.best)
+    best = found.best
+    best.text = trials.made(best.way).text
+    best.on_one = tool.steps(judge(best, tool).text, 1)
+    found.rival = rival(trials, codes, best)
     return found
 
 
@@ -121,7 +130,7 @@ def rival(trials: Trials, codes: list[str], best: Choice) -> Choice:
     found = [best]
     for code in codes:
         for leaves in ("own", "joined"):
-            choice = trials.made(Way("calls", leaves, "none", code))
+            choice = trials.made(Way("calls", leaves, "none", code), is_bare=True)
             if choice:
                 choice.on_one = trials.tool.steps(choice.text, 1)
                 found.append(choice)
@@ -171,6 +180,12 @@ class Climber:
             place = index_of.get(label, -1)
             often[place] = often.get(place, 0) + 1
         places = leaders(flow) | {it for policy in POLICIES for it in heads(flow, policy)}
+        begins = leaders(flow) | set(flow.functions)
+        for first in [it for it in often if it >= 0]:
+            place = behind_memory(flow, first, begins)
+            if place:
+                often.setdefault(place, often[first])
+                places.add(place)
         return sorted((it for it in places if often.get(it)), key=lambda it: (-often[it], it))
 
     def step(self) -> None:
@@ -201,3 +216,15 @@ class Climber:
         leaves = ("own", "joined") if settings.leaves == "auto" else (now.leaves,)
         modes = MODES if settings.release == "auto" else (now.release,)
         return [Way(now.policy, leaf, mode, now.code, now.begins) for leaf in leaves for mode in modes]
+
+
+def behind_memory(flow: Flow, first: int, begins: set[int]) -> int | None:
+    """The place behind the last access to memory of a block, if something is left there.
+
+    A task that ends with its last access makes the next one the head, whose turn it is then.
+    """
+    behind = last = first
+    while last + 1 < len(flow.code) and last + 1 not in begins and flow.code[last].form not in ENDS:
+        behind = last + 1 if flow.code[last].form in MEMORY else behind
+        last += 1
+    return behind if behind > first else None

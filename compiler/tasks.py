@@ -34,8 +34,9 @@ class Cut:
     # Calls that do not end the task: it goes on into the function, to its return.
     joined: set[int]
     tasks: list[Task] = field(default_factory=list)
-    # Stop bits that are known, as long as tasks begin where they do.
+    # Stop bits, and what comes next inside the task, where that is known: as long as tasks begin where they do.
     stops: dict[int, str] = field(default_factory=dict)
+    following: dict[int, list[int]] = field(default_factory=dict)
 
     def stop_of(self, index: int) -> str:
         """The stop bit of an instruction: every edge to where a task begins ends the task."""
@@ -49,22 +50,28 @@ class Cut:
             return "!s"
         if it.form == "halt":
             return ""
-        taken = self.flow.at(it.destination) in self.entries if it.destination else False
+        place = self.flow.goes_to[index]
+        taken = place in self.entries
         following = index + 1 in self.entries
         if it.form == "jump_link":
             return "" if index in self.joined else "!s"
         if not it.is_branch:
-            return "!s" if (taken if it.destination else following) else ""
+            return "!s" if (following if place is None else taken) else ""
         return {(True, True): "!s", (True, False): "!st", (False, True): "!sn"}.get((taken, following), "")
 
     def inner(self, index: int) -> list[int]:
         """What comes next inside the task."""
-        it, stop = self.flow.code[index], self.stop_of(index)
+        if index not in self.following:
+            self.following[index] = self.found_inner(index)
+        return self.following[index]
+
+    def found_inner(self, index: int) -> list[int]:
+        it, stop, place = self.flow.code[index], self.stop_of(index), self.flow.goes_to[index]
         if stop == "!s" or it.form == "halt":
             return []
         places = []
-        if it.destination and stop != "!st":
-            places.append(self.flow.at(it.destination))
+        if place is not None and stop != "!st":
+            places.append(place)
         if it.form not in ("jump", "jump_link") and stop != "!sn":
             places.append(index + 1)
         return places
@@ -179,6 +186,7 @@ def divide(made: Cut) -> None:
             return
         made.entries |= more
         made.stops.clear()
+        made.following.clear()
 
 
 def places_inside(made: Cut, task: Task) -> set[int]:
@@ -235,10 +243,10 @@ def explored(made: Cut, entry: int) -> Task:
 
 def outer(made: Cut, index: int) -> set[int]:
     """The places where a task that ends at this instruction goes on; none for jumps through registers."""
-    it, stop = made.flow.code[index], made.stop_of(index)
+    it, stop, place = made.flow.code[index], made.stop_of(index), made.flow.goes_to[index]
     if not stop or it.form in ("jump_register", "jump_link_register"):
         return set()
-    taken = {made.flow.at(it.destination)} if it.destination and stop != "!sn" else set()
+    taken = {place} if place is not None and stop != "!sn" else set()
     following = {index + 1} if it.form not in ("jump", "jump_link") and stop != "!st" else set()
     return taken | following
 

@@ -1,5 +1,6 @@
 """Writes program text: numbers and the machine's own words, with the lines of C as comments."""
 
+import functools
 import re
 from collections import Counter
 from pathlib import Path
@@ -85,9 +86,16 @@ def owners(made: Cut) -> dict[int, str]:
     return found
 
 
+@functools.cache
+def name_of(file: str) -> str:
+    return plain(Path(file).name)
+
+
 class Writer:
-    def __init__(self, program: Program, made: Cut, head: list[str]) -> None:
-        self.program, self.made, self.head = program, made, head
+    """Writes a cut. A text that is only measured needs no comments."""
+
+    def __init__(self, program: Program, made: Cut, head: list[str], is_bare: bool = False) -> None:
+        self.program, self.made, self.head, self.is_bare = program, made, head, is_bare
         self.index_of = program.index_of()
         self.names = Names(made)
         self.sources: dict[str, list[str]] = {}
@@ -118,7 +126,7 @@ class Writer:
         lines: list[str] = []
         place = Place()
         for index, it in enumerate(self.made.flow.code):
-            if it.place.line and it.place != place:
+            if it.place.line and it.place != place and not self.is_bare:
                 lines += self.source_line(it.place)
             place = it.place
             if index in self.names.of_index:
@@ -137,14 +145,16 @@ class Writer:
         source = self.sources[place.file]
         if not 0 < place.line <= len(source):
             return []
-        return [f"# {plain(Path(place.file).name)}:{place.line}: {plain(source[place.line - 1])[:LONGEST_COMMENT]}".rstrip()]
+        return [f"# {name_of(place.file)}:{place.line}: {plain(source[place.line - 1])[:LONGEST_COMMENT]}".rstrip()]
 
     def line(self, index: int, it: Instruction) -> str:
         marks = " ".join(filter(None, ("!f" if it.own_forward else "", self.made.stop_of(index))))
         words = f"        {self.instruction(it)}{'  ' + marks if marks else ''}"
-        said = [it.note] if it.note else []
-        said += [f"at {Path(it.place.file).name}:{it.place.line}"] if it.place.line else []
-        return f"{words:<{COMMENT_COLUMN}} # {' # '.join(map(plain, said))}" if said else words
+        if self.is_bare:
+            return words
+        said = [plain(it.note)] if it.note else []
+        said += [f"at {name_of(it.place.file)}:{it.place.line}"] if it.place.line else []
+        return f"{words:<{COMMENT_COLUMN}} # {' # '.join(said)}" if said else words
 
     def number(self, it: Instruction) -> int:
         return value_of(self.program, self.index_of, it.value)
