@@ -75,22 +75,48 @@ impl<'a> Subject<'a> {
         ensures program { IfOk result (λ subject. subject.program ≡ program.now) }
         ensures least { IfOk result (λ subject. subject.least ≡ least.now) }
     {
-        let rows = lines_of(alloc, text)?;
-        let places = places_of(alloc, text, program)?;
-        let labels = labels_of(alloc, &rows, &places.code)?;
-        let names = names_in(alloc, &rows)?;
-        let no_index = names_no_index(&rows);
-        let returns = returns_of(alloc, program, least)?;
+        let bare = Subject::without_text(alloc, program, least)?;
+        bare.with_text(text)
+    }
+
+    /// A program with its least certificate, before its text is read: nothing has a place yet.
+    pub fn without_text(alloc: Global, program: &'a Program, least: &'a Cert) -> Made<Subject<'a>>
+        ensures program { IfOk result (λ subject. subject.program ≡ program.now) }
+        ensures least { IfOk result (λ subject. subject.least ≡ least.now) }
+    {
         Ok(Subject {
             alloc,
             program,
+            rows: Vec::new(alloc),
+            places: no_places(alloc),
+            labels: Vec::new(alloc),
+            names: Vec::new(alloc),
+            no_index: true,
+            least,
+            returns: returns_of(alloc, program, least)?,
+        })
+    }
+
+    /// The same with the text that spells the program.
+    pub fn with_text(self, text: &'a [u8]) -> Made<Subject<'a>>
+        requires { parse text.now ≡ Ok self.program }
+        ensures judged { IfOk result (λ subject. IsJudged text.now subject) }
+        ensures program { IfOk result (λ subject. subject.program ≡ self.program) }
+        ensures least { IfOk result (λ subject. subject.least ≡ self.least) }
+    {
+        let alloc = self.alloc;
+        let rows = lines_of(alloc, text)?;
+        let places = places_of(alloc, text, self.program)?;
+        Ok(Subject {
+            alloc,
+            program: self.program,
+            labels: labels_of(alloc, &rows, &places.code)?,
+            names: names_in(alloc, &rows)?,
+            no_index: names_no_index(&rows),
             rows,
             places,
-            labels,
-            names,
-            no_index,
-            least,
-            returns,
+            least: self.least,
+            returns: self.returns,
         })
     }
 
@@ -425,6 +451,20 @@ fn lines_of(alloc: Global, text: &[u8]) -> Made<Vec<&[u8]>>
             Some(more) => rest = more,
             None => return Ok(list),
         }
+    }
+}
+
+/// No places yet.
+fn no_places(alloc: Global) -> SourceMap {
+    SourceMap {
+        code: Vec::new(alloc),
+        widths: Vec::new(alloc),
+        tasks: Vec::new(alloc),
+        lists: Vec::new(alloc),
+        targets: Vec::new(alloc),
+        labels: Vec::new(alloc),
+        pieces: Vec::new(alloc),
+        start: None,
     }
 }
 
