@@ -46,6 +46,14 @@ pub struct Returns {
 }
 
 impl Returns {
+    /// Of a program at which nobody has looked.
+    pub fn none(alloc: Global) -> Returns {
+        Returns {
+            jumps: Vec::new(alloc),
+            calls: Vec::new(alloc),
+        }
+    }
+
     /// The jumps to addresses in registers that tasks reach, one task after another.
     pub fn jumps(&self) -> &[Jump]
         ensures { result.now ≡ self.now.jumps.items }
@@ -79,6 +87,11 @@ pub fn behind(program: &Program, index: u32) -> Option<u32>
 /// Whether an instruction is a jump to an address in a register.
 fn is_indirect(op: &Op) -> bool {
     matches!(op, Op::JumpReg(_) | Op::JumpLinkReg(..))
+}
+
+/// Whether a program has a jump to an address in a register.
+pub fn has_indirect(program: &Program) -> bool {
+    program.code().iter().any(|marked| is_indirect(&marked.op))
 }
 
 /// As many empty lists as there are instructions.
@@ -137,7 +150,7 @@ fn jumps_of(alloc: Global, program: &Program, least: &Cert) -> Result<Vec<Jump>,
     ensures { IfOk result (λ jumps. All (IsTold program.now) jumps.items) }
 {
     let mut jumps = Vec::new(alloc);
-    if !program.code().iter().any(|marked| is_indirect(&marked.op)) {
+    if !has_indirect(program) {
         return Ok(jumps);
     }
     for task in 0..program.tasks().len() {

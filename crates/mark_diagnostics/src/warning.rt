@@ -16,7 +16,7 @@ use crate::release::{release_words, release_written};
 use crate::sending::writes;
 use crate::together::add_marks;
 use annotated_asm::laws::map_fits;
-use call_returns::returns::Jump;
+use call_returns::returns::{Jump, has_indirect};
 use diagnostics::code::Code;
 use diagnostics::diagnostic::{Diagnostic, Help, Severity, Source, Span};
 use diagnostics::listed::Listed;
@@ -567,10 +567,13 @@ fn joined(mut first: Vec<Diagnostic>, mut second: Vec<Diagnostic>) -> Made<Vec<D
 }
 
 /// Whether there is nothing to warn of.
-fn is_silent(list: &[CostlyMark], stops: &[StopRemark], jumps: &[Jump]) -> bool
+fn is_silent(list: &[CostlyMark], stops: &[StopRemark], program: &Program) -> bool
     ensures { result ≡ true → (list.now ≡ []) × (stops.now ≡ []) }
 {
-    list.is_empty() && stops.is_empty() && jumps.is_empty()
+    match (list, stops) {
+        ([], []) => !has_indirect(program),
+        _ => false,
+    }
 }
 
 /// What could be better about the marks of the program that a text spells: where a stop or a way to a task may be
@@ -593,12 +596,12 @@ pub fn mark_warnings(
     // The text has a source map, which is made only where there is something to warn of.
     map_fits();
     let list = costly_marks(alloc, program, least)?;
-    let bare = Subject::without_text(alloc, program, least)?;
+    let bare = Subject::without_text(alloc, program, least);
     let stops = stop_remarks(&bare)?;
-    if is_silent(&list, &stops, bare.returns().jumps()) {
+    if is_silent(&list, &stops, program) {
         return Ok(Vec::new(alloc));
     }
-    let subject = bare.with_text(text)?;
+    let subject = Subject::read(alloc, text, program, least)?;
     let remarks = all_remarks(alloc, &stops, &list)?;
     let shown = first_of(&remarks, MOST_SHOWN);
     let warned = warnings(&subject, shown)?;

@@ -75,16 +75,31 @@ impl<'a> Subject<'a> {
         ensures program { IfOk result (λ subject. subject.program ≡ program.now) }
         ensures least { IfOk result (λ subject. subject.least ≡ least.now) }
     {
-        let bare = Subject::without_text(alloc, program, least)?;
-        bare.with_text(text)
+        let rows = lines_of(alloc, text)?;
+        let places = places_of(alloc, text, program)?;
+        let labels = labels_of(alloc, &rows, &places.code)?;
+        let names = names_in(alloc, &rows)?;
+        let no_index = names_no_index(&rows);
+        let returns = returns_of(alloc, program, least)?;
+        Ok(Subject {
+            alloc,
+            program,
+            rows,
+            places,
+            labels,
+            names,
+            no_index,
+            least,
+            returns,
+        })
     }
 
-    /// A program with its least certificate, before its text is read: nothing has a place yet.
-    pub fn without_text(alloc: Global, program: &'a Program, least: &'a Cert) -> Made<Subject<'a>>
-        ensures program { IfOk result (λ subject. subject.program ≡ program.now) }
-        ensures least { IfOk result (λ subject. subject.least ≡ least.now) }
+    /// A program with its least certificate alone: no place in a text is known, and nothing is seen of its calls.
+    pub fn without_text(alloc: Global, program: &'a Program, least: &'a Cert) -> Subject<'a>
+        ensures program { result.program ≡ program.now }
+        ensures least { result.least ≡ least.now }
     {
-        Ok(Subject {
+        Subject {
             alloc,
             program,
             rows: Vec::new(alloc),
@@ -93,31 +108,8 @@ impl<'a> Subject<'a> {
             names: Vec::new(alloc),
             no_index: true,
             least,
-            returns: returns_of(alloc, program, least)?,
-        })
-    }
-
-    /// The same with the text that spells the program.
-    pub fn with_text(self, text: &'a [u8]) -> Made<Subject<'a>>
-        requires { parse text.now ≡ Ok self.program }
-        ensures judged { IfOk result (λ subject. IsJudged text.now subject) }
-        ensures program { IfOk result (λ subject. subject.program ≡ self.program) }
-        ensures least { IfOk result (λ subject. subject.least ≡ self.least) }
-    {
-        let alloc = self.alloc;
-        let rows = lines_of(alloc, text)?;
-        let places = places_of(alloc, text, self.program)?;
-        Ok(Subject {
-            alloc,
-            program: self.program,
-            labels: labels_of(alloc, &rows, &places.code)?,
-            names: names_in(alloc, &rows)?,
-            no_index: names_no_index(&rows),
-            rows,
-            places,
-            least: self.least,
-            returns: self.returns,
-        })
+            returns: Returns::none(alloc),
+        }
     }
 
     /// Where memory is taken from.
