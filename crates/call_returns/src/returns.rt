@@ -1,8 +1,9 @@
 //! Where the jumps to addresses in registers lead that tasks reach.
 
-ghost use Rattle.std.specs.Prelude.{◌≡◌, ℕ, Contains, IfOk, OnOk};
+ghost use Rattle.std.specs.Prelude.{◌≡◌, IfOk, OnOk};
 ghost use Rattle.std.specs.List.{All};
 ghost use Rattle.std.specs.List.Sorted.{IsStrictlyIncreasing};
+ghost use Rattle.task_descriptor.specs.Listing.{Listing};
 ghost use Rattle.call_returns.specs.Returns.{behind, ComesBack, IsBehindCall, IsTold, IsWith};
 
 use crate::function::Function;
@@ -103,60 +104,57 @@ fn lists<T: Drop>(alloc: Global, count: usize) -> Result<Vec<Vec<T>>, AllocError
     Ok(lists)
 }
 
+/// A jump to an address in a register that a task reaches.
+#[derive(Clone, Copy, Debug)]
+struct Site {
+    index: u32,
+    task: u32,
+}
+
 /// By index, for a jump to an address in a register, the tasks that reach it.
 fn owners_of(
     alloc: Global,
     program: &Program,
-    jumps: &[Jump],
+    sites: &[Site],
 ) -> Result<Vec<Vec<u32>>, AllocError> {
     let mut owners = lists(alloc, program.code().len())?;
-    for jump in jumps {
-        if let Some(tasks) = owners.get_mut(jump.index as usize) {
-            tasks.push(jump.task)?;
+    for site in sites {
+        if let Some(tasks) = owners.get_mut(site.index as usize) {
+            tasks.push(site.task)?;
         }
     }
     Ok(owners)
 }
 
-/// Adds the jumps of a task, of which nothing is seen yet.
-fn add_jumps(
-    alloc: Global,
+/// Adds the jumps of a task.
+fn add_sites(
     program: &Program,
     least: &Cert,
     task: u32,
-    jumps: &mut Vec<Jump>,
-) -> Result<(), AllocError>
-    requires { All (IsTold program.now) jumps.old.items }
-    ensures { OnOk result (All (IsTold program.now) jumps.new.items) }
-{
-    for entry in least.list(task) {
-        let marked = program.code().get(entry.0 as usize);
-        if marked.is_some_and(|marked| is_indirect(&marked.op)) && jumps.len() < MOST_JUMPS {
-            jumps.push(Jump {
-                index: entry.0,
+    sites: &mut Vec<Site>,
+) -> Result<(), AllocError> {
+    for (index, _) in least.list(task) {
+        let marked = program.code().get(*index as usize);
+        if marked.is_some_and(|marked| is_indirect(&marked.op)) && sites.len() < MOST_JUMPS {
+            sites.push(Site {
+                index: *index,
                 task,
-                returns: Vec::new(alloc),
-                places: Vec::new(alloc),
-                is_whole: false,
-                is_uncalled: false,
             })?;
         }
     }
     Ok(())
 }
 
-/// The jumps that tasks reach, one task after another, of which nothing is seen yet.
-fn jumps_of(alloc: Global, program: &Program, least: &Cert) -> Result<Vec<Jump>, AllocError>
-    ensures { IfOk result (λ jumps. All (IsTold program.now) jumps.items) }
-{
-    let mut jumps = Vec::new(alloc);
+/// The jumps that tasks reach, one task after another.
+fn sites_of(alloc: Global, program: &Program, least: &Cert) -> Result<Vec<Site>, AllocError> {
+    let mut sites = Vec::new(alloc);
     if !has_indirect(program) {
-        return Ok(jumps);
+        return Ok(sites);
     }
     for task in 0..program.tasks().len() {
-        add_jumps(alloc, program, least, task as u32, &mut jumps)?;
+        add_sites(program, least, task as u32, &mut sites)?;
     }
-    Ok(jumps)
+    Ok(sites)
 }
 
 /// By index, the ways to each jump.
@@ -190,6 +188,7 @@ fn add_ways(
 }
 
 /// Adds a place to some, if it is not there; whether it is there then.
+#[tactic(auto, using(crate::proofs::Places::as_they_are, crate::proofs::Places::one_more))]
 fn add(places: &mut Vec<u32>, place: u32) -> Result<bool, AllocError>
     ensures { OnOk result (IsWith places.old.items place places.new.items) }
 {
@@ -206,13 +205,28 @@ fn add(places: &mut Vec<u32>, place: u32) -> Result<bool, AllocError>
 /// Puts places in order.
 fn rise(places: &mut Vec<u32>)
     ensures rising { IsStrictlyIncreasing places.new.items }
-    ensures same { (x : ℕ) → Contains places.new.items x → Contains places.old.items x }
+    ensures behind { (p : Listing) → All (IsBehindCall p) places.old.items → All (IsBehindCall p) places.new.items }
 {
     places.sort_unstable();
     places.dedup();
 }
 
 impl Jump {
+    /// A jump of which nothing is seen.
+    #[tactic(auto, using(crate::proofs::Places::none_yet))]
+    fn unseen(alloc: Global, site: Site) -> Jump
+        ensures { (p : Listing) → ComesBack p result }
+    {
+        Jump {
+            index: site.index,
+            task: site.task,
+            returns: Vec::new(alloc),
+            places: Vec::new(alloc),
+            is_whole: false,
+            is_uncalled: false,
+        }
+    }
+
     /// Adds a place to which it leads.
     fn lead(&mut self, place: u32) -> Result<(), AllocError>
         ensures { OnOk result (self.new.returns ≡ self.old.returns) }
@@ -335,39 +349,46 @@ impl<'a> Seen<'a> {
     }
 
     /// Tells of a jump where it leads by some ways.
-    fn tell(&self, mut jump: Jump, ways: &[Way]) -> Result<Jump, AllocError>
-        requires { IsTold self.now.program.now jump }
+    fn tell(&self, alloc: Global, site: Site, ways: &[Way]) -> Result<Jump, AllocError>
         ensures { IfOk result (IsTold self.now.program.now) }
     {
-        let Some(marked) = self.program.code().get(jump.index as usize) else {
-            return Ok(jump);
-        };
-        jump.is_whole = !ways.is_empty();
-        for way in ways {
-            self.add_way(&mut jump, &marked.op, *way)?;
+        let mut jump = Jump::unseen(alloc, site);
+        if let Some(marked) = self.program.code().get(site.index as usize) {
+            jump.is_whole = !ways.is_empty();
+            self.add_ways(&mut jump, &marked.op, ways)?;
+            jump.is_uncalled = jump.is_uncalled && jump.places.is_empty();
         }
-        jump.is_uncalled = jump.is_uncalled && jump.places.is_empty();
         jump.rise(self.program);
         Ok(jump)
+    }
+
+    /// Adds where a jump leads by some ways.
+    fn add_ways(&self, jump: &mut Jump, op: &Op, ways: &[Way]) -> Result<(), AllocError>
+        requires { ComesBack self.now.program.now jump.old }
+        ensures { OnOk result (ComesBack self.now.program.now jump.new) }
+    {
+        for way in ways {
+            self.add_way(jump, op, *way)?;
+        }
+        Ok(())
     }
 
     /// Tells of jumps where they lead; by index, the ways to each.
     fn tell_all(
         &self,
         alloc: Global,
-        jumps: Vec<Jump>,
+        sites: &[Site],
         ways: &[Vec<Way>],
     ) -> Result<Vec<Jump>, AllocError>
-        requires { All (IsTold self.now.program.now) jumps.items }
         ensures { IfOk result (λ told. All (IsTold self.now.program.now) told.items) }
     {
         let mut told = Vec::new(alloc);
-        for jump in jumps {
-            let jump = match ways.get(jump.index as usize) {
-                Some(ways) => self.tell(jump, ways)?,
-                None => jump,
+        for site in sites {
+            let ways: &[Way] = match ways.get(site.index as usize) {
+                Some(ways) => ways.as_slice(),
+                None => &[],
             };
-            told.push(jump)?;
+            told.push(self.tell(alloc, *site, ways)?)?;
         }
         Ok(told)
     }
@@ -389,14 +410,21 @@ fn add_calls(calls: &mut Vec<u32>, function: &Function) -> Result<(), AllocError
 pub fn returns_of(alloc: Global, program: &Program, least: &Cert) -> Result<Returns, AllocError>
     ensures { IfOk result (λ seen. All (IsTold program.now) seen.jumps.items) }
 {
-    let jumps = jumps_of(alloc, program, least)?;
+    let sites = sites_of(alloc, program, least)?;
     let mut calls = Vec::new(alloc);
-    if jumps.is_empty() || jumps.len() >= MOST_JUMPS {
+    let unseen = Seen {
+        program,
+        least,
+        functions: &[],
+    };
+    if sites.is_empty() || sites.len() >= MOST_JUMPS {
+        let jumps = unseen.tell_all(alloc, &sites, &[])?;
         return Ok(Returns { jumps, calls });
     }
-    let owners = owners_of(alloc, program, &jumps)?;
+    let owners = owners_of(alloc, program, &sites)?;
     let mut walk = Walk::new(alloc, program, &owners)?;
     if !walk.walk()? {
+        let jumps = unseen.tell_all(alloc, &sites, &[])?;
         return Ok(Returns { jumps, calls });
     }
     let ways = ways_of(alloc, program.code().len(), &walk.functions)?;
@@ -405,7 +433,7 @@ pub fn returns_of(alloc: Global, program: &Program, least: &Cert) -> Result<Retu
         least,
         functions: &walk.functions,
     };
-    let jumps = seen.tell_all(alloc, jumps, &ways)?;
+    let jumps = seen.tell_all(alloc, &sites, &ways)?;
     for function in &walk.functions {
         add_calls(&mut calls, function)?;
     }
