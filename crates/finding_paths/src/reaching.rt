@@ -50,12 +50,14 @@ pub(crate) fn is_member(program: &Program, reaching: &[Option<u32>], index: u32)
 }
 
 /// Registers that the create masks of all tasks have.
+#[tactic(auto, using(crate::proofs::Reached::all_have_more))]
 pub(crate) fn created_by_all(program: &Program) -> RegSet
     ensures { AllHave program.now.tasks (length program.now.tasks) result }
 {
     let mut set = RegSet::from_bits(0x3_ffff_ffff).unwrap_or(RegSet::empty());
     for descriptor in program.tasks() {
-        set = set.minus(set.minus(descriptor.create));
+        let lacked = set.minus(descriptor.create);
+        set = set.minus(lacked);
     }
     set
 }
