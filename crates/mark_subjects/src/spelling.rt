@@ -42,6 +42,21 @@ fn add_line(alloc: Global, list: &mut Vec<RegisterSpelling>, line: &[u8]) -> Mad
     Ok(())
 }
 
+/// Whether a text begins with the word of a register that is there.
+fn begins_known(list: &[RegisterSpelling], text: &[u8]) -> bool {
+    let digits = rest_after(text, 1);
+    let end = digits.iter().position(|byte| !byte.is_ascii_alphanumeric());
+    let word = first_of(text, end.unwrap_or(digits.len()).saturating_add(1));
+    list.iter()
+        .any(|known| known.word.as_str().as_bytes() == word)
+}
+
+/// Whether a line names no register that is not there.
+fn has_known(list: &[RegisterSpelling], line: &[u8]) -> bool {
+    line.iter().enumerate().all(|(place, byte)| *byte != b'$'
+        || begins_known(list, rest_after(line, place)))
+}
+
 /// A register by its number; HI and LO by their names.
 fn numbered(alloc: Global, number: u8) -> Made<Words> {
     match number {
@@ -55,7 +70,7 @@ fn numbered(alloc: Global, number: u8) -> Made<Words> {
 pub fn names_in(alloc: Global, rows: &[&[u8]]) -> Made<Vec<Words>> {
     let mut spelled = Vec::new(alloc);
     for row in rows {
-        if row.contains(&b'$') {
+        if !has_known(&spelled, *row) {
             add_line(alloc, &mut spelled, *row)?;
         }
     }
