@@ -388,7 +388,8 @@ impl<'a> Seen<'a> {
                 Some(ways) => ways.as_slice(),
                 None => &[],
             };
-            told.push(self.tell(alloc, *site, ways)?)?;
+            let jump = self.tell(alloc, *site, ways)?;
+            told.push(jump)?;
         }
         Ok(told)
     }
