@@ -12,7 +12,7 @@ use crate::returning::coming_back;
 use crate::stop::never_runs;
 use call_returns::returns::Jump;
 use diagnostics::code::Code;
-use diagnostics::diagnostic::{Diagnostic, Help, Replacement, Severity, Source, Span};
+use diagnostics::diagnostic::{Diagnostic, Help, Replacement, Severity, Source};
 use diagnostics::listed::Listed;
 use diagnostics::words;
 use diagnostics::words::Words;
@@ -54,11 +54,10 @@ pub enum JumpKind {
     NoReturn,
 }
 
-/// What is said of where the jumps of a task lead.
+/// What is said of where the jumps of a task lead, and what to do.
 #[derive(Drop)]
 struct JumpSaid {
     kind: JumpKind,
-    span: Span,
     message: Words,
     help: Help,
 }
@@ -154,7 +153,7 @@ pub fn back_words(subject: &Subject, jump: &Jump, places: &[u32]) -> Made<Words>
     let mut lines = String::new(alloc);
     let mut count = 0;
     for place in places {
-        if jump.places.contains(place) && is_behind(subject, *place) {
+        if jump.returns.contains(place) {
             let line = subject.span(place.saturating_sub(1)).line;
             let comma = if lines.is_empty() { "" } else { "," };
             write!(lines, "{comma}{line}")?;
@@ -204,7 +203,6 @@ fn missing_said(subject: &Subject, jump: &Jump, missing: &[u32]) -> Made<JumpSai
     };
     Ok(JumpSaid {
         kind: JumpKind::NotListed,
-        span: subject.targets_span(jump.task),
         message: names.filled(NOT_LISTED.says)?,
         help,
     })
@@ -230,7 +228,6 @@ fn ending_said(subject: &Subject, jump: &Jump) -> Made<JumpSaid> {
     };
     Ok(JumpSaid {
         kind: JumpKind::NotListed,
-        span: subject.targets_span(jump.task),
         message: names.filled(row.says)?,
         help,
     })
@@ -257,31 +254,39 @@ pub(crate) fn may_go_on(subject: &Subject, task: u32, place: u32) -> bool {
     is_taken(subject, task, place) || may_jump(subject, task, place)
 }
 
-/// What is said of targets of a task to which no call returns, if there are such.
-fn unused_said(subject: &Subject, task: u32) -> Made<Option<JumpSaid>> {
-    let alloc = subject.alloc();
+/// What a row says of some targets that a task is not to list: to write the others.
+pub fn targets_without(
+    subject: &Subject,
+    task: u32,
+    row: Row,
+    places: &[u32],
+) -> Made<(Words, Help)> {
     let listed = entries_listed(subject, task)?;
-    let is_unused = |place: u32| !may_go_on(subject, task, place);
-    let unused: Vec<u32> = listed
-        .iter()
-        .copied()
-        .filter(|place| is_unused(*place))
-        .collect(alloc)?;
-    if unused.is_empty() {
-        return Ok(None);
-    }
     let kept: Vec<u32> = listed
         .iter()
         .copied()
-        .filter(|place| !is_unused(*place))
-        .collect(alloc)?;
+        .filter(|place| !places.contains(place))
+        .collect(subject.alloc())?;
     let mut names = Names::of_task(subject, task)?;
-    names.put("places", places_words(subject, &unused)?)?;
+    names.put("places", places_words(subject, places)?)?;
     names.put("targets", places_words(subject, &kept)?)?;
-    let (message, help) = names.fixed(NO_RETURN, subject.targets_span(task))?;
+    names.fixed(row, subject.targets_span(task))
+}
+
+/// What is said of targets of a task to which no call returns, if there are such.
+fn unused_said(subject: &Subject, task: u32) -> Made<Option<JumpSaid>> {
+    let listed = entries_listed(subject, task)?;
+    let unused: Vec<u32> = listed
+        .iter()
+        .copied()
+        .filter(|place| !may_go_on(subject, task, *place))
+        .collect(subject.alloc())?;
+    if unused.is_empty() {
+        return Ok(None);
+    }
+    let (message, help) = targets_without(subject, task, NO_RETURN, &unused)?;
     Ok(Some(JumpSaid {
         kind: JumpKind::NoReturn,
-        span: subject.targets_span(task),
         message,
         help,
     }))
@@ -341,7 +346,6 @@ fn jump_warning(subject: &Subject, first: &Jump) -> Made<Option<Diagnostic>>
     let Some(
         JumpSaid {
             kind,
-            span,
             message,
             help,
         },
@@ -353,7 +357,7 @@ fn jump_warning(subject: &Subject, first: &Jump) -> Made<Option<Diagnostic>>
         severity: Severity::Warning,
         code: code_of_jump(kind),
         source: Source::Program,
-        span: Some(span),
+        span: Some(subject.targets_span(first.task)),
         message,
         notes: Listed::new(Vec::new(subject.alloc())),
         help: Some(help),

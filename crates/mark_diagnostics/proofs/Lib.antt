@@ -2,3 +2,4 @@ mod Counting
 mod Numbers
 mod Ranges
 mod Telling
+mod Warned

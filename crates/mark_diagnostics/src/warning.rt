@@ -1,6 +1,6 @@
 //! What could be better about a program's marks, as diagnostics.
 
-ghost use Rattle.std.specs.Prelude.{◌≡◌, ◌<◌, ◌++◌, ◌&&◌, ◌==◌, not, slice_get, map as each, Ok, IfOk, OnOk};
+ghost use Rattle.std.specs.Prelude.{◌≡◌, ◌<◌, ◌++◌, ◌&&◌, ◌==◌, true, [], not, slice_get, map as each, Ok, IfOk, OnOk};
 ghost use Rattle.std.specs.List.{AllZip, list_any};
 ghost use Rattle.mark_diagnostics.specs.Fixes.{created_in, produced, still_released};
 ghost use Rattle.annotated_asm.specs.ProgramText.{parse};
@@ -15,7 +15,8 @@ use crate::mask::is_among;
 use crate::release::{release_words, release_written};
 use crate::sending::writes;
 use crate::together::add_marks;
-use call_returns::returns::Jump;
+use annotated_asm::laws::map_fits;
+use call_returns::returns::{Jump, has_indirect};
 use diagnostics::code::Code;
 use diagnostics::diagnostic::{Diagnostic, Help, Severity, Source, Span};
 use diagnostics::listed::Listed;
@@ -26,7 +27,7 @@ use exit_diagnostics::call::back;
 use exit_diagnostics::exit::is_taken;
 use exit_diagnostics::going::{Going, going_on};
 use exit_diagnostics::jump::{
-    is_behind, jump_warnings, leading_nowhere, missing_at, missing_of, name_at,
+    is_behind, jump_warnings, leading_nowhere, missing_at, missing_of, name_at, targets_without,
 };
 use exit_diagnostics::remark::{Remark, StopRemark};
 use exit_diagnostics::returning::{coming_back, step_into};
@@ -43,7 +44,6 @@ use mark_subjects::parts::{
 use mark_subjects::put_stop::{bit_put, missing_stop};
 use mark_subjects::step::{end_help, stop_name};
 use mark_subjects::subject::{Made, Subject, has_number, is_end};
-use mark_subjects::targets::entries_listed;
 use mask_certificate::certificate::Cert;
 use std::alloc::{AllocError, Global};
 use task_descriptor::program::Program;
@@ -391,28 +391,22 @@ fn step_out(subject: &Subject, task: u32) -> Option<(u32, u32)> {
 
 /// What is said of targets that no exit takes: first of a stop before one of them.
 fn targets_advice(subject: &Subject, task: u32) -> Made<(Words, Help)> {
-    let alloc = subject.alloc();
     let is_untaken = |place: u32| !is_taken(subject, task, place);
     let places = subject.targets(task).iter().map(|target| target.get());
-    let untaken: Vec<u32> = places.filter(|place| is_untaken(*place)).collect(alloc)?;
-    let mut names = Names::of_task(subject, task)?;
-    names.put("places", places_words(subject, &untaken)?)?;
+    let untaken: Vec<u32> = places
+        .filter(|place| is_untaken(*place))
+        .collect(subject.alloc())?;
     if let Some((index, into)) = step_out(subject, task) {
         if is_untaken(entry_of(subject, into)) {
+            let mut names = Names::of_task(subject, task)?;
+            names.put("places", places_words(subject, &untaken)?)?;
             return Ok((
                 names.filled(NOT_TAKEN.says)?,
                 end_help(subject, task, index, into)?,
             ));
         }
     }
-    let listed = entries_listed(subject, task)?;
-    let taken: Vec<u32> = listed
-        .iter()
-        .copied()
-        .filter(|place| !is_untaken(*place))
-        .collect(alloc)?;
-    names.put("targets", places_words(subject, &taken)?)?;
-    names.fixed(NOT_TAKEN, subject.targets_span(task))
+    targets_without(subject, task, NOT_TAKEN, &untaken)
 }
 
 /// What is said of a mark that costs speed, with the registers of all that it stands for, and what to do.
@@ -572,6 +566,16 @@ fn joined(mut first: Vec<Diagnostic>, mut second: Vec<Diagnostic>) -> Made<Vec<D
     Ok(first)
 }
 
+/// Whether there is nothing to warn of.
+fn is_silent(list: &[CostlyMark], stops: &[StopRemark], program: &Program) -> bool
+    ensures { result ≡ true → (list.now ≡ []) × (stops.now ≡ []) }
+{
+    match (list, stops) {
+        ([], []) => !has_indirect(program),
+        _ => false,
+    }
+}
+
 /// What could be better about the marks of the program that a text spells: where a stop or a way to a task may be
 /// forgotten, and which marks cost speed, of one create mask or one release all at once; of the first `MOST_SHOWN`,
 /// and how many more there are; before that, where jumps to addresses in registers lead that is not listed. `least` is the program's least certificate.
@@ -589,9 +593,15 @@ pub fn mark_warnings(
     requires least { IsLeast program.now least.now }
     ensures { IfOk result (λ said. AreMarkWarnings text.now program.now least.now said.items) }
 {
+    // The text has a source map, which is made only where there is something to warn of.
+    map_fits();
     let list = costly_marks(alloc, program, least)?;
+    let bare = Subject::without_text(alloc, program, least);
+    let stops = stop_remarks(&bare)?;
+    if is_silent(&list, &stops, program) {
+        return Ok(Vec::new(alloc));
+    }
     let subject = Subject::read(alloc, text, program, least)?;
-    let stops = stop_remarks(&subject)?;
     let remarks = all_remarks(alloc, &stops, &list)?;
     let shown = first_of(&remarks, MOST_SHOWN);
     let warned = warnings(&subject, shown)?;
