@@ -16,7 +16,7 @@ use Rattle.event_trace.specs.declared.told.Told.TheVariants as told
 use Rattle.event_trace.specs.Entries.{Tells, count_behind, state_behind}
 use Rattle.event_trace.specs.Following.{GoesOn}
 use Rattle.strict_replay.specs.declared.departure.Departure.{Departure}
-use Rattle.strict_replay.specs.declared.departure.Departure.TheVariants.{NoEvent}
+use Rattle.strict_replay.specs.declared.departure.Departure.TheVariants.{NoEvent, NotAllowed}
 use Rattle.strict_replay.specs.declared.expectation.ExpectedRefusal.{ExpectedRefusal}
 use Rattle.strict_replay.specs.declared.departure.Departed.{Departed}
 use Rattle.strict_replay.specs.StrictScript.{content, event_text, expected_parts, expects_refusal, is_silent, refusal_in}
@@ -32,7 +32,7 @@ taken_by complete p number n s parts further e (Ok done) (told.Taken changes) te
     ap (λ (cs : List Change). option_or (option_map (departed number) (deed_departs complete cs parts)) (further (count_behind n (Ok done)) (state_behind p s e (Ok done)))) (sym tells)
 taken_by complete p number n s parts further e (Ok done) (told.Refused refusal) tells = absurd tells
 taken_by complete p number n s parts further e (Err why) (told.Taken changes) tells = absurd tells
-taken_by complete p number n s parts further e (Err why) (told.Refused refusal) tells = rw tells refl
+taken_by complete p number n s parts further e (Err why) (told.Refused refusal) tells = sym (ap (λ (r : Refused). Some (departed number (NotAllowed r))) tells)
 
 told_refusal : (p : Listing) (s : State) (e : Event) (a : Result (Unit {0}) Refused) (t : Told) → Tells p s e a t → refusal_told t ≡ refusal_in_answer a
 told_refusal p s e (Ok done) (told.Taken changes) tells = refl
@@ -59,20 +59,26 @@ unspelled_departs complete names m text fault loud spelt = λ number further. rw
 module _ (complete : Bool) (names : List (List ℕ)) (m : MachineView) (text : List ℕ) (e : Event)
     (loud : is_silent text ≡ false) (spelt : event_in names (event_text text) ≡ Ok e) (m' : MachineView) (t : Told)
     (on : GoesOn m e m') (tells : Tells m.accepted.program (state m) e (answer_to m e) t) where
-  -- what comes after the event, where it does not depart
-  next : Further → Option Departed
-  next further = further (length m'.history) (state m')
-
-  goes_on : (further : Further) → further (count_behind (length m.history) (answer_to m e)) (state_behind m.accepted.program (state m) e (answer_to m e)) ≡ next further
+  goes_on : (further : Further) → further (count_behind (length m.history) (answer_to m e)) (state_behind m.accepted.program (state m) e (answer_to m e)) ≡ further (length m'.history) (state m')
   goes_on further =
       ap (λ (k : ℕ). further k (state_behind m.accepted.program (state m) e (answer_to m e))) (sym on.count)
       ∙ ap (λ (s : State). further (length m'.history) s) (sym on.state)
 
+  spells : (number : ℕ) (further : Further) → expects_refusal text ≡ false →
+      departs_from complete names m number text further
+      ≡ event_departs complete m.accepted.program number (length m.history) (state m) (expected_parts text) further e (answer_to m e)
+  spells number further allowed = rw loud (rw spelt (rw allowed refl))
+
+  refusal_spells : (number : ℕ) (further : Further) → expects_refusal text ≡ true →
+      departs_from complete names m number text further
+      ≡ refusal_departs number (length m.history) (state m) (refusal_in text) further (answer_to m e)
+  refusal_spells number further refuses = rw loud (rw spelt (rw refuses refl))
+
   taken : (number : ℕ) (further : Further) → expects_refusal text ≡ false →
       departs_from complete names m number text further
-      ≡ option_or (option_map (departed number) (told_departs complete (expected_parts text) t)) (next further)
+      ≡ option_or (option_map (departed number) (told_departs complete (expected_parts text) t)) (further (length m'.history) (state m'))
   taken number further allowed =
-      rw loud (rw spelt (rw allowed refl))
+      spells number further allowed
       ∙ taken_by complete m.accepted.program number (length m.history) (state m) (expected_parts text) further e (answer_to m e) t tells
       ∙ ap (λ (d : Option Departed). option_or (option_map (departed number) (told_departs complete (expected_parts text) t)) d) (goes_on further)
 
@@ -80,11 +86,11 @@ module _ (complete : Bool) (names : List (List ℕ)) (m : MachineView) (text : L
       departs_from complete names m number text further
       ≡ option_or (option_map (departed number) (refusal_unmet (refusal_in text) (refusal_told t))) (further (length m.history) (state m))
   refused number further refuses =
-      rw loud (rw spelt (rw refuses refl))
+      refusal_spells number further refuses
       ∙ ap (λ (r : Option Refused). option_or (option_map (departed number) (refusal_unmet (refusal_in text) r)) (further (length m.history) (state m)))
       (sym (told_refusal m.accepted.program (state m) e (answer_to m e) t tells))
 
-  stays : (further : Further) → None ≡ refusal_unmet (refusal_in text) (refusal_told t) → further (length m.history) (state m) ≡ next further
+  stays : (further : Further) → None ≡ refusal_unmet (refusal_in text) (refusal_told t) → further (length m.history) (state m) ≡ further (length m'.history) (state m')
   stays further is =
       let stay = refused_stays m.accepted.program (length m.history) (state m) e (refusal_in text) (answer_to m e)
       (is ∙ ap (λ (r : Option Refused). refusal_unmet (refusal_in text) r) (told_refusal m.accepted.program (state m) e (answer_to m e) t tells)) in
@@ -95,21 +101,21 @@ module _ (complete : Bool) (names : List (List ℕ)) (m : MachineView) (text : L
   -- by whether the line expects a refusal
   passes_by : (refuses : Bool) → expects_refusal text ≡ refuses →
       None ≡ (if refuses then refusal_unmet (refusal_in text) (refusal_told t) else told_departs complete (expected_parts text) t) →
-      (number : ℕ) (further : Further) → departs_from complete names m number text further ≡ next further
-  passes_by true by is number further =
-      refused number further by
+      (number : ℕ) (further : Further) → departs_from complete names m number text further ≡ further (length m'.history) (state m')
+  passes_by true known is number further =
+      refused number further known
       ∙ ap (λ (u : Option Departure). option_or (option_map (departed number) u) (further (length m.history) (state m))) (sym is)
       ∙ stays further is
-  passes_by false by is number further =
-      taken number further by ∙ ap (λ (u : Option Departure). option_or (option_map (departed number) u) (next further)) (sym is)
+  passes_by false known is number further =
+      taken number further known ∙ ap (λ (u : Option Departure). option_or (option_map (departed number) u) (further (length m'.history) (state m'))) (sym is)
 
   departs_by : (refuses : Bool) (why : Departure) → expects_refusal text ≡ refuses →
       Some why ≡ (if refuses then refusal_unmet (refusal_in text) (refusal_told t) else told_departs complete (expected_parts text) t) →
       (number : ℕ) (further : Further) → departs_from complete names m number text further ≡ Some (departed number why)
-  departs_by true why by is number further =
-      refused number further by ∙ ap (λ (u : Option Departure). option_or (option_map (departed number) u) (further (length m.history) (state m))) (sym is)
-  departs_by false why by is number further =
-      taken number further by ∙ ap (λ (u : Option Departure). option_or (option_map (departed number) u) (next further)) (sym is)
+  departs_by true why known is number further =
+      refused number further known ∙ ap (λ (u : Option Departure). option_or (option_map (departed number) u) (further (length m.history) (state m))) (sym is)
+  departs_by false why known is number further =
+      taken number further known ∙ ap (λ (u : Option Departure). option_or (option_map (departed number) u) (further (length m'.history) (state m'))) (sym is)
 
   pub event_passes : None ≡ content_departs complete text t → Passes complete names m text m'
   event_passes is = (on.kept, passes_by (expects_refusal text) refl is)
