@@ -8,7 +8,7 @@ _multiscalar_options() {
         annotate) echo "--emit --output --in-place --report --help" ;;
         explain) echo "--certificate --script --no-warnings --format --color --fix --output --in-place --help" ;;
         check) echo "--least --workers --output --help" ;;
-        replay) echo "--least --units --emit --until --strict --output --help" ;;
+        replay) echo "--least --units --emit --until --strict --complete --format --output --help" ;;
         run) echo "--least --schedule --units --workers --budget --predict --emit --axis --with-values --output --help" ;;
         curve) echo "--least --units --budget --predict --emit --progress --output --help" ;;
         demonstrate) echo "--units --steps --emit --output --help" ;;
@@ -37,6 +37,7 @@ _multiscalar_values() {
         curve:--emit) echo "table svg" ;;
         demonstrate:--emit) echo "events svg" ;;
         replay:--until) echo " " ;;
+        replay:--format) echo "text json" ;;
         run:--axis) echo "events steps" ;;
         # end of bash values
     esac

@@ -46,6 +46,8 @@ complete -c multiscalar -n '__fish_seen_subcommand_from curve' -l emit -x -a 'ta
 complete -c multiscalar -n '__fish_seen_subcommand_from demonstrate' -l emit -x -a 'events svg' -d 'what to write'
 complete -c multiscalar -n '__fish_seen_subcommand_from replay' -l until -x -d 'plays only the first N events of the script, 1 to 1000000'
 complete -c multiscalar -n '__fish_seen_subcommand_from replay' -l strict -d 'judges a script that says what its events must have done'
+complete -c multiscalar -n '__fish_seen_subcommand_from replay' -l complete -d 'the script must list all that its events did, and end its run'
+complete -c multiscalar -n '__fish_seen_subcommand_from replay' -l format -x -a 'text json' -d 'how the verdict of --strict is laid out'
 complete -c multiscalar -n '__fish_seen_subcommand_from run' -l axis -x -a 'events steps' -d 'what the columns of the picture are, events or, with --schedule steps, steps'
 complete -c multiscalar -n '__fish_seen_subcommand_from run' -l with-values -d 'each event also says what it did, for replay --strict'
 complete -c multiscalar -n '__fish_seen_subcommand_from curve' -l progress -d 'says on standard error when each run is done'

@@ -72,9 +72,9 @@ Gives name values (Check source workers) =
 Gives name values (Replay source units emit until) = (name ≡ codes "replay") × IsSource values source
     × (number_at (codes "units") values ≡ Some units) × (number_at (codes "until") values ≡ until)
     × (is_given (codes "strict") values ≡ false)
-Gives name values (ReplayStrictly source units) = (name ≡ codes "replay") × IsSource values source
+Gives name values (ReplayStrictly source units complete format) = (name ≡ codes "replay") × IsSource values source
     × (number_at (codes "units") values ≡ Some units) × (number_at (codes "until") values ≡ None)
-    × (is_given (codes "strict") values ≡ true)
+    × (is_given (codes "strict") values ≡ true) × (is_given (codes "complete") values ≡ complete)
 Gives name values (Run source schedule units workers budget predict emit) = (name ≡ codes "run") × IsSource values source
     × (number_at (codes "units") values ≡ Some units) × (workers ≡ unwrap_or (number_at (codes "workers") values) units)
     × (number_at (codes "budget") values ≡ Some budget) × (predict_in values ≡ Some predict)

@@ -12,7 +12,7 @@ use crate::words::UsageFault;
 use clap::error::ErrorKind;
 use jobs::job::{
     CertificateSource, Colors, CurveEmit, DemonstrateEmit, Emit, Format, Job, Paths, Prediction,
-    ReplayEmit, RunEmit, Schedule,
+    ReplayEmit, RunEmit, Schedule, VerdictFormat,
 };
 use limits::ranges::{Budget, Units, Workers};
 use std::alloc::AllocError;
@@ -189,7 +189,13 @@ fn replay_in(values: &Values<'_, '_>) -> Result<Job, UsageFault>
         Some(most) => Some(values.there(Budget::new(most))?),
         None => None,
     };
+    let is_complete = values.is_given("complete");
+    let format = verdict_format_in(values)?;
     if !values.is_given("strict") {
+        if is_complete || format.is_some() {
+            let why = "--complete and --format are for --strict";
+            return Err(values.fault(ErrorKind::ArgumentConflict, why));
+        }
         return Ok(Job::Replay {
             certificate,
             units,
@@ -202,9 +208,29 @@ fn replay_in(values: &Values<'_, '_>) -> Result<Job, UsageFault>
     } else if until.is_some() {
         "with --strict there is no --until"
     } else {
-        return Ok(Job::ReplayStrictly { certificate, units });
+        return Ok(Job::ReplayStrictly {
+            certificate,
+            units,
+            is_complete,
+            format: format.unwrap_or(VerdictFormat::Text),
+        });
     };
     Err(values.fault(ErrorKind::ArgumentConflict, why))
+}
+
+// How the verdict of a strict replay is written, where that is said.
+fn verdict_format_in(values: &Values<'_, '_>) -> Result<Option<VerdictFormat>, UsageFault>
+    ensures { IfErr result (Refuses values.now.name.now (values_in values.now.matches.now)) }
+{
+    match values.text("format") {
+        None => Ok(None),
+        Some("text") => Ok(Some(VerdictFormat::Text)),
+        Some("json") => Ok(Some(VerdictFormat::Json)),
+        Some(_) => Err(values.fault(
+            ErrorKind::InvalidValue,
+            "the value of --format is text or json",
+        )),
+    }
 }
 
 fn run_in(values: &Values<'_, '_>) -> Result<Job, UsageFault>

@@ -203,6 +203,9 @@ is sent with this value), `[0x10010000]=5` (this value is loaded from there or s
 Empty lines, comments from `#` on and lines such as `step 3` are skipped. With status 1 it writes the first
 line that departs from the machine, what the event did and how each unit then stands; with status 0
   as expected: N events; HOW THE RUN STANDS
+and, where the script leaves out effects of its events, how many:
+  not listed: N effects of these events
+With `--complete` such a line departs, and so does the end of a script whose run has not ended.
 
 For example:
   multiscalar replay --least --units 2 program.s program.events",
@@ -299,7 +302,7 @@ For example:
 ];
 
 /// The arguments, in the order of the help. Files stand in the places that this order gives them.
-pub(crate) static ARGUMENTS: [ArgumentRow; 36] = [
+pub(crate) static ARGUMENTS: [ArgumentRow; 38] = [
     (
         "seq print annotate explain check replay run curve demonstrate",
         "program",
@@ -498,6 +501,20 @@ which task waited where, and for what) or vcd (how each unit stands in each step
         "strict",
         Kind::Flag,
         "Judges a script that says what its events must have done",
+    ),
+    (
+        "replay",
+        "complete",
+        Kind::Flag,
+        "The script must list all that its events did, and end its run; goes with --strict",
+    ),
+    (
+        "replay",
+        "format",
+        Kind::FreeWord("HOW"),
+        "How the verdict of --strict is laid out: text (for people) or json (a JSON object)
+
+[default: text]",
     ),
     (
         "run",

@@ -48,6 +48,15 @@ pub enum Colors {
     Never,
 }
 
+/// How the verdict of a strict replay is written.
+#[derive(Clone, Copy, Debug, PartialEq, Eq)]
+pub enum VerdictFormat {
+    /// Lines for a person.
+    Text,
+    /// An object in JSON.
+    Json,
+}
+
 /// What `run` writes for a run.
 #[derive(Clone, Copy, Debug, PartialEq, Eq)]
 pub enum RunEmit {
@@ -173,10 +182,12 @@ pub enum Job {
         until: Option<Budget>,
     },
     /// Applies the events of a script with expectations to a machine of this many units, up to the first that is not
-    /// allowed or does not do what is expected.
+    /// allowed or does not do what is expected; or, if the script must be complete, does what its line does not list.
     ReplayStrictly {
         certificate: CertificateSource,
         units: Units,
+        is_complete: bool,
+        format: VerdictFormat,
     },
     /// Runs the program on a machine of this many units, which this many threads serve, up to this many
     /// events. More threads than units count as one for each unit; a run in steps has one thread.

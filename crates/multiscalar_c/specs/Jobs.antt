@@ -1,5 +1,5 @@
 -- What each call takes, and what it hands out.
-use Rattle.std.specs.Prelude.{◌≡◌, ℕ, Bool, List, [], Option, Some, None, IsSome, IfSome, slice_get, if◌then◌else◌}
+use Rattle.std.specs.Prelude.{◌≡◌, ℕ, Bool, false, List, [], Option, Some, None, IsSome, IfSome, slice_get, if◌then◌else◌}
 use Rattle.std.specs.Str.{IsUtf8}
 use Rattle.jobs.specs.declared.job.Schedule.TheVariants.{Steps}
 use Rattle.limits.specs.Limits.{IsBudget, IsUnits}
@@ -52,7 +52,7 @@ IsReplayed is_least units emit program certificate script report =
 -- what `replay --strict` writes
 abbrev pub IsReplayedStrictly : (is_least : Bool) → (units : ℕ) → (program certificate script : List ℕ) → Report → Type 0
 IsReplayedStrictly is_least units program certificate script report =
-    OfCertificate (source_of is_least) program certificate (λ certificate. IsStrictReport units program certificate script report)
+    OfCertificate (source_of is_least) program certificate (λ certificate. IsStrictReport false units program certificate script report)
 
 -- what a run takes that may write one of these
 pub record RunTakes {Emit : Type 0} (emits : List Emit) (units budget predict : ℕ) (list : List ℕ) (emit : ℕ) : Type 0 where

@@ -31,8 +31,8 @@ IsReportOf (Check source workers) texts report =
     OfCertificate source texts.program.items texts.certificate (λ certificate. report ≡ check_text texts.program.items certificate)
 IsReportOf (Replay source units emit until) texts report =
     OfCertificate source texts.program.items texts.certificate (λ certificate. IsReplayText emit units until texts.program.items certificate texts.script.items report)
-IsReportOf (ReplayStrictly source units) texts report =
-    OfCertificate source texts.program.items texts.certificate (λ certificate. IsStrictReport units texts.program.items certificate texts.script.items report)
+IsReportOf (ReplayStrictly source units complete format) texts report =
+    OfCertificate source texts.program.items texts.certificate (λ certificate. IsStrictReport complete units texts.program.items certificate texts.script.items report)
 IsReportOf (Run source schedule units workers budget predict emit) texts report =
     OfCertificate source texts.program.items texts.certificate (λ certificate.
     IsRunText schedule units budget predict emit texts.program.items certificate report)

@@ -237,8 +237,14 @@ fn report_of<R: Threads + Wait + Sync>(
             emit,
             until,
         } => Ok(replay(alloc, *certificate, *units, *emit, *until, texts)?),
-        Job::ReplayStrictly { certificate, units } => {
-            Ok(replay_strictly(alloc, *certificate, *units, texts)?)
+        Job::ReplayStrictly {
+            certificate,
+            units,
+            is_complete,
+            format,
+        } => {
+            let complete = *is_complete;
+            Ok(replay_strictly(alloc, *certificate, *units, complete, *format, texts)?)
         }
         Job::Run {
             certificate,
