@@ -22,8 +22,8 @@ use std::thread::Threads;
 use verdict_report::fault::ServeFault;
 
 /// Does a job for each of several programs, in the order of their names: standard output gets their reports, and last
-/// a line that sums them up, or it gets one log of all; the status is the worst. A file that gives no program is reported on standard error, and
-/// the others have their turn. Want of memory, or a stream that fails, ends it, with status 2.
+/// a line that sums them up, or it gets one log of all; the status is the worst. A file that gives no program is reported
+/// on standard error, and the others have their turn. Want of memory, or a stream that fails, ends it, with status 2.
 pub(crate) fn answer_each<F: NamedFiles, O: Write, E: Write, R: Threads + Wait + Sync>(
     rt: &R,
     alloc: Global,
@@ -120,12 +120,12 @@ fn sum_up<O: Write, E: Write>(
 
 // What comes last of several programs.
 #[derive(Clone, Copy)]
-enum Closing {
-    // A line that sums them up.
+pub(crate) enum Closing {
+    /// A line that sums them up.
     Summary,
-    // Nothing.
+    /// Nothing.
     Nothing,
-    // A log of all.
+    /// A log of all.
     Log,
 }
 

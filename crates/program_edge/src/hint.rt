@@ -9,10 +9,9 @@ use shown_names::name::shown_name;
 use shown_names::shell::shell_word;
 use std::alloc::{AllocError, Global};
 
-/// The line that standard error gets beside the result of a job with this status, of a program of this name: that a
-/// text is refused, with the command that says more, or how a run ended that did not halt; where that is unlisted, which
-/// task of this program text went where. Empty for any other result,
-/// and where standard error is no terminal.
+/// The line that standard error gets beside the result of a job with this status, of a program of this name and text:
+/// that a text is refused, with the command that says more, or how a run ended that did not halt, and where that is
+/// unlisted, which task went where. Empty for any other result, and where standard error is no terminal.
 ///
 /// # Errors
 ///
