@@ -15,7 +15,7 @@ is_in_file Least = false
 -- the job has a file with a certificate beside its program
 abbrev pub has_certificate : Job → Bool
 has_certificate (Explain name certificate script warnings format colors) = is_some certificate
-has_certificate (Check source workers) = is_in_file source
+has_certificate (Check source workers format) = is_in_file source
 has_certificate (Replay source units emit until) = is_in_file source
 has_certificate (ReplayStrictly source units complete format) = is_in_file source
 has_certificate (Run source schedule units workers budget predict emit) = is_in_file source

@@ -2,6 +2,7 @@
 use Rattle.std.specs.Prelude.{◌≡◌, ℕ, Bool, false, List, [], Option, Some, None, IsSome, IfSome, slice_get, if◌then◌else◌}
 use Rattle.std.specs.Str.{IsUtf8}
 use Rattle.jobs.specs.declared.job.Schedule.TheVariants.{Steps}
+use Rattle.jobs.specs.declared.job.Warnings.TheVariants.{Told, Silent}
 use Rattle.limits.specs.Limits.{IsBudget, IsUnits}
 use Rattle.report_texts.specs.OutputTexts.{Report}
 use Rattle.report_texts.specs.AnnotateText.{IsAnnotateReport}
@@ -36,7 +37,7 @@ pub record ExplainTakes (format : ℕ) (name : List ℕ) (file : Option (List �
 -- what `explain` writes, without colours and of no event script
 abbrev pub IsExplained : (format : ℕ) → (warnings : Bool) → (name : List ℕ) → (file : Option (List ℕ)) → (program certificate : List ℕ) → Report → Type 0
 IsExplained format warnings name file program certificate report =
-    IfSome (slice_get formats format) (λ _. IsExplainReport file None warnings program certificate [] report)
+    IfSome (slice_get formats format) (λ _. IsExplainReport file None (if warnings then Told else Silent) program certificate [] report)
 
 -- what `replay` takes
 pub record ReplayTakes (units emit : ℕ) : Type 0 where

@@ -5,6 +5,7 @@ use Rattle.std.specs.Io.KnownBytes.{Keeps}
 use Rattle.jobs.specs.declared.job.Colors.{Colors}
 use Rattle.jobs.specs.declared.job.Format.{Format}
 use Rattle.jobs.specs.declared.job.Job.{Job}
+use Rattle.jobs.specs.declared.job.Warnings.{Warnings}
 use Rattle.jobs.specs.declared.job.Job.TheVariants.{Seq, Print, Annotate, Explain, Check, Replay, ReplayStrictly, Run, Curve, Demonstrate}
 use Rattle.jobs.specs.declared.job.Texts.{Texts}
 use Rattle.report_texts.specs.OutputTexts.{Report}
@@ -86,7 +87,7 @@ cut_alone false watched audience path job texts ending old new is h = h
 cut_alone true watched audience path job texts ending old new is h = absurd (cc)
 
 -- a program was explained, and its text with fixes delivered
-pub explained_fixed : (whole watched : Bool) (audience : Audience) (path : String Global) (job : Job) (name : String Global) (certificate script : Option (String Global)) (warnings : Bool) (format : Format) (colors : Colors) (texts : Texts) (ending : Answered) (old new : World)
+pub explained_fixed : (whole watched : Bool) (audience : Audience) (path : String Global) (job : Job) (name : String Global) (certificate script : Option (String Global)) (warnings : Warnings) (format : Format) (colors : Colors) (texts : Texts) (ending : Answered) (old new : World)
     → whole ≡ true → job ≡ Explain name certificate script warnings format colors
     → IsRepairDelivered watched path certificate script warnings texts ending old new ⊎ IsToldAlone (Serve serve.OutOfMemory) ending old new
     → IsDeliveredFixed whole watched audience path job texts ending old new
@@ -96,16 +97,16 @@ explained_fixed whole watched audience path job name certificate script warnings
 
 -- another job is done as ever
 pub other_alone : (whole watched : Bool) (audience : Audience) (path : String Global) (job : Job) (texts : Texts) (ending : Answered) (old new : World)
-    → ((name : String Global) (certificate script : Option (String Global)) (warnings : Bool) (format : Format) (colors : Colors) → job ≡ Explain name certificate script warnings format colors → ⊥)
+    → ((name : String Global) (certificate script : Option (String Global)) (warnings : Warnings) (format : Format) (colors : Colors) → job ≡ Explain name certificate script warnings format colors → ⊥)
     → IsDelivered watched audience None job texts ending old new ⊎ IsNotDone job texts ending old new
     → IsDeliveredFixed whole watched audience path job texts ending old new
 other_alone false watched audience path job texts ending old new other h = h
 other_alone true watched audience path (Explain name certificate script warnings format colors) texts ending old new other h =
     absurd (other name certificate script warnings format colors refl)
 other_alone true watched audience path (Seq budget) texts ending old new other h = h
-other_alone true watched audience path Print texts ending old new other h = h
+other_alone true watched audience path (Print listing) texts ending old new other h = h
 other_alone true watched audience path (Annotate emit) texts ending old new other h = h
-other_alone true watched audience path (Check source workers) texts ending old new other h = h
+other_alone true watched audience path (Check source workers format) texts ending old new other h = h
 other_alone true watched audience path (Replay source units emit until) texts ending old new other h = h
 other_alone true watched audience path (ReplayStrictly source units complete format) texts ending old new other h = h
 other_alone true watched audience path (Run source schedule units workers budget predict emit) texts ending old new other h = h
@@ -159,8 +160,8 @@ played_leaves : (job : Job) (program name : List ℕ) (written : Report) → is_
 played_leaves (Annotate emit) program name written h = absurd (cc)
 played_leaves (Explain own certificate script warnings format colors) program name written h = refl
 played_leaves (Seq budget) program name written h = refl
-played_leaves Print program name written h = refl
-played_leaves (Check source workers) program name written h = refl
+played_leaves (Print listing) program name written h = refl
+played_leaves (Check source workers format) program name written h = refl
 played_leaves (Replay source units emit until) program name written h = refl
 played_leaves (ReplayStrictly source units complete format) program name written h = refl
 played_leaves (Run source schedule units workers budget predict emit) program name written h = refl

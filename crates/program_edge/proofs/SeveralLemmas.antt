@@ -24,7 +24,7 @@ use Rattle.verdict_report.specs.declared.fault.ServeFault.{ServeFault}
 use Rattle.verdict_report.specs.declared.fault.ServeFault.TheVariants as serve
 use Rattle.program_edge.specs.declared.fault.Fault.TheVariants.{Serve}
 use Rattle.program_edge.specs.Telling.{IsTold}
-use Rattle.program_edge.specs.Several.{ArePartsOf, EndsAt, IsEach, IsOutOfMemory, IsPartOf, Part, Sums, errors_of, outputs_of, tally_of_parts}
+use Rattle.program_edge.specs.Several.{ArePartsOf, EndsAt, closing_of, IsEach, IsLast, IsOutOfMemory, IsPartOf, Part, Sums, errors_of, outputs_of, tally_of_parts}
 use Rattle.program_edge.specs.Streams.{IsCut, IsWritten, World}
 use Rattle.program_edge.specs.Summaries.{all_of, counted, is_right, is_unjudged, is_wrong, summary_line, tally_of, worst_status}
 
@@ -94,7 +94,7 @@ ends_at t known job names i name parts ending old between new h is each written 
 -- no program is left
 pub sums_up : (t : Bool) (known : List ℕ → Known) (job : Job) (names : List (String Global)) (i : ℕ) (parts : List Part) (tally : ProgramTally) (ending : Answered) (old between new : World)
     → length names ≤ i → ArePartsOf t known job (take i names) parts → tally ≡ tally_of_parts parts
-    → IsWritten (outputs_of parts) (errors_of parts) old between → Sums tally ending between new
+    → IsWritten (outputs_of parts) (errors_of parts) old between → Sums job tally ending between new
     → IsEach t known job names ending old new
 sums_up t known job names i parts tally ending old between new h each is written sums = record {
   done = names;
@@ -104,7 +104,7 @@ sums_up t known job names i parts tally ending old between new h each is written
   each = subst (λ l. ArePartsOf t known job l parts) (take_all i names h) each;
   between = between;
   written = written;
-  ends = subst (λ x. Sums x ending between new) is sums;
+  ends = subst (λ x. Sums job x ending between new) is sums;
 }
 
 -- memory ran out before the first
@@ -143,11 +143,17 @@ turn t known job names i name bytes tally after judged a b c e f g parts part lt
 )
 
 -- the sum was written
-pub summed : (tally : ProgramTally) (status : ℕ) (line : List ℕ) (old new : World) → status ≡ worst_status tally → line ≡ summary_line tally
-    → IsWritten line [] old new → Sums tally (record { status = status; is_told = true }) old new
-summed tally status line old new is same written =
+pub summed : (job : Job) (tally : ProgramTally) (status : ℕ) (last said : List ℕ) (old new : World) → status ≡ worst_status tally
+    → IsLast (closing_of job) tally last → said ≡ last → IsWritten said [] old new → Sums job tally (record { status = status; is_told = true }) old new
+summed job tally status last said old new is right same written =
     let ended : ℕ → Answered = λ s. record { status = s; is_told = true } in
-    inl (ap ended is, subst (λ (l : List ℕ). IsWritten l [] old new) same written)
+    inr (last, right, inl (ap ended is, subst (λ (l : List ℕ). IsWritten l [] old new) same written))
+
+-- not all of it was
+pub summed_in_part : (job : Job) (tally : ProgramTally) (last said : List ℕ) (ending : Answered) (old new : World)
+    → IsLast (closing_of job) tally last → said ≡ last → IsCut said [] ending old new → Sums job tally ending old new
+summed_in_part job tally last said ending old new right same cut =
+    inr (last, right, inr (subst (λ (l : List ℕ). IsCut l [] ending old new) same cut))
 
 abbrev fault_in : {A : Type 0} → Result A ServeFault → ServeFault
 fault_in (Ok x) = serve.OutOfMemory

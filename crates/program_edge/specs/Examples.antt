@@ -13,6 +13,8 @@ use Rattle.jobs.specs.declared.job.Colors.TheVariants.{Always, Auto, Never}
 use Rattle.jobs.specs.declared.job.Format.{Format}
 use Rattle.jobs.specs.declared.job.Job.{Job}
 use Rattle.jobs.specs.declared.job.Job.TheVariants.{Check, Explain, Print, Seq}
+use Rattle.jobs.specs.declared.job.CheckFormat.{CheckFormat}
+use Rattle.jobs.specs.declared.job.Warnings.{Warnings}
 use Rattle.std.specs.declared.string.String.{String}
 use Rattle.std.specs.declared.alloc.Global.{Global}
 use Rattle.result_files.specs.declared.unwritten.Unwritten.TheVariants.{NoSuchFolder}
@@ -58,9 +60,9 @@ pub missing : (unread : Unread) → string_bytes unread.path ≡ codes "a.s" →
 missing unread path reason = rw (path, reason) refl
 
 -- `check --least a.s`, where there is no such file
-pub missing_of_check : (workers : ℕ) (unread : Unread) → string_bytes unread.path ≡ codes "a.s" → unread.reason ≡ NoSuchFile
-    → said_of (unread_fault (Check Least workers) unread) ≡ codes "multiscalar: file a.s: no such file" ++ 10 ∷ []
-missing_of_check workers unread path reason = rw (path, reason) refl
+pub missing_of_check : (workers : ℕ) (format : CheckFormat) (unread : Unread) → string_bytes unread.path ≡ codes "a.s" → unread.reason ≡ NoSuchFile
+    → said_of (unread_fault (Check Least workers format) unread) ≡ codes "multiscalar: file a.s: no such file" ++ 10 ∷ []
+missing_of_check workers format unread path reason = rw (path, reason) refl
 
 -- an open file is there, whatever a read of it says
 pub there : but_there (opening_reason kind.NotFound) ≡ Other
@@ -72,14 +74,14 @@ pub no_folder : (path : String Global) → string_bytes path ≡ codes "out/a.s"
 no_folder path is = rw (is) refl
 
 -- a refused program gives `print` no result, and `check` one
-pub refused : is_refusal Print 1 (codes "program refused: 4 Mnemonic line 1" ++ 10 ∷ []) ≡ true
+pub refused : is_refusal (Print false) 1 (codes "program refused: 4 Mnemonic line 1" ++ 10 ∷ []) ≡ true
 refused = refl
 
-pub judged : (workers : ℕ) → is_refusal (Check Least workers) 1 (codes "program refused: 4 Mnemonic line 1" ++ 10 ∷ []) ≡ false
-judged workers = refl
+pub judged : (workers : ℕ) (format : CheckFormat) → is_refusal (Check Least workers format) 1 (codes "program refused: 4 Mnemonic line 1" ++ 10 ∷ []) ≡ false
+judged workers format = refl
 
 -- the number of findings stands in the last line
-pub findings : is_refusal Print 1 (codes "A 0 rule 5 $8" ++ (10 ∷ (codes "refused 1" ++ 10 ∷ []))) ≡ true
+pub findings : is_refusal (Print false) 1 (codes "A 0 rule 5 $8" ++ (10 ∷ (codes "refused 1" ++ 10 ∷ []))) ≡ true
 findings = refl
 
 -- a run that trapped is a result
@@ -87,7 +89,7 @@ pub trapped : (budget : ℕ) → is_refusal (Seq budget) 1 (codes "10" ++ (10 �
 trapped budget = refl
 
 -- only a terminal hears of a refused program, and of none that halts
-pub heard : is_heard true Print 1 ≡ true
+pub heard : is_heard true (Print false) 1 ≡ true
 heard = refl
 
 pub no_terminal : (job : Job) (status : ℕ) → is_heard false job status ≡ false
@@ -97,7 +99,7 @@ pub halted : (budget : ℕ) → is_heard true (Seq budget) 0 ≡ false
 halted budget = refl
 
 -- `explain` says all itself
-pub explained : (name : String Global) (certificate script : Option (String Global)) (warnings : Bool) (format : Format) (colors : Colors)
+pub explained : (name : String Global) (certificate script : Option (String Global)) (warnings : Warnings) (format : Format) (colors : Colors)
     → is_heard true (Explain name certificate script warnings format colors) 1 ≡ false
 explained name certificate script warnings format colors = refl
 

@@ -56,7 +56,7 @@ reading_reason (fetch.Read kind) = but_there (opening_reason kind)
 
 -- how many threads fetch a certificate
 abbrev pub fetchers_of : Job → ℕ
-fetchers_of (Check source workers) = workers
+fetchers_of (Check source workers format) = workers
 fetchers_of _ = 1
 
 -- the most bytes of a program text, and of any other file

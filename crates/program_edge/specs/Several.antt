@@ -7,6 +7,8 @@ use Rattle.std.specs.declared.string.String.{String}
 use Rattle.jobs.specs.declared.job.Job.{Job}
 use Rattle.jobs.specs.declared.job.Job.TheVariants.{Explain, Check}
 use Rattle.jobs.specs.declared.job.Texts.{Texts}
+use Rattle.jobs.specs.declared.job.CheckFormat.TheVariants.{Text as Lines, Json as Objects}
+use Rattle.jobs.specs.declared.job.Format.TheVariants.{Sarif, Json}
 use Rattle.report_texts.specs.OutputTexts.{Report}
 use Rattle.verdict_report.specs.JobTexts.{IsReportOf}
 use Rattle.verdict_report.specs.declared.fault.ServeFault.TheVariants as serve
@@ -14,6 +16,8 @@ use Rattle.program_edge.specs.declared.fault.Fault.TheVariants.{Serve}
 use Rattle.program_edge.specs.declared.summary.ProgramVerdict.{ProgramVerdict}
 use Rattle.program_edge.specs.declared.summary.ProgramVerdict.TheVariants.{Unjudged}
 use Rattle.program_edge.specs.declared.summary.ProgramTally.{ProgramTally}
+use Rattle.program_edge.specs.declared.each.Closing.{Closing}
+use Rattle.program_edge.specs.declared.each.Closing.TheVariants.{Summary, Nothing, Log}
 use Rattle.program_edge.specs.declared.told.Answered.{Answered}
 use Rattle.program_edge.specs.declared.unread.UnreadReason.{UnreadReason}
 use Rattle.program_edge.specs.declared.unread.UnreadReason.TheVariants.{OutOfMemory}
@@ -44,9 +48,11 @@ named_rest name starts (b ∷ text) = (if starts then name else []) ++ (b ∷ na
 abbrev pub named_lines : (name text : List ℕ) → List ℕ
 named_lines name text = named_rest (shown name ++ codes ": ") true text
 
--- how a report stands among others: the lines of `check` do not name their file, those of `explain` do
+-- how a report stands among others: the lines of `check` do not name their file, those of `explain` do; what a log has
+-- comes last
 abbrev pub among_others : Job → (name text : List ℕ) → List ℕ
-among_others (Check source workers) name text = named_lines name text
+among_others (Check source workers Lines) name text = named_lines name text
+among_others (Explain first certificate script warnings Sarif colors) name text = []
 among_others _ name text = text
 
 -- `explain` takes no text for a program that begins as a certificate does
@@ -116,24 +122,36 @@ tally_of_parts parts = tally_of (map (λ part. part.judged) parts)
 abbrev pub IsOutOfMemory : Answered → World → World → Type 0
 IsOutOfMemory ending old new = IsToldAlone (Serve serve.OutOfMemory) ending old new
 
--- the summary is the last line, and the status the worst of all
-abbrev pub IsSummedUp : ProgramTally → Answered → World → World → Type 0
-IsSummedUp tally ending old new =
-    (ending ≡ record { status = worst_status tally; is_told = true }) × IsWritten (summary_line tally) [] old new
+-- what comes last: a log of all programs, after objects nothing, else the summary
+abbrev pub closing_of : Job → Closing
+closing_of (Explain name certificate script warnings Sarif colors) = Log
+closing_of (Explain name certificate script warnings Json colors) = Nothing
+closing_of (Check source workers Objects) = Nothing
+closing_of _ = Summary
+
+abbrev pub IsLast : Closing → ProgramTally → (last : List ℕ) → Type 0
+IsLast Summary tally last = last ≡ summary_line tally
+IsLast Nothing tally last = last ≡ []
+IsLast Log tally last = ⊤
+
+-- it was written, and the status is the worst of all
+abbrev pub IsSummedUp : (last : List ℕ) → ProgramTally → Answered → World → World → Type 0
+IsSummedUp last tally ending old new =
+    (ending ≡ record { status = worst_status tally; is_told = true }) × IsWritten last [] old new
 
 -- it ended at this program: memory ran out, or a stream did not take its part
 abbrev pub EndsAt : (is_terminal : Bool) → (known : List ℕ → Known) → (asked : Job) → (name : List ℕ) → Answered → World → World → Type 0
 EndsAt is_terminal known asked name ending old new = IsOutOfMemory ending old new
     ⊎ ((part : Part) × IsPartOf is_terminal known asked name part × IsCut part.output part.errors ending old new)
 
--- the last line was to be the summary
-abbrev pub Sums : ProgramTally → Answered → World → World → Type 0
-Sums tally ending old new = IsSummedUp tally ending old new
-    ⊎ (IsOutOfMemory ending old new ⊎ IsCut (summary_line tally) [] ending old new)
+-- what comes last was to be written
+abbrev pub Sums : Job → ProgramTally → Answered → World → World → Type 0
+Sums asked tally ending old new = IsOutOfMemory ending old new
+    ⊎ ((last : List ℕ) × IsLast (closing_of asked) tally last × (IsSummedUp last tally ending old new ⊎ IsCut last [] ending old new))
 
 -- the end, after programs with this tally, where these are left: with the summary, if nothing fails
 abbrev pub Ends : (is_terminal : Bool) → (known : List ℕ → Known) → (asked : Job) → (left : List (String Global)) → ProgramTally → Answered → World → World → Type 0
-Ends is_terminal known asked [] tally ending old new = Sums tally ending old new
+Ends is_terminal known asked [] tally ending old new = Sums asked tally ending old new
 Ends is_terminal known asked (name ∷ names) tally ending old new = EndsAt is_terminal known asked (string_bytes name) ending old new
 
 -- the programs of these names had their turn, from the first on, as far as nothing ended it

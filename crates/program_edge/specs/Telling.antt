@@ -4,7 +4,7 @@ use Rattle.std.specs.Io.KnownBytes.{Appends, Keeps}
 use Rattle.std.specs.Str.{bytes_eq}
 use Rattle.std.specs.String.{string_bytes}
 use Rattle.program_edge.specs.declared.fault.Fault.{Fault}
-use Rattle.program_edge.specs.declared.fault.Fault.TheVariants.{Help, Words, NoText, Predict, Emit, OutOfMemory, InputTwice, File, Explained, NoProgram, Serve, NotWritten}
+use Rattle.program_edge.specs.declared.fault.Fault.TheVariants.{Help, Words, NoText, Predict, Emit, PredictValues, EmitValues, OutOfMemory, InputTwice, File, Explained, NoProgram, Serve, NotWritten}
 use Rattle.program_edge.specs.declared.unread.UnreadReason.{UnreadReason}
 use Rattle.program_edge.specs.declared.unread.UnreadReason.TheVariants as reason
 use Rattle.program_edge.specs.declared.unread.Unread.{Unread}
@@ -67,7 +67,9 @@ name_of (Help usage) = string_bytes usage.text
 name_of (Words usage) = string_bytes usage.text
 name_of NoText = codes "1 Words"
 name_of Predict = codes "2 Predict"
+name_of PredictValues = codes "2 Predict: the value of --predict is first, last, or 1 to 64 numbers 0 to 15 separated by commas, as in 1,0"
 name_of Emit = codes "3 Emit"
+name_of EmitValues = codes "3 Emit: the value of --emit is text, cert, keep or marks"
 name_of OutOfMemory = codes "4 OutOfMemory"
 name_of InputTwice = codes "5 InputTwice: only one file can be - (standard input)"
 name_of (File path) = codes "file " ++ shown (string_bytes path)
@@ -101,8 +103,14 @@ IsTold fault status is_told output output' errors errors' =
 abbrev pub unread_fault : Job → Unread → Fault
 unread_fault (Explain name certificate script warnings format colors) unread =
     if bytes_eq (string_bytes unread.path) (string_bytes name) then NoProgram unread else Explained unread
-unread_fault (Check Least workers) unread = NoProgram unread
+unread_fault (Check Least workers format) unread = NoProgram unread
 unread_fault _ unread = File unread.path
+
+-- a terminal hears which values there are
+abbrev pub told_as : (is_terminal : Bool) → Fault → Fault
+told_as true Predict = PredictValues
+told_as true Emit = EmitValues
+told_as _ fault = fault
 
 -- the fault of the words: of `clap`'s own faults the text that is made of it
 abbrev pub IsFaultOf : UsageFault → Fault → Type 0

@@ -5,7 +5,7 @@ ghost use Rattle.program_edge.specs.Answering.{IsAnswered, IsAnsweredFor, IsDeli
 ghost use Rattle.program_edge.specs.Refusals.{is_refusal};
 ghost use Rattle.program_edge.specs.Several.{IsEach};
 ghost use Rattle.program_edge.specs.Streams.{IsBroken};
-ghost use Rattle.program_edge.specs.Telling.{unread_fault};
+ghost use Rattle.program_edge.specs.Telling.{told_as, unread_fault};
 ghost use Rattle.verdict_report.specs.JobTexts.{IsReportOf};
 
 use crate::each::answer_each;
@@ -81,7 +81,21 @@ pub fn answer_reader<F: NamedFiles, D: Folder, O: Write, E: Write, R: Threads + 
             errors,
             is_terminal,
         ),
-        Err(fault) => tell(&fault, output, errors),
+        Err(fault) => tell(&told_as(is_terminal, fault), output, errors),
+    }
+}
+
+// The fault that is told: a terminal hears which values there are.
+fn told_as(is_terminal: bool, fault: Fault) -> Fault
+    ensures { result ≡ told_as is_terminal fault }
+{
+    if !is_terminal {
+        return fault;
+    }
+    match fault {
+        Fault::Predict => Fault::PredictValues,
+        Fault::Emit => Fault::EmitValues,
+        other => other,
     }
 }
 

@@ -1,8 +1,10 @@
 //! The part of one of several programs on the two streams.
-ghost use Rattle.std.specs.Prelude.{◌≡◌, ◌++◌, [], Err, IfOk, OnErr, OnOk};
+ghost use Rattle.std.specs.Prelude.{◌≡◌, ◌++◌, [], None, Err, IfOk, OnErr, OnOk};
+ghost use Rattle.explain_report.specs.ExplainText.{IsExplainReport};
 ghost use Rattle.report_texts.specs.OutputTexts.{Report};
 ghost use Rattle.verdict_report.specs.JobTexts.{IsReportOf};
 ghost use Rattle.program_edge.specs.Several.{IsJudged, IsPartOf, IsPartOfText, IsPartWith, among_others, certificate_reason, is_certificate, named_lines, unjudged};
+ghost use Rattle.program_edge.specs.Summaries.{judged_by};
 ghost use Rattle.program_edge.specs.Telling.{program_reason};
 
 use crate::hint::explains;
@@ -11,7 +13,8 @@ use crate::reports::{Hinted, hinted_report};
 use crate::summary::{ProgramVerdict, judged_by};
 use crate::texts::{MOST_PROGRAM, read_file};
 use crate::unread::UnreadReason;
-use jobs::job::{Job, Texts};
+use explain_report::logging::{LoggedProgram, add_program};
+use jobs::job::{CheckFormat, Format, Job, Texts, Warnings};
 use shown_names::name::shown_name;
 use shown_names::shell::shell_word;
 use std::alloc::{AllocError, Global};
@@ -40,13 +43,14 @@ pub(crate) fn part_of<F: NamedFiles, R: Threads + Wait + Sync>(
     name: &str,
     files: &F,
     is_terminal: bool,
+    log: &mut Vec<LoggedProgram>,
 ) -> Result<Part, ServeFault>
     ensures part { IfOk result (λ part. IsPartOf is_terminal (F.known files.now) job.now name.now
         record { output = part.output.items; errors = part.errors.items; judged = part.judged }) }
     ensures memory { OnErr result (result ≡ Err ServeFault.OutOfMemory) }
 {
     match read_file(alloc, files, name, MOST_PROGRAM) {
-        Ok(text) => part_of_text(rt, alloc, job, name, text, is_terminal),
+        Ok(text) => part_of_text(rt, alloc, job, name, text, is_terminal, log),
         Err(UnreadReason::OutOfMemory) => Err(ServeFault::OutOfMemory),
         Err(reason) => Ok(unread_part(alloc, name, reason)?),
     }
@@ -60,6 +64,7 @@ fn part_of_text<R: Threads + Wait + Sync>(
     name: &str,
     text: Vec<u8>,
     is_terminal: bool,
+    log: &mut Vec<LoggedProgram>,
 ) -> Result<Part, ServeFault>
     ensures part { IfOk result (λ part. IsPartOfText (is_certificate job.now text.items) is_terminal job.now name.now text.items
         record { output = part.output.items; errors = part.errors.items; judged = part.judged }) }
@@ -69,12 +74,12 @@ fn part_of_text<R: Threads + Wait + Sync>(
         return Ok(certificate_part(alloc, name)?);
     }
     let texts = Texts {
-        name: String::new(alloc),
+        name: String::from_str(alloc, name)?,
         program: text,
         certificate: Text::new(alloc, Vec::new(alloc)),
         script: Vec::new(alloc),
     };
-    judged_part(rt, alloc, job, name, &texts, is_terminal)
+    judged_part(rt, alloc, job, name, &texts, is_terminal, log)
 }
 
 // Whether the job takes this text for a certificate.
@@ -92,6 +97,7 @@ fn judged_part<R: Threads + Wait + Sync>(
     name: &str,
     texts: &Texts,
     is_terminal: bool,
+    log: &mut Vec<LoggedProgram>,
 ) -> Result<Part, ServeFault>
     ensures part { IfOk result (λ part. (texts.now.certificate ≡ []) → (texts.now.script.items ≡ []) →
         IsJudged is_terminal job.now name.now texts.now.program.items
@@ -113,9 +119,9 @@ fn judged_part<R: Threads + Wait + Sync>(
                 format: *format,
                 colors: *colors,
             };
-            reported_part(rt, alloc, &own, name, texts, is_terminal)
+            reported_part(rt, alloc, &own, name, texts, is_terminal, log)
         }
-        _ => reported_part(rt, alloc, job, name, texts, is_terminal),
+        _ => reported_part(rt, alloc, job, name, texts, is_terminal, log),
     }
 }
 
@@ -127,12 +133,23 @@ fn reported_part<R: Threads + Wait + Sync>(
     name: &str,
     texts: &Texts,
     is_terminal: bool,
+    log: &mut Vec<LoggedProgram>,
 ) -> Result<Part, ServeFault>
     ensures part { IfOk result (λ part. (report : Report) × IsReportOf job.now texts.now report
         × IsPartWith is_terminal job.now name.now report
         record { output = part.output.items; errors = part.errors.items; judged = part.judged }) }
     ensures memory { OnErr result (result ≡ Err ServeFault.OutOfMemory) }
 {
+    if let Job::Explain {
+        certificate: None,
+        script: None,
+        warnings,
+        format: Format::Sarif,
+        ..
+    } = job
+    {
+        return logged_part(alloc, *warnings, name, texts, log);
+    }
     let Hinted { report, hint } = hinted_report(rt, alloc, job, texts, is_terminal, name)?;
     Ok(Part {
         output: among_others(alloc, job, name, report.bytes)?,
@@ -141,12 +158,39 @@ fn reported_part<R: Threads + Wait + Sync>(
     })
 }
 
-// How a report stands among others: the lines of `check` get their file's name.
+// The part of a program that a log has.
+fn logged_part(
+    alloc: Global,
+    warnings: Warnings,
+    name: &str,
+    texts: &Texts,
+    log: &mut Vec<LoggedProgram>,
+) -> Result<Part, ServeFault>
+    ensures part { IfOk result (λ part. (report : Report) × IsExplainReport None None warnings texts.now.program.items texts.now.certificate texts.now.script.items report
+        × (record { output = part.output.items; errors = part.errors.items; judged = part.judged } ≡ record { output = []; errors = []; judged = judged_by report.status })) }
+    ensures memory { OnErr result (result ≡ Err ServeFault.OutOfMemory) }
+{
+    let status = add_program(alloc, log, warnings, name, texts)?;
+    Ok(Part {
+        output: Vec::new(alloc),
+        errors: Vec::new(alloc),
+        judged: judged_by(status),
+    })
+}
+
+// How a report stands among others: the lines of `check` get their file's name, and objects have it.
 fn among_others(alloc: Global, job: &Job, name: &str, text: Vec<u8>) -> Result<Vec<u8>, AllocError>
     ensures { IfOk result (λ said. said.items ≡ among_others job.now name.now text.items) }
 {
     match job {
-        Job::Check { .. } => named_lines(alloc, name, text.as_slice()),
+        Job::Check {
+            format: CheckFormat::Text,
+            ..
+        } => named_lines(alloc, name, text.as_slice()),
+        Job::Explain {
+            format: Format::Sarif,
+            ..
+        } => Ok(Vec::new(alloc)),
         _ => Ok(text),
     }
 }

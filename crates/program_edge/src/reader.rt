@@ -99,8 +99,17 @@ pub(crate) fn hinted(
         record { bytes = report.bytes.items; status = report.status } h.hint.items) }
 {
     let name = reader.name.as_str();
+    let program = texts.program.as_slice();
     let bytes = report.bytes.as_slice();
-    let mut hint = hint_for(alloc, reader.is_terminal, job, name, report.status, bytes)?;
+    let mut hint = hint_for(
+        alloc,
+        reader.is_terminal,
+        job,
+        name,
+        program,
+        report.status,
+        bytes,
+    )?;
     let rest = rest_of(alloc, job, texts, reader, &report)?;
     hint.extend_from_slice(rest.as_slice())?;
     Ok(Hinted { report, hint })
@@ -140,8 +149,9 @@ pub(crate) fn hint_unkept<R: Threads + Wait + Sync>(
         return Vec::new(alloc);
     };
     let name = reader.name.as_str();
+    let program = texts.program.as_slice();
     let bytes = report.bytes.as_slice();
-    match hint_for(alloc, reader.is_terminal, job, name, status, bytes) {
+    match hint_for(alloc, reader.is_terminal, job, name, program, status, bytes) {
         Ok(hint) => hint,
         Err(AllocError) => Vec::new(alloc),
     }

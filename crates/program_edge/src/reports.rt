@@ -45,8 +45,9 @@ pub(crate) fn hinted_report<R: Threads + Wait + Sync>(
     ensures memory { OnErr result (result ≡ Err ServeFault.OutOfMemory) }
 {
     let report = report_of(rt, alloc, job, texts)?;
+    let program = texts.program.as_slice();
     let bytes = report.bytes.as_slice();
-    let hint = hint_for(alloc, is_terminal, job, name, report.status, bytes)?;
+    let hint = hint_for(alloc, is_terminal, job, name, program, report.status, bytes)?;
     Ok(Hinted { report, hint })
 }
 
