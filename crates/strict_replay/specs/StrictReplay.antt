@@ -68,8 +68,11 @@ abbrev pub to_list : Change → Option Expectation
 to_list (Took r word) = None
 to_list change = done_by change
 
+abbrev pub spells : (part : List ℕ) → Expectation → Bool
+spells part done = option_eq eq-value.it (expectation_in part) (Some done)
+
 abbrev pub is_listed : (parts : List (List ℕ)) → Expectation → Bool
-is_listed parts done = list_any (λ part. option_eq eq-value.it (expectation_in part) (Some done)) parts
+is_listed parts done = list_any (λ part. spells part done) parts
 
 abbrev pub lacks : (parts : List (List ℕ)) → Change → Bool
 lacks parts change = option_map_or (λ done. not (is_listed parts done)) (to_list change) false

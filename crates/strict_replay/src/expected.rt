@@ -5,7 +5,7 @@ ghost use Rattle.std.specs.Option.{option_map_or};
 ghost use Rattle.std.specs.List.{slice_split};
 ghost use Rattle.std.specs.Prelude.{map};
 ghost use Rattle.strict_replay.specs.StrictScript.{expectation_in, expected_parts, trimmed};
-ghost use Rattle.strict_replay.specs.StrictReplay.{awaited, done_by, first_unmet, content_departs, deed_departs, end_departs, first_not_listed, is_listed, is_met, is_refused_so, lacks, refusal_told, refusal_unmet, to_list, told_departs, unmet};
+ghost use Rattle.strict_replay.specs.StrictReplay.{awaited, done_by, first_unmet, content_departs, deed_departs, end_departs, first_not_listed, is_listed, is_met, is_refused_so, lacks, refusal_told, refusal_unmet, spells, to_list, told_departs, unmet};
 
 use crate::departure::Departure;
 use crate::expectation::{Expectation, ExpectedRefusal};
@@ -99,23 +99,33 @@ pub(crate) fn to_list(change: Change) -> Option<Expectation>
     }
 }
 
+/// Whether a part spells this.
+fn spells(part: &[u8], done: &Expectation) -> bool
+    ensures { result ≡ spells (trimmed part.now) done.now }
+{
+    match expectation_in(trimmed(part)) {
+        Some(read) => read == *done,
+        None => false,
+    }
+}
+
 /// Whether one of the expectations of a text is this.
-fn is_listed_in(text: &[u8], done: Expectation) -> bool
-    ensures { result ≡ is_listed (map trimmed (slice_split (λ byte. byte == 44) text.now)) done }
+fn is_listed_in(text: &[u8], done: &Expectation) -> bool
+    ensures { result ≡ is_listed (map trimmed (slice_split (λ byte. byte == 44) text.now)) done.now }
 {
     let mut rest = text;
     while let Some((part, others)) = cut(b',', rest) {
-        if expectation_in(trimmed(part)) == Some(done) {
+        if spells(part, done) {
             return true;
         }
         rest = others;
     }
-    expectation_in(trimmed(rest)) == Some(done)
+    spells(rest, done)
 }
 
 /// Whether a line lists this.
-fn is_listed(content: &[u8], done: Expectation) -> bool
-    ensures { result ≡ is_listed (expected_parts content.now) done }
+fn is_listed(content: &[u8], done: &Expectation) -> bool
+    ensures { result ≡ is_listed (expected_parts content.now) done.now }
 {
     match colon_in(content) {
         Some(colon) => is_listed_in(&content[colon + 1..], done),
@@ -128,7 +138,7 @@ pub(crate) fn lacks(content: &[u8], change: &Change) -> bool
     ensures { result ≡ lacks (expected_parts content.now) change.now }
 {
     match to_list(*change) {
-        Some(done) => !is_listed(content, done),
+        Some(done) => !is_listed(content, &done),
         None => false,
     }
 }

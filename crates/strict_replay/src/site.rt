@@ -108,10 +108,10 @@ pub(crate) fn address_at(program: &Program, machine: &Machine<'_>, site: &Site) 
 }
 
 /// What an event did in place of what was expected: of the same kind and, but for memory, with the same register.
-pub(crate) fn actual(changes: &[Change], expected: Expectation) -> Option<Expectation> {
+pub(crate) fn actual(changes: &[Change], expected: &Expectation) -> Option<Expectation> {
     for change in changes {
         if let Some(done) = done_by(*change) {
-            if is_instead(done, expected) {
+            if is_instead(&done, expected) {
                 return Some(done);
             }
         }
@@ -120,7 +120,7 @@ pub(crate) fn actual(changes: &[Change], expected: Expectation) -> Option<Expect
 }
 
 // Whether this was done in place of what was expected.
-fn is_instead(done: Expectation, expected: Expectation) -> bool {
+fn is_instead(done: &Expectation, expected: &Expectation) -> bool {
     match expected {
         Expectation::Register { register, .. } => {
             matches!(done, Expectation::Register { register: other, .. } if other == register)

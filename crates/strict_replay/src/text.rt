@@ -90,7 +90,7 @@ impl Page<'_> {
                 write!(text, "expected ")?;
                 write_expectation(text, *expected)?;
                 write!(text, ", but ")?;
-                write_actual(text, *expected, scene)
+                write_actual(text, expected, scene)
             }
             Departure::NotRefused(expected) => {
                 let number = expected.number;
@@ -253,7 +253,7 @@ fn write_as_expected(
 // Adds what the machine has in place of what was expected.
 fn write_actual(
     text: &mut String,
-    expected: Expectation,
+    expected: &Expectation,
     scene: &Scene<'_>,
 ) -> Result<(), AllocError> {
     let done = match &scene.played {
@@ -291,7 +291,7 @@ fn write_instead(text: &mut String, done: Expectation) -> Result<(), AllocError>
 }
 
 // Adds that the machine has nothing of the kind that was expected.
-fn write_missing(text: &mut String, expected: Expectation) -> Result<(), AllocError> {
+fn write_missing(text: &mut String, expected: &Expectation) -> Result<(), AllocError> {
     match expected {
         Expectation::Register { register, .. } => {
             let number = register.get();
