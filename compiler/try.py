@@ -3,6 +3,7 @@
 
     compiler/try.py                    the programs of compiler/programs and 300 of csmith: half an hour of one core
     compiler/try.py --quick            a minute of it
+    compiler/try.py --seq              compares what `seq` prints alone
 
 Each program is translated at -O0 to -O3, by GCC and, for its own programs, by clang, its code as it was, moved or with
 copies of functions, cut and marked in several ways, checked, and run: `seq`, `run` on 1, 4 and 16 units, and `replay
@@ -21,7 +22,9 @@ import hashlib
 import json
 import random
 import re
+import resource
 import shutil
+import signal
 import subprocess
 import sys
 import tempfile
@@ -78,10 +81,14 @@ class Trial:
         return " ".join([Path(self.source).stem, self.compiler, f"-O{self.level}", *self.macros, str(self.way)])
 
 
-def command(words: list[str], seconds: float = 20) -> tuple[int, str]:
-    try:
-        done = subprocess.run(words, capture_output=True, text=True, timeout=seconds, check=False, cwd=OUT)
-    except subprocess.TimeoutExpired:
+def command(words: list[str], seconds: int = 20) -> tuple[int, str]:
+    """The status, -1 after so many seconds of processor time: what else the machine does makes nothing too long."""
+
+    def limit() -> None:
+        resource.setrlimit(resource.RLIMIT_CPU, (seconds, seconds + 1))
+
+    done = subprocess.run(words, capture_output=True, text=True, check=False, cwd=OUT, preexec_fn=limit)
+    if done.returncode in (-signal.SIGXCPU, -signal.SIGKILL):
         return -1, "too long"
     return done.returncode, done.stdout + (done.stderr if done.returncode else "")
 
@@ -130,8 +137,8 @@ class References:
 
 
 class Trials:
-    def __init__(self, tool: Tool, folder: Path) -> None:
-        self.tool, self.folder = tool, folder
+    def __init__(self, tool: Tool, folder: Path, is_in_order: bool) -> None:
+        self.tool, self.folder, self.is_in_order = tool, folder, is_in_order
         self.references = References(folder)
         self.programs: dict[tuple, Program | Exception] = {}
 
@@ -177,6 +184,8 @@ class Trials:
             return "too long: more than 1000000 instructions"
         if lines[:-1] != wanted or not lines[-1].startswith("halted"):
             return f"different: seq: {' '.join(lines[-3:])}"
+        if self.is_in_order:
+            return "same"
         ends = set()
         for units in UNITS:
             status, said = command([self.tool.command, "run", "--least", "--units", str(units), text], 60)
@@ -287,6 +296,7 @@ def arguments() -> argparse.Namespace:
     parser.add_argument("--csmith", type=int, default=300, metavar="N", help="how many programs of csmith (300)")
     parser.add_argument("--first", type=int, default=1, metavar="SEED", help="the first seed (1)")
     parser.add_argument("--workers", type=int, default=1, metavar="N", help="how many processes share the work (1)")
+    parser.add_argument("--seq", action="store_true", help="compares `seq` alone, which each run of accepted marks prints if it halts")
     parser.add_argument("--anew", action="store_true", help="takes nothing from earlier runs")
     parser.add_argument("--multiscalar", metavar="COMMAND", help="the command multiscalar")
     return parser.parse_args()
@@ -308,8 +318,8 @@ def in_turn(trials: list[Trial]) -> list[Trial]:
 WORKER: list[Trials] = []
 
 
-def begin_worker(command: str, folder: str) -> None:
-    WORKER.append(Trials(Tool(command), Path(tempfile.mkdtemp(dir=folder))))
+def begin_worker(command: str, folder: str, is_in_order: bool) -> None:
+    WORKER.append(Trials(Tool(command), Path(tempfile.mkdtemp(dir=folder)), is_in_order))
 
 
 def trial_result(trial: Trial) -> str:
@@ -319,11 +329,11 @@ def trial_result(trial: Trial) -> str:
         return f"different: {failed}"
 
 
-def tried(wanted: list[Trial], command: str, workers: int, end: float) -> Iterator[tuple[Trial, str]]:
+def tried(wanted: list[Trial], command: str, is_in_order: bool, workers: int, end: float) -> Iterator[tuple[Trial, str]]:
     """The results, as they come, until the time is over."""
     waiting = list(reversed(wanted))
     folder = tempfile.TemporaryDirectory()
-    with folder as at, ProcessPoolExecutor(workers, initializer=begin_worker, initargs=(command, at)) as pool:
+    with folder as at, ProcessPoolExecutor(workers, initializer=begin_worker, initargs=(command, at, is_in_order)) as pool:
         running: dict[Future, Trial] = {}
         while waiting or running:
             while waiting and len(running) < 2 * workers and time.monotonic() < end:
@@ -335,18 +345,27 @@ def tried(wanted: list[Trial], command: str, workers: int, end: float) -> Iterat
                 yield running.pop(future), future.result()
 
 
+def look_for_tools() -> None:
+    """Without these every trial would seem to differ."""
+    missing = [it for it in ("gcc", GCC, "qemu-mipsel", "csmith") if not shutil.which(it)]
+    missing += [it for it in (CSMITH_HEADERS, "/usr/mipsel-linux-gnu/include") if not Path(it).is_dir()]
+    if missing:
+        raise SystemExit(f"try: not there: {', '.join(missing)}")
+
+
 def main() -> int:
     words = arguments()
+    look_for_tools()
     OUT.mkdir(exist_ok=True)
     try:
         tool = Tool(words.multiscalar)
     except ToolFailed as failed:
         raise SystemExit(f"try: {failed}") from None
-    kept = Kept(OUT / "try.jsonl", digest_of_translator())
+    kept = Kept(OUT / ("seq.jsonl" if words.seq else "try.jsonl"), digest_of_translator())
     end = time.monotonic() + (50 if words.quick else words.seconds)
     wanted = in_turn(own_trials() + csmith_trials(30 if words.quick else words.csmith, words.first))
     rows = {} if words.anew else {trial: kept.get(trial) for trial in wanted if kept.get(trial)}
-    for trial, result in tried([it for it in wanted if it not in rows], tool.command, words.workers, end):
+    for trial, result in tried([it for it in wanted if it not in rows], tool.command, words.seq, words.workers, end):
         kept.put(trial, result)
         rows[trial] = result
     found = list(rows.items())

@@ -313,7 +313,7 @@ For example:
 ];
 
 /// The arguments, in the order of the help. Files stand in the places that this order gives them.
-pub(crate) static ARGUMENTS: [ArgumentRow; 40] = [
+pub(crate) static ARGUMENTS: [ArgumentRow; 41] = [
     (
         "seq print annotate explain check replay run curve demonstrate",
         "program",
