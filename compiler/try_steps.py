@@ -2,7 +2,7 @@
 """Measures what units bring to the programs of compiler/programs: steps against the best cut on one unit.
 
     compiler/try_steps.py [--level 2] [--units 4] [--search 2] [--workers 1] [NAME..]
-    compiler/try_steps.py > compiler/steps.txt
+    compiler/try_steps.py > docs/FROM_C_STEPS.txt
 
 Each program is translated for its first input. The cut that was chosen is then measured on the second input, too, of
 which the search knew nothing (programs/input.h), against the best cut on one unit there. Steps are the same on each
