@@ -2,12 +2,13 @@
 
 use crate::advice::Made;
 use crate::place::span_in;
+use crate::walk::Walk;
 use diagnostics::code::Code;
 use diagnostics::diagnostic::{Diagnostic, Severity, Source};
 use diagnostics::listed::Listed;
 use diagnostics::words::Words;
 use operand_forms::rows::line_at;
-use operand_forms::slices::{after, first};
+use operand_forms::slices::first;
 use program_tokens::span::TokenSpan as Place;
 use std::alloc::Global;
 
@@ -37,25 +38,23 @@ const MOST_BY_HAND: usize = 5;
 
 /// The first word of a line, and where it stands.
 fn first_word(row: &[u8]) -> (Place, &[u8]) {
-    let blanks = row
-        .iter()
-        .take_while(|byte| matches!(**byte, b' ' | b'\t'))
-        .count();
-    let rest = after(row, blanks);
+    let mut walk = Walk::new(row);
+    walk.to_token();
+    let Walk { column, rest } = walk;
     let len = rest
         .iter()
         .take_while(|byte| !matches!(**byte, b' ' | b'\t' | b'\r'))
         .count();
-    let column = blanks.saturating_add(1);
     (Place { column, len }, first(rest, len))
 }
 
-/// Whether a compiler wrote a line.
+/// Whether a compiler wrote a line. Most words have no dot: they are not compared.
 fn is_compiled(row: &[u8]) -> bool {
     let (_, word) = first_word(row);
-    DIRECTIVES
-        .iter()
-        .any(|directive| directive.as_bytes() == word)
+    word.starts_with(b".")
+        && DIRECTIVES
+            .iter()
+            .any(|directive| directive.as_bytes() == word)
 }
 
 /// The numbers of the lines that a compiler wrote.

@@ -1,31 +1,22 @@
-//! Names, each with the number of the item that defines it first.
+//! Names, each with the item that defines it first.
 
 use crate::advice::Made;
-use crate::item::{Item, Said};
 use indexmap::IndexMap;
-use program_statements::statement::Statement;
 use std::alloc::Global;
 use std::hash::{BuildHasher, DefaultHasher, FoldHasher, Hasher};
-use task_descriptor::name::Name;
 
-/// Makes the hashers of the tables of names, from a key that depends on every name that a text defines: with the
-/// same hashers for every text, names could be chosen that all fall into one group of a table.
+/// Makes the hashers of the tables of names, from a key that depends on every name of a text: with the same hashers for
+/// every text, names could be chosen that all fall into one group of a table.
 #[derive(Clone, Copy)]
 pub(crate) struct NameKey {
     hasher: FoldHasher,
 }
 
 impl NameKey {
-    /// The key of the names that items define, which affects only running time.
-    pub(crate) fn of(items: &[Item]) -> NameKey {
+    /// The key of a text, which affects only running time.
+    pub(crate) fn of(text: &[u8]) -> NameKey {
         let mut names = DefaultHasher::new();
-        for item in items {
-            match &item.said {
-                Said::Label(name) => names.write(name.bytes()),
-                Said::Statement(Statement::Task(task)) => names.write(task.name.bytes()),
-                _ => {}
-            }
-        }
+        names.write(text);
         let mut hasher = FoldHasher::default();
         hasher.write_u64(names.finish());
         NameKey { hasher }
@@ -42,11 +33,20 @@ impl BuildHasher for NameKey {
     }
 }
 
-/// Names, each with the number of the item that defines it first.
+/// The item that defines a name first.
+#[derive(Clone, Copy)]
+pub(crate) struct First {
+    /// Its number, from 0 on.
+    pub(crate) number: usize,
+    /// How many instructions of the machine stand before it.
+    pub(crate) code: u64,
+}
+
+/// Names, each with the item that defines it first.
 #[derive(Drop)]
 pub(crate) struct Firsts {
     alloc: Global,
-    rows: IndexMap<String, usize, NameKey>,
+    rows: IndexMap<String, First, NameKey>,
 }
 
 impl Firsts {
@@ -56,17 +56,18 @@ impl Firsts {
         Firsts { alloc, rows }
     }
 
-    /// The number of the item that first defines a name, from 0 on, if one does.
-    pub(crate) fn get(&self, name: &Name) -> Option<usize> {
-        self.rows.get(name.as_str()).copied()
+    /// The item that first defines a name, if one does.
+    pub(crate) fn get(&self, name: &str) -> Option<First> {
+        self.rows.get(name).copied()
     }
 
-    /// Adds a name that an item defines, unless one before it does.
-    pub(crate) fn add(&mut self, name: &Name, number: usize) -> Made<()> {
-        if self.get(name).is_none() {
-            let key = String::from_str(self.alloc, name.as_str())?;
-            self.rows.insert(key, number)?;
+    /// Adds a name that an item defines, unless one before it does; returns whether one does.
+    pub(crate) fn add(&mut self, name: &str, item: First) -> Made<bool> {
+        let is_again = self.get(name).is_some();
+        if !is_again {
+            let key = String::from_str(self.alloc, name)?;
+            self.rows.insert(key, item)?;
         }
-        Ok(())
+        Ok(is_again)
     }
 }

@@ -1,12 +1,13 @@
 //! A text whose lines were read, with what has to be known of it as a whole to judge one of its items.
 
-use crate::advice::Made;
-use crate::firsts::{Firsts, NameKey};
+use crate::firsts::{First, Firsts};
 use crate::item::{Item, Said};
 use annotated_asm::line::instruction_count;
+use operand_forms::bytes::bytes_at;
+use operand_forms::rows::line_at;
 use program_statements::statement::{Section, Statement};
+use program_tokens::span::TokenSpan as Place;
 use std::alloc::Global;
-use task_descriptor::name::Name;
 
 /// How many tasks a program has at most; where further tasks begin is not judged.
 pub(crate) const MOST_TASKS: usize = 1_024;
@@ -17,9 +18,7 @@ pub(crate) struct Given<'a> {
     pub(crate) alloc: Global,
     /// Its lines.
     pub(crate) rows: &'a [&'a [u8]],
-    /// Its labels, statements and faults.
-    pub(crate) items: &'a [Item],
-    /// What is known of it as a whole.
+    /// What was read.
     pub(crate) known: &'a Known,
 }
 
@@ -47,23 +46,27 @@ pub(crate) struct TaskEntry {
     pub(crate) entry: u64,
 }
 
-/// What has to be known of a whole text to judge one of its items.
+/// What was read of a text, and what has to be known of all of it to judge one of its items.
 #[derive(Drop)]
 pub(crate) struct Known {
+    /// Its labels, statements and faults, but for those of which nothing is said.
+    pub(crate) items: Vec<Item>,
+    /// Its statements.
+    pub(crate) statements: Vec<Statement>,
+    /// How many mistakes the items have that are left out.
+    pub(crate) left_out: usize,
     /// Its labels.
     pub(crate) labels: Firsts,
     /// Its tasks, by their names.
     pub(crate) tasks: Firsts,
     /// The first item that says where the program starts.
     pub(crate) start: Option<usize>,
-    /// How much stands before each item.
-    pub(crate) amounts: Vec<Amounts>,
+    /// The first item that is a label of code or an instruction.
+    pub(crate) code: Option<usize>,
     /// How much there is.
     pub(crate) all: Amounts,
     /// Where its first tasks begin.
     pub(crate) entries: Vec<TaskEntry>,
-    /// Whether it has a task.
-    pub(crate) has_task: bool,
     /// Whether the name of each task is a label of code.
     pub(crate) is_placed: bool,
     /// Whether each line can be read, so that no label and no instruction is missing.
@@ -71,19 +74,27 @@ pub(crate) struct Known {
 }
 
 impl Amounts {
-    /// An amount, and what an item adds to it.
-    pub(crate) fn with(self, item: &Item) -> Amounts {
-        let more = match &item.said {
-            Said::Statement(Statement::Code(instruction, _)) => instruction_count(instruction),
-            Said::Statement(Statement::Bytes(bytes)) => bytes.as_slice().len() as u64,
-            Said::Statement(Statement::Space(size)) => u64::from(*size),
-            Said::Statement(Statement::Task(_)) => {
+    /// Nothing.
+    pub(crate) const NONE: Amounts = Amounts {
+        code: 0,
+        bytes: 0,
+        fixed: 0,
+        tasks: 0,
+    };
+
+    /// An amount, and what a statement of a section adds to it.
+    pub(crate) fn with(self, section: Section, statement: &Statement) -> Amounts {
+        let more = match statement {
+            Statement::Code(instruction, _) => instruction_count(instruction),
+            Statement::Bytes(bytes) => bytes.as_slice().len() as u64,
+            Statement::Space(size) => u64::from(*size),
+            Statement::Task(_) => {
                 let tasks = self.tasks.saturating_add(1);
                 return Amounts { tasks, ..self };
             }
             _ => return self,
         };
-        match item.section {
+        match section {
             Section::Text => Amounts {
                 code: self.code.saturating_add(more),
                 ..self
@@ -101,76 +112,41 @@ impl Amounts {
 }
 
 impl Known {
-    /// Takes in what an item of this number defines.
-    fn add(&mut self, number: usize, item: &Item) -> Made<()> {
-        match &item.said {
-            Said::Label(name) => self.labels.add(name, number)?,
-            Said::Statement(Statement::Task(task)) => {
-                self.tasks.add(&task.name, number)?;
-                self.has_task = true;
-            }
-            Said::Statement(Statement::Start(_)) if self.start.is_none() => {
-                self.start = Some(number);
-            }
-            Said::Fault(_) => self.is_read = false,
-            Said::Statement(_) => {}
-        }
-        self.amounts.push(self.all)?;
-        self.all = self.all.with(item);
-        Ok(())
-    }
-
-    /// Takes in where a task begins.
-    fn place(&mut self, items: &[Item], number: usize, name: &Name) -> Made<()> {
-        let label = self.code_label(items, name);
-        let before = label.and_then(|label| self.amounts.get(label).copied());
-        match (label, before) {
-            (Some(label), Some(before)) if self.entries.len() < MOST_TASKS => {
-                let (task, entry) = (number, before.code);
-                self.entries.push(TaskEntry { task, label, entry })?;
-            }
-            (None, _) => self.is_placed = false,
-            _ => {}
-        }
-        Ok(())
-    }
-
-    /// The number of the first item with a label of this name, if that stands in code.
-    pub(crate) fn code_label(&self, items: &[Item], name: &Name) -> Option<usize> {
-        let number = self.labels.get(name)?;
-        match items.get(number)?.section {
-            Section::Text => Some(number),
+    /// The first label of this name, if it stands in code.
+    pub(crate) fn code_label(&self, name: &str) -> Option<First> {
+        let first = self.labels.get(name)?;
+        match self.items.get(first.number)?.section {
+            Section::Text => Some(first),
             Section::Data | Section::Rodata => None,
+        }
+    }
+
+    /// The statement of an item, if it is one.
+    pub(crate) fn statement(&self, item: &Item) -> Option<&Statement> {
+        match item.said {
+            Said::Statement(number) => self.statements.get(number as usize),
+            _ => None,
         }
     }
 }
 
-/// What is known of a text of these items.
-pub(crate) fn known_in(alloc: Global, items: &[Item]) -> Made<Known> {
-    let key = NameKey::of(items);
-    let mut known = Known {
-        labels: Firsts::new(alloc, key),
-        tasks: Firsts::new(alloc, key),
-        start: None,
-        amounts: Vec::new(alloc),
-        all: Amounts {
-            code: 0,
-            bytes: 0,
-            fixed: 0,
-            tasks: 0,
-        },
-        entries: Vec::new(alloc),
-        has_task: false,
-        is_placed: true,
-        is_read: true,
-    };
-    for (number, item) in items.iter().enumerate() {
-        known.add(number, item)?;
+impl<'a> Given<'a> {
+    /// The item of this number, from 0 on.
+    pub(crate) fn item(&self, number: usize) -> Option<&'a Item> {
+        self.known.items.get(number)
     }
-    for (number, item) in items.iter().enumerate() {
-        if let Said::Statement(Statement::Task(task)) = &item.said {
-            known.place(items, number, &task.name)?;
-        }
+
+    /// The name of an item that is a label.
+    pub(crate) fn label(&self, item: &Item) -> &'a str {
+        let place = Place {
+            column: item.column as usize,
+            len: item.width as usize,
+        };
+        in_text(bytes_at(line_at(self.rows, item.line), place))
     }
-    Ok(known)
+}
+
+/// The bytes of a name as text.
+pub(crate) fn in_text(name: &[u8]) -> &str {
+    str::from_utf8(name).unwrap_or("")
 }

@@ -2,7 +2,7 @@
 
 use crate::advice::{Made, Row, advice, filled, mend};
 use crate::given::Given;
-use crate::item::{Item, Said};
+use crate::item::Item;
 use crate::mistake::{Kind, Limit, Mistake, UsedAs};
 use crate::names::{near_label, start_name};
 use crate::place::{Seen, item_span, span_in};
@@ -145,10 +145,10 @@ fn mark_place(alloc: Global, line: &[u8], is_stop: bool) -> Made<Place> {
 }
 
 /// Whether an item is a `la`, which takes any label.
-fn takes_any_label(said: &Said) -> bool {
+fn takes_any_label(given: &Given<'_>, item: &Item) -> bool {
     matches!(
-        said,
-        Said::Statement(Statement::Code(Instruction::LoadAddress(..), _))
+        given.known.statement(item),
+        Some(Statement::Code(Instruction::LoadAddress(..), _))
     )
 }
 
@@ -158,7 +158,7 @@ fn notes_of(given: &Given<'_>, mistake: &Mistake) -> Made<Vec<Note>> {
     let Some(number) = mistake.other else {
         return Ok(notes);
     };
-    if let Some(other) = given.items.get(number) {
+    if let Some(other) = given.item(number) {
         notes.push(Note {
             span: Some(other.span()),
             message: Words::of(given.alloc, note_row(mistake.kind))?,
@@ -173,7 +173,7 @@ fn chosen(given: &Given<'_>, item: &Item, kind: Kind, name: &[u8]) -> Made<(Row,
     let row = row_of(kind);
     let said = match kind {
         Kind::NoLabel(_) | Kind::DataLabel(_) => {
-            near_label(given, takes_any_label(&item.said), name)?
+            near_label(given, takes_any_label(given, item), name)?
         }
         Kind::NoTaskThere => start_name(given, Some(item))?,
         _ => None,

@@ -21,3 +21,4 @@ mod place;
 pub mod refusal;
 mod section;
 mod tree;
+mod walk;

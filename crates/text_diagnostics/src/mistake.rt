@@ -3,6 +3,9 @@
 use operand_forms::line_fault::LineFaultKind;
 use program_statements::statement::Section;
 
+/// The most errors that are shown of a text; of the rest only the number is shown.
+pub(crate) const MOST_SHOWN: usize = 1_000;
+
 /// How a name is used.
 #[derive(Clone, Copy, Debug, PartialEq, Eq)]
 pub(crate) enum UsedAs {

@@ -3,11 +3,9 @@
 use crate::advice::Made;
 use crate::given::{Amounts, Given, MOST_TASKS, TaskEntry};
 use crate::item::{Item, Said};
-use crate::mistake::{Kind, Limit, Mistake, UsedAs};
-use crate::section::{line_kind, meant_after};
+use crate::mistake::{Kind, Limit, MOST_SHOWN, Mistake, UsedAs};
 use mips_instructions::instruction::Op;
-use operand_forms::rows::line_at;
-use program_statements::statement::{Instruction, Marks, Section, Statement, Target, Task};
+use program_statements::statement::{Instruction, Marks, Statement, Target, Task};
 use task_descriptor::descriptor::Stop;
 use task_descriptor::marks::has_member;
 use task_descriptor::name::Name;
@@ -21,27 +19,44 @@ const MOST_BYTES: u64 = 65_536;
 /// The most targets of a task.
 const MOST_TARGETS: usize = 16;
 
-/// What stands a second time, and the first item that defines it.
-fn twice(given: &Given<'_>, number: usize, said: &Said) -> Option<(Kind, usize)> {
-    let known = given.known;
-    let (kind, first) = match said {
-        Said::Label(name) => (Kind::LabelTwice, known.labels.get(name)),
-        Said::Statement(Statement::Task(task)) => (Kind::TaskTwice, known.tasks.get(&task.name)),
-        Said::Statement(Statement::Start(_)) => (Kind::StartTwice, known.start),
-        _ => return None,
-    };
-    match first {
-        Some(first) if first != number => Some((kind, first)),
-        _ => None,
-    }
+/// An item that is judged.
+#[derive(Clone, Copy)]
+struct Judged<'a> {
+    given: Given<'a>,
+    /// The number of the item, from 0 on.
+    number: usize,
+    item: &'a Item,
+    /// Its statement, if it is one.
+    statement: Option<&'a Statement>,
+    /// How much stands before it.
+    before: Amounts,
 }
 
-/// The limit that an item passes, given the amount before it, if it passes one: each limit is passed once, by the first
-/// item beyond it, but each task with too many targets passes theirs.
-fn limit_passed(before: Amounts, item: &Item) -> Option<Limit> {
-    let after = before.with(item);
+/// What stands a second time, and the first item that defines it.
+fn twice(at: &Judged<'_>) -> Option<(Kind, usize)> {
+    let known = at.given.known;
+    let (kind, first) = match at.statement {
+        Some(Statement::Task(task)) => {
+            let first = known.tasks.get(task.name.as_str())?;
+            (Kind::TaskTwice, first.number)
+        }
+        Some(Statement::Start(_)) => (Kind::StartTwice, known.start?),
+        None if matches!(at.item.said, Said::Label(true)) => {
+            let first = known.labels.get(at.given.label(at.item))?;
+            (Kind::LabelTwice, first.number)
+        }
+        _ => return None,
+    };
+    (first != at.number).then_some((kind, first))
+}
+
+/// The limit that a statement passes, if it passes one: each limit is passed once, by the first statement beyond it, but each
+/// task with too many targets passes theirs.
+fn limit_passed(at: &Judged<'_>, statement: &Statement) -> Option<Limit> {
+    let before = at.before;
+    let after = before.with(at.item.section, statement);
     let passes = |most: u64, before: u64, after: u64| before <= most && most < after;
-    if let Said::Statement(Statement::Task(task)) = &item.said {
+    if let Statement::Task(task) = statement {
         if task.targets.as_slice().len() > MOST_TARGETS {
             return Some(Limit::Targets);
         }
@@ -100,58 +115,42 @@ fn first_at<'a>(given: &Given<'a>, index: u64) -> Option<&'a TaskEntry> {
 }
 
 /// How the task of an item begins where it should not, and the item that shows it.
-fn bad_entry(given: &Given<'_>, number: usize, said: &Said) -> Option<(Kind, usize)> {
-    let is_task = matches!(said, Said::Statement(Statement::Task(_)));
-    if !is_task || !given.known.is_read {
+fn bad_entry(at: &Judged<'_>) -> Option<(Kind, usize)> {
+    let known = at.given.known;
+    let is_task = matches!(at.statement, Some(Statement::Task(_)));
+    if !is_task || !known.is_read || twice(at).is_some() {
         return None;
     }
-    if twice(given, number, said).is_some() {
-        return None;
-    }
-    let entries = given.known.entries.as_slice();
-    let own = entries.iter().find(|entry| entry.task == number)?;
-    if own.entry >= given.known.all.code {
+    let entries = known.entries.as_slice();
+    let own = entries.iter().find(|entry| entry.task == at.number)?;
+    if own.entry >= known.all.code {
         return Some((Kind::NoInstruction, own.label));
     }
-    match first_at(given, own.entry) {
-        Some(first) if first.task != number => Some((Kind::SameEntry, first.task)),
+    match first_at(&at.given, own.entry) {
+        Some(first) if first.task != at.number => Some((Kind::SameEntry, first.task)),
         _ => None,
     }
 }
 
-/// How many instructions stand before an item.
-fn code_before(given: &Given<'_>, number: usize) -> Option<u64> {
-    let before = given.known.amounts.get(number)?;
-    Some(before.code)
-}
-
 /// The index of the instruction where the program starts, if an item says it: a `.start`, or without one the first
 /// instruction.
-fn start_index(given: &Given<'_>, number: usize, said: &Said) -> Option<u64> {
-    match said {
-        Said::Statement(Statement::Start(name)) => {
-            code_before(given, given.known.code_label(given.items, name)?)
-        }
-        Said::Statement(Statement::Code(_, _)) => {
-            let before = code_before(given, number)?;
-            if before == 0 && given.known.start.is_none() {
-                Some(0)
-            } else {
-                None
-            }
-        }
+fn start_index(at: &Judged<'_>) -> Option<u64> {
+    let known = at.given.known;
+    match at.statement {
+        Some(Statement::Start(name)) => Some(known.code_label(name.as_str())?.code),
+        Some(Statement::Code(_, _)) if known.start.is_none() && at.before.code == 0 => Some(0),
         _ => None,
     }
 }
 
 /// Whether an item says that the program starts where no task begins.
-fn is_bad_start(given: &Given<'_>, number: usize, said: &Said) -> bool {
-    let known = given.known;
-    if !known.is_read || !known.has_task || !known.is_placed {
+fn is_bad_start(at: &Judged<'_>) -> bool {
+    let known = at.given.known;
+    if !known.is_read || known.all.tasks == 0 || !known.is_placed {
         return false;
     }
-    match start_index(given, number, said) {
-        Some(index) => first_at(given, index).is_none(),
+    match start_index(at) {
+        Some(index) => first_at(&at.given, index).is_none(),
         None => false,
     }
 }
@@ -159,62 +158,65 @@ fn is_bad_start(given: &Given<'_>, number: usize, said: &Said) -> bool {
 /// What was found so far.
 #[derive(Drop)]
 struct Found {
+    /// The first mistakes.
     list: Vec<Mistake>,
+    /// How many more there are.
+    more: usize,
 }
 
 impl Found {
     /// Adds what is wrong with an item, and another item that shows it.
-    fn add(&mut self, item: usize, kind: Kind, other: Option<usize>) -> Made<()> {
-        self.list.push(Mistake { item, kind, other })?;
+    fn add(&mut self, at: &Judged<'_>, kind: Kind, other: Option<usize>) -> Made<()> {
+        if self.list.len() < MOST_SHOWN {
+            let item = at.number;
+            self.list.push(Mistake { item, kind, other })?;
+        } else {
+            self.more = self.more.saturating_add(1);
+        }
         Ok(())
     }
 
     /// Adds a name, unless it is a label of code, or any label where each will do.
     fn add_unless(
         &mut self,
-        given: &Given<'_>,
-        number: usize,
+        at: &Judged<'_>,
         name: &Name,
         used_as: UsedAs,
         is_any: bool,
     ) -> Made<()> {
-        let label = given.known.labels.get(name);
-        let is_code = given.known.code_label(given.items, name).is_some();
-        match label {
-            Some(_) if is_any || is_code => Ok(()),
-            Some(_) => self.add(number, Kind::DataLabel(used_as), label),
-            None => self.add(number, Kind::NoLabel(used_as), None),
+        let known = at.given.known;
+        match known.labels.get(name.as_str()) {
+            Some(_) if is_any || known.code_label(name.as_str()).is_some() => Ok(()),
+            Some(label) => self.add(at, Kind::DataLabel(used_as), Some(label.number)),
+            None => self.add(at, Kind::NoLabel(used_as), None),
         }
     }
 
     /// Adds the names of a task that are no labels of code: its own, and those of its targets.
-    fn add_task(&mut self, given: &Given<'_>, number: usize, task: &Task) -> Made<()> {
-        self.add_unless(given, number, &task.name, UsedAs::Task, false)?;
+    fn add_task(&mut self, at: &Judged<'_>, task: &Task) -> Made<()> {
+        self.add_unless(at, &task.name, UsedAs::Task, false)?;
         for (index, target) in task.targets.as_slice().iter().enumerate() {
             if let Target::Label(name) = target {
-                self.add_unless(given, number, name, UsedAs::Target(index), false)?;
+                self.add_unless(at, name, UsedAs::Target(index), false)?;
             }
         }
         Ok(())
     }
 
-    /// Adds the names that an item uses and that are no labels of the wanted kind.
-    fn add_unknown(&mut self, given: &Given<'_>, number: usize, said: &Said) -> Made<()> {
-        let Said::Statement(statement) = said else {
-            return Ok(());
-        };
+    /// Adds the names that a statement uses and that are no labels of the wanted kind.
+    fn add_unknown(&mut self, at: &Judged<'_>, statement: &Statement) -> Made<()> {
         match statement {
-            Statement::Start(name) => self.add_unless(given, number, name, UsedAs::Start, false),
-            Statement::Task(task) => self.add_task(given, number, task),
+            Statement::Start(name) => self.add_unless(at, name, UsedAs::Start, false),
+            Statement::Task(task) => self.add_task(at, task),
             Statement::Code(instruction, _) => match instruction {
                 Instruction::BranchTwo(_, _, _, Target::Label(name))
                 | Instruction::BranchOne(_, _, Target::Label(name))
                 | Instruction::Jump(Target::Label(name))
                 | Instruction::JumpLink(Target::Label(name)) => {
-                    self.add_unless(given, number, name, UsedAs::Operand, false)
+                    self.add_unless(at, name, UsedAs::Operand, false)
                 }
                 Instruction::LoadAddress(_, name) => {
-                    self.add_unless(given, number, name, UsedAs::Operand, true)
+                    self.add_unless(at, name, UsedAs::Operand, true)
                 }
                 _ => Ok(()),
             },
@@ -223,59 +225,75 @@ impl Found {
     }
 
     /// Adds what is wrong with the names of an item, or with its size.
-    fn add_names(&mut self, given: &Given<'_>, number: usize, item: &Item) -> Made<()> {
-        let known = given.known;
-        if let Some((kind, first)) = twice(given, number, &item.said) {
-            self.add(number, kind, Some(first))?;
+    fn add_names(&mut self, at: &Judged<'_>) -> Made<()> {
+        if let Some((kind, first)) = twice(at) {
+            self.add(at, kind, Some(first))?;
         }
-        if let Some(before) = known.amounts.get(number) {
-            if let Some(limit) = limit_passed(*before, item) {
-                self.add(number, Kind::Passes(limit), None)?;
-            }
+        let Some(statement) = at.statement else {
+            return Ok(());
+        };
+        if let Some(limit) = limit_passed(at, statement) {
+            self.add(at, Kind::Passes(limit), None)?;
         }
-        if known.is_read {
-            self.add_unknown(given, number, &item.said)?;
+        if at.given.known.is_read {
+            self.add_unknown(at, statement)?;
         }
         Ok(())
     }
 
     /// Adds what does not fit in an item, or where it begins.
-    fn add_unfit(&mut self, given: &Given<'_>, number: usize, said: &Said) -> Made<()> {
-        let kind = match said {
-            Said::Statement(Statement::Task(task)) if task.create.bits() % 2 == 1 => {
-                Some(Kind::CreatesZero)
-            }
-            Said::Statement(Statement::Code(instruction, marks)) => unfit(instruction, *marks),
+    fn add_unfit(&mut self, at: &Judged<'_>) -> Made<()> {
+        let kind = match at.statement {
+            Some(Statement::Task(task)) if task.create.bits() % 2 == 1 => Some(Kind::CreatesZero),
+            Some(Statement::Code(instruction, marks)) => unfit(instruction, *marks),
             _ => None,
         };
         if let Some(kind) = kind {
-            self.add(number, kind, None)?;
+            self.add(at, kind, None)?;
         }
-        if let Some((kind, other)) = bad_entry(given, number, said) {
-            self.add(number, kind, Some(other))?;
+        if let Some((kind, other)) = bad_entry(at) {
+            self.add(at, kind, Some(other))?;
         }
-        if is_bad_start(given, number, said) {
-            self.add(number, Kind::NoTaskThere, None)?;
+        if is_bad_start(at) {
+            self.add(at, Kind::NoTaskThere, None)?;
         }
         Ok(())
     }
+
+    /// Adds all that is wrong with an item.
+    fn add_item(&mut self, at: &Judged<'_>) -> Made<()> {
+        if let Said::Fault(wrong, section) = at.item.said {
+            return match wrong {
+                Some(kind) => self.add(at, Kind::Line(kind, section), None),
+                None => Ok(()),
+            };
+        }
+        self.add_names(at)?;
+        self.add_unfit(at)
+    }
 }
 
-/// What is wrong with each item of a text, in the order of the items.
-pub(crate) fn mistakes(given: &Given<'_>) -> Made<Vec<Mistake>> {
-    let list = Vec::new(given.alloc);
-    let mut found = Found { list };
-    let mut meant = None;
-    for (number, item) in given.items.iter().enumerate() {
-        let line = line_at(given.rows, item.line);
-        let wrong = line_kind(given.alloc, meant, line, item)?;
-        meant = meant_after(given.alloc, meant, line, wrong, item)?;
-        if let Some(kind) = wrong {
-            found.add(number, kind, None)?;
+/// What is wrong with each item of a text, in the order of the items: the first mistakes, and how many more there are.
+pub(crate) fn mistakes(given: &Given<'_>) -> Made<(Vec<Mistake>, usize)> {
+    let known = given.known;
+    let mut found = Found {
+        list: Vec::new(given.alloc),
+        more: known.left_out,
+    };
+    let mut before = Amounts::NONE;
+    for (number, item) in known.items.iter().enumerate() {
+        let statement = known.statement(item);
+        found.add_item(&Judged {
+            given: *given,
+            number,
+            item,
+            statement,
+            before,
+        })?;
+        if let Some(statement) = statement {
+            before = before.with(item.section, statement);
         }
-        found.add_names(given, number, item)?;
-        found.add_unfit(given, number, &item.said)?;
     }
-    let Found { list } = found;
-    Ok(list)
+    let Found { list, more } = found;
+    Ok((list, more))
 }

@@ -9,40 +9,33 @@ use operand_forms::slices::first;
 use program_statements::statement::{Section, Statement};
 
 /// How many items are looked through for a label that is near.
-const MOST_SEEN: usize = 4_096;
+pub(crate) const MOST_SEEN: usize = 4_096;
 
 /// The first label near to a name, or the same but for capitals: of code, or any.
 pub(crate) fn near_label(given: &Given<'_>, is_any: bool, name: &[u8]) -> Made<Option<Words>> {
     if name.len() < 2 {
         return Ok(None);
     }
-    for item in first(given.items, MOST_SEEN) {
-        let Said::Label(label) = &item.said else {
+    for item in first(&given.known.items, MOST_SEEN) {
+        if !matches!(item.said, Said::Label(_)) {
             continue;
-        };
+        }
         let is_wanted = is_any || matches!(item.section, Section::Text);
-        let other = label.bytes();
+        let label = given.label(item);
+        let other = label.as_bytes();
         if is_wanted && (is_near(name, other) || name.eq_ignore_ascii_case(other)) {
-            return Ok(Some(Words::of(given.alloc, label.as_str())?));
+            return Ok(Some(Words::of(given.alloc, label)?));
         }
     }
     Ok(None)
 }
 
-/// Whether an item is a label of code, or an instruction.
-fn is_code(item: &Item) -> bool {
-    match &item.said {
-        Said::Label(_) => matches!(item.section, Section::Text),
-        Said::Statement(Statement::Code(_, _)) => true,
-        _ => false,
-    }
-}
-
 /// The name of a label, or the one after `.start`.
 fn name_of(given: &Given<'_>, item: &Item) -> Made<Option<Words>> {
-    match &item.said {
-        Said::Label(name) | Said::Statement(Statement::Start(name)) => {
-            Ok(Some(Words::of(given.alloc, name.as_str())?))
+    match given.known.statement(item) {
+        Some(Statement::Start(name)) => Ok(Some(Words::of(given.alloc, name.as_str())?)),
+        None if matches!(item.said, Said::Label(_)) => {
+            Ok(Some(Words::of(given.alloc, given.label(item))?))
         }
         _ => Ok(None),
     }
@@ -55,7 +48,7 @@ pub(crate) fn start_name(given: &Given<'_>, start: Option<&Item>) -> Made<Option
             return Ok(Some(name));
         }
     }
-    match given.items.iter().find(|item| is_code(item)) {
+    match given.known.code.and_then(|number| given.item(number)) {
         Some(item) => name_of(given, item),
         None => Ok(None),
     }

@@ -9,15 +9,15 @@ ghost use Rattle.text_diagnostics.specs.Refusals.{build_code, told_as, token_in,
 use crate::advice::{Made, filled};
 use crate::compiled::{compiled_note, in_short};
 use crate::faulty_line::FaultyLine;
-use crate::given::{Given, known_in};
-use crate::item::{Item, Said};
+use crate::given::Given;
+use crate::item::Item;
 use crate::item_said::item_error;
 use crate::line_said::{line_help, line_message};
 use crate::mistake::{Kind, Mistake};
 use crate::mistakes::mistakes;
 use crate::names::start_name;
 use crate::place::{Seen, span_in};
-use crate::tree::items_of;
+use crate::tree::known_of;
 use annotated_asm::assembler::{MOST_TEXT, assemble};
 use annotated_asm::fault::AsmFault;
 use diagnostics::code::Code;
@@ -29,13 +29,9 @@ use diagnostics::words::Words;
 use operand_forms::line_fault::LineFaultKind;
 use operand_forms::line_place::line_place;
 use operand_forms::rows::{line_at, lines_of, read};
-use operand_forms::slices::first;
-use program_statements::statement::{Section, Statement};
+use program_statements::statement::Section;
 use std::alloc::{AllocError, Global};
 use task_descriptor::program::BuildFault;
-
-/// The most errors that are shown of a text; of the rest only the number is shown.
-pub const MOST_SHOWN: usize = 1_000;
 
 /// An error of a program text, without notes.
 fn error_of(
@@ -108,10 +104,7 @@ fn error_in(
 /// That there is no task.
 fn no_task(given: &Given<'_>) -> Made<Diagnostic> {
     let alloc = given.alloc;
-    let start = given.items.iter().find(|item| matches!(
-        &item.said,
-        Said::Statement(Statement::Start(_))
-    ));
+    let start = given.known.start.and_then(|number| given.item(number));
     let help = match start_name(given, start)? {
         Some(name) => filled(
             alloc,
@@ -128,22 +121,20 @@ fn no_task(given: &Given<'_>) -> Made<Diagnostic> {
     Ok(error_of(alloc, Code::NoTask, None, message, help))
 }
 
-/// All that is wrong with a text of these lines.
-fn told(alloc: Global, rows: &[&[u8]]) -> Made<Vec<Diagnostic>> {
-    let items = items_of(alloc, rows)?;
-    let known = known_in(alloc, &items)?;
+/// All that is wrong with a text, which has these lines.
+fn told(alloc: Global, text: &[u8], rows: &[&[u8]]) -> Made<Vec<Diagnostic>> {
+    let known = known_of(alloc, text, rows)?;
     let given = Given {
         alloc,
         rows,
-        items: &items,
         known: &known,
     };
-    let found = mistakes(&given)?;
+    let (found, more) = mistakes(&given)?;
     let mut list = Vec::new(alloc);
     let mut seen = Seen::new(&given);
     let compiled = compiled_note(alloc, rows)?;
-    for mistake in first(&found, MOST_SHOWN) {
-        if let Some(item) = items.get(mistake.item) {
+    for mistake in &found {
+        if let Some(item) = given.item(mistake.item) {
             let mut said = error_in(&given, &mut seen, mistake, item)?;
             if compiled.is_some() {
                 in_short(&mut said);
@@ -154,10 +145,9 @@ fn told(alloc: Global, rows: &[&[u8]]) -> Made<Vec<Diagnostic>> {
     if let Some(note) = compiled {
         list.push(note)?;
     }
-    if known.is_read && !known.has_task {
+    if known.is_read && known.all.tasks == 0 {
         list.push(no_task(&given)?)?;
     }
-    let more = found.len().saturating_sub(MOST_SHOWN);
     add_more(alloc, &mut list, Source::Program, more, "error", "errors")?;
     Ok(list)
 }
@@ -339,7 +329,7 @@ pub fn first_token(alloc: Global, text: &[u8], fault: AsmFault) -> Result<Option
     token_of(alloc, &rows, fault)
 }
 
-/// All that is wrong with a text whose first fault this is: an error for each of at most `MOST_SHOWN` mistakes in the
+/// All that is wrong with a text whose first fault this is: an error for each of at most 1,000 mistakes in the
 /// order of the text, and how many more there are; the first fault is always among them.
 ///
 /// # Errors
@@ -356,7 +346,7 @@ pub fn refusal(alloc: Global, text: &[u8], fault: AsmFault) -> Result<Vec<Diagno
     let list = if text.len() > MOST_TEXT {
         Vec::new(alloc)
     } else {
-        told(alloc, &rows)?
+        told(alloc, text, &rows)?
     };
     let token = token_of(alloc, &rows, fault)?;
     let list = with_first(alloc, fault, token, list)?;

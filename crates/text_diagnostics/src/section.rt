@@ -4,11 +4,8 @@ ghost use Rattle.std.specs.Prelude.{◌≡◌, IfOk};
 ghost use Rattle.program_statements.specs.Statements.{statement_of};
 ghost use Rattle.text_diagnostics.specs.Mending.{fault_of_statement, fault_in, reads};
 
-use crate::item::{Item, Said};
-use crate::mistake::Kind;
 use operand_forms::bytes::bytes_at;
 use operand_forms::line_fault::{LineFaultKind, kind_of_fault};
-use operand_forms::line_place::word_place;
 use operand_forms::meant::label_tokens;
 use operand_forms::rows::places_of;
 use operand_forms::shape::shape_of;
@@ -16,8 +13,7 @@ use program_statements::fault::StatementError;
 use program_statements::line::statement_of;
 use program_statements::statement::{Section, Statement};
 use program_tokens::line::line_tokens;
-use program_tokens::span::TokenSpan;
-use program_tokens::token::{Token, TokenFault};
+use program_tokens::token::{Directive, Token, TokenFault};
 use std::alloc::{AllocError, Global};
 
 /// Why tokens are no statement of a section, if they are none.
@@ -79,43 +75,57 @@ fn section_named(word: &[u8]) -> Option<Section> {
     Some(row.1)
 }
 
-/// What is wrong with the line of an item, where a section is meant: a word that cannot stand where it does is judged
-/// where it is meant to stand.
-pub(crate) fn line_kind(
+/// What is wrong with a line that cannot be read, where a section is meant: a word that cannot stand where it does is judged
+/// where it is meant to stand, with the tokens after it.
+pub(crate) fn fault_where_meant(
     alloc: Global,
     meant: Option<Section>,
-    line: &[u8],
-    item: &Item,
-) -> Result<Option<Kind>, AllocError> {
-    let Said::Fault(kind) = item.said else {
+    kind: LineFaultKind,
+    tokens: &[Token],
+) -> Result<Option<LineFaultKind>, AllocError> {
+    match (meant, kind) {
+        (Some(section), LineFaultKind::Mnemonic) => statement_fault(alloc, section, tokens),
+        _ => Ok(Some(kind)),
+    }
+}
+
+/// The first section that a word of a line names. Most lines have no dot: their words are not looked for.
+fn section_in(alloc: Global, line: &[u8]) -> Result<Option<Section>, AllocError> {
+    if !line.contains(&b'.') {
         return Ok(None);
-    };
-    let section = meant.unwrap_or(item.section);
-    let there = match (meant, kind) {
-        (Some(section), LineFaultKind::Mnemonic) => fault_in(alloc, section, line)?,
-        _ => Some(kind),
-    };
-    Ok(there.map(|there| Kind::Line(there, section)))
+    }
+    let places = places_of(alloc, line)?;
+    Ok(
+        places
+            .iter()
+            .find_map(|place| section_named(bytes_at(line, *place))),
+    )
+}
+
+/// Whether tokens begin with a word that begins a statement.
+fn begin_statement(tokens: &[Token]) -> bool {
+    match tokens {
+        [Token::Name(name), ..] => shape_of(name.bytes()).is_some(),
+        [Token::Directive(directive), ..] => !matches!(directive, Directive::Unknown),
+        _ => false,
+    }
 }
 
 /// The section that is meant after a line that cannot be read: the first that it names, or another one where its word
 /// cannot stand in this one.
-fn after_fault(
+pub(crate) fn meant_after_fault(
     alloc: Global,
     meant: Option<Section>,
-    line: &[u8],
-    wrong: Option<Kind>,
     section: Section,
+    line: &[u8],
+    wrong: Option<LineFaultKind>,
+    tokens: &[Token],
 ) -> Result<Option<Section>, AllocError> {
-    let places = places_of(alloc, line)?;
-    for place in &places {
-        if let Some(named) = section_named(bytes_at(line, *place)) {
-            return Ok(Some(named));
-        }
+    let named = section_in(alloc, line)?;
+    if named.is_some() {
+        return Ok(named);
     }
-    let is_misplaced = matches!(wrong, Some(Kind::Line(LineFaultKind::Mnemonic, _)))
-        && shape_of(bytes_at(line, word_place(line, &places))).is_some();
-    if !is_misplaced {
+    if !matches!(wrong, Some(LineFaultKind::Mnemonic)) || !begin_statement(tokens) {
         return Ok(meant);
     }
     Ok(Some(match section {
@@ -124,20 +134,10 @@ fn after_fault(
     }))
 }
 
-/// The section that is meant after the line of an item.
-pub(crate) fn meant_after(
-    alloc: Global,
-    meant: Option<Section>,
-    line: &[u8],
-    wrong: Option<Kind>,
-    item: &Item,
-) -> Result<Option<Section>, AllocError> {
-    match &item.said {
-        Said::Fault(_) => {
-            let section = meant.unwrap_or(item.section);
-            after_fault(alloc, meant, line, wrong, section)
-        }
-        Said::Statement(Statement::Start(_) | Statement::Task(_)) | Said::Label(_) => Ok(meant),
-        Said::Statement(_) => Ok(None),
+/// The section that is meant after a statement.
+pub(crate) fn meant_after(meant: Option<Section>, statement: &Statement) -> Option<Section> {
+    match statement {
+        Statement::Start(_) | Statement::Task(_) => meant,
+        _ => None,
     }
 }
