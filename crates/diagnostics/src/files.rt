@@ -23,19 +23,6 @@ pub struct Files<'a> {
 }
 
 impl<'a> Files<'a> {
-    /// A program text in a file of this name, with these lines, alone.
-    pub fn of_program(name: &'a str, rows: &'a [&'a [u8]]) -> Files<'a> {
-        let none = TextFile {
-            name: "",
-            rows: &[],
-        };
-        Files {
-            program: TextFile { name, rows },
-            certificate: none,
-            script: none,
-        }
-    }
-
     /// The text that is meant.
     pub fn text_of(&self, source: Source) -> &TextFile<'a> {
         match source {

@@ -5,9 +5,23 @@ ghost use Rattle.text_pieces.specs.Pieces.{joined};
 use annotated_asm::fault::AsmFault;
 use annotated_asm::reading::source_map;
 use diagnostics::diagnostic::Span;
+use diagnostics::files::{Files, TextFile};
 use operand_forms::rows::lines_of;
 use std::alloc::{AllocError, Global};
 use text_pieces::text::Text;
+
+/// A program text in a file of this name, with these lines, alone.
+pub(crate) fn program_alone<'a>(name: &'a str, rows: &'a [&'a [u8]]) -> Files<'a> {
+    let none = TextFile {
+        name: "",
+        rows: &[],
+    };
+    Files {
+        program: TextFile { name, rows },
+        certificate: none,
+        script: none,
+    }
+}
 
 /// The lines of a text in a file, if one is named; else none.
 pub(crate) fn file_lines<'a>(

@@ -6,9 +6,8 @@ use crate::explained::explained;
 use crate::explaining::mends;
 use crate::explanation::Explanation;
 use crate::given::{Given, final_status};
-use crate::inputs::joined;
+use crate::inputs::{joined, program_alone};
 use diagnostic_log::sarif::{Logged, log_text};
-use diagnostics::files::Files;
 use jobs::job::{Texts, Warnings};
 use operand_forms::rows::lines_of;
 use std::alloc::{AllocError, Global};
@@ -75,7 +74,7 @@ pub fn log_of(
     let mut list = Vec::new(alloc);
     for (program, rows) in programs.iter().zip(rows.iter()) {
         list.push(Logged {
-            files: Files::of_program(program.name.as_str(), rows.as_slice()),
+            files: program_alone(program.name.as_str(), rows.as_slice()),
             diagnostics: program.said.said.as_slice(),
             mends: mends(&program.said),
         })?;
