@@ -8,4 +8,4 @@ use Rattle.call_returns.proofs.returns.Seen.tell_all.Goals as goal
 pub loop-site-preserved : goal.loop-site-preserved
 loop-site-preserved c =
     let told = IsTold c.args.self.now.program.now in
-    subst (All told) (sym c.in_ok-push.ensures.items) (All-push told c.loop-site.told.items c.in_ok-tell.field-0 c.loop-site.invariant c.in_ok-tell.ensures)
+    subst (All told) (sym c.in_ok-push.ensures.items) (All-push told c.loop-site.told.items c.in_ok-jump.jump c.loop-site.invariant c.in_ok-jump.ensures)
