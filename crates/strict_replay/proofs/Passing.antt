@@ -1,5 +1,5 @@
 -- What a walk tells of an event decides the line; a line that passes leaves the verdict to those after it.
-use Rattle.std.proofs.Common.{◌≡◌, ℕ, ◌+◌, Bool, true, false, List, ◌∷◌, [], length, Option, None, Some, Result, Ok, Err, refl, sym, ap, subst, ◌∙◌, if◌then◌else◌}
+use Rattle.std.proofs.Common.{◌≡◌, ℕ, ◌+◌, arith, Bool, true, false, List, ◌∷◌, [], length, Option, None, Some, Result, Ok, Err, refl, sym, ap, subst, ◌∙◌, if◌then◌else◌}
 use Rattle.std.specs.Prelude.{MatchResult}
 use Rattle.std.specs.Option.{option_map, option_or}
 use Rattle.mark_checker.specs.Places.{Checked}
@@ -8,7 +8,7 @@ use Rattle.machine_model.specs.Machine.{State}
 use Rattle.machine_model.specs.declared.event.Event.{Event}
 use Rattle.machine_model.specs.declared.event.Refused.{Refused}
 use Rattle.sequencer.specs.Machines.{MachineView, answer_to, state, units_of}
-use Rattle.event_script.specs.EventScript.{event_in}
+use Rattle.event_script.specs.EventScript.{event_in, lines}
 use Rattle.event_script.specs.declared.fault.EventFault.{EventFault}
 use Rattle.event_trace.specs.declared.change.Change.{Change}
 use Rattle.event_trace.specs.declared.told.Told.{Told}
@@ -158,8 +158,8 @@ departs_at complete m names number all more line verdict why begins departs is =
     ∙ ap (λ (ls : List (List ℕ)). first_departed complete names m.accepted.program (units_of m) number (length m.history) (state m) ls) (sym begins)
     ∙ is
 
-pub ends_at : (complete : Bool) (m : MachineView) (names : List (List ℕ)) (number : ℕ) (all : List (List ℕ)) (verdict : Option Departed) →
-    all ≡ [] → first_departed complete names m.accepted.program (units_of m) number (length m.history) (state m) all ≡ verdict →
+pub ends_at : (complete : Bool) (m : MachineView) (names : List (List ℕ)) (number : ℕ) (text : List ℕ) (verdict : Option Departed) →
+    length text ≡ 0 → first_departed complete names m.accepted.program (units_of m) number (length m.history) (state m) (lines text) ≡ verdict →
     option_map (departed number) (end_departs complete (state m).outcome) ≡ verdict
-ends_at complete m names number all verdict ends is =
-    ap (λ (ls : List (List ℕ)). first_departed complete names m.accepted.program (units_of m) number (length m.history) (state m) ls) (sym ends) ∙ is
+ends_at complete m names number [] verdict ends is = is
+ends_at complete m names number (byte ∷ text) verdict ends is = absurd (omega arith)

@@ -1,8 +1,8 @@
 //! Whether an event did what was expected of it.
 
 ghost use Rattle.std.specs.Prelude.{◌≡◌, ◌==◌, false};
-ghost use Rattle.std.specs.Option.{option_map_or};
-ghost use Rattle.std.specs.List.{slice_split};
+ghost use Rattle.std.specs.Option.{option_copied, option_map_or};
+ghost use Rattle.std.specs.List.{find, slice_split};
 ghost use Rattle.std.specs.Prelude.{map};
 ghost use Rattle.strict_replay.specs.StrictScript.{expectation_in, expected_parts, trimmed};
 ghost use Rattle.strict_replay.specs.StrictReplay.{awaited, done_by, first_unmet, content_departs, deed_departs, end_departs, first_not_listed, is_listed, is_met, is_refused_so, lacks, refusal_told, refusal_unmet, spells, to_list, told_departs, unmet};
@@ -143,14 +143,21 @@ pub(crate) fn lacks(content: &[u8], change: &Change) -> bool
     }
 }
 
-/// The first change that a line of a complete script does not list.
+/// The first change that a line does not list.
+fn first_lacking<'a>(changes: &'a [Change], content: &[u8]) -> Option<&'a Change>
+    ensures { option_copied result ≡ find (lacks (expected_parts content.now)) changes.now }
+{
+    changes.iter().find(|change| lacks(content, change))
+}
+
+/// How a line of a complete script departs at the first change that it does not list, if it does.
 fn first_not_listed(is_complete: bool, changes: &[Change], content: &[u8]) -> Option<Departure>
     ensures { result ≡ first_not_listed is_complete changes.now (expected_parts content.now) }
 {
     if !is_complete {
         return None;
     }
-    let change = changes.iter().find(|change| lacks(content, change))?;
+    let change = first_lacking(changes, content)?;
     Some(Departure::NotListed(*change))
 }
 

@@ -85,7 +85,8 @@ pub(crate) fn write_expectation_slip(
     };
     let part = trimmed(part_of(b',', behind, number));
     if let Some(slip) = bytes_slip(content) {
-        return write!(text, ": {slip}");
+        text.push_str(": ")?;
+        return text.push_str(slip);
     }
     if part.is_empty() {
         return text.push_str(": it is empty");
