@@ -63,7 +63,7 @@ fn object_of(alloc: Global, name: &str, lines: &[u32], row: &str) -> Result<Vec<
         }
         _ => {
             begin(&mut out, "verdict", name)?;
-            write_refusal(alloc, &mut out, row)?;
+            write_refusal(&mut out, row)?;
         }
     }
     out.end()?;
@@ -93,20 +93,22 @@ fn write_number(out: &mut JsonText, key: &str, digits: Option<&str>) -> Written 
 }
 
 // Adds which text is refused, the fault's number and name, and its line, if it has one.
-fn write_refusal(alloc: Global, out: &mut JsonText, row: &str) -> Written {
+fn write_refusal(out: &mut JsonText, row: &str) -> Written {
     let Some((refused, said)) = row.split_once(" refused: ") else {
         return Ok(());
     };
     let Some((number, fault)) = said.split_once(' ') else {
         return Ok(());
     };
-    let before = if refused == "program" { " line " } else { " " };
+    let (verdict, before) = match refused {
+        "program" => ("program refused", " line "),
+        _ => ("certificate refused", " "),
+    };
     let (fault, line) = match fault.split_once(before) {
         Some((fault, line)) => (fault, Some(line)),
         None => (fault, None),
     };
-    let verdict = format!(in alloc; "{refused} refused")?;
-    out.text("verdict", verdict.as_str())?;
+    out.text("verdict", verdict)?;
     write_number(out, "number", Some(number))?;
     out.text("fault", fault)?;
     write_number(out, "line", line)
