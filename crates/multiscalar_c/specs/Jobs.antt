@@ -2,7 +2,6 @@
 use Rattle.std.specs.Prelude.{◌≡◌, ℕ, Bool, false, List, [], Option, Some, None, IsSome, IfSome, slice_get, if◌then◌else◌}
 use Rattle.std.specs.Str.{IsUtf8}
 use Rattle.jobs.specs.declared.job.Schedule.TheVariants.{Steps}
-use Rattle.jobs.specs.declared.job.Warnings.TheVariants.{Told, Silent}
 use Rattle.limits.specs.Limits.{IsBudget, IsUnits}
 use Rattle.report_texts.specs.OutputTexts.{Report}
 use Rattle.report_texts.specs.AnnotateText.{IsAnnotateReport}
@@ -13,7 +12,7 @@ use Rattle.verdict_report.specs.CurveText.{IsCurveText}
 use Rattle.strict_replay.specs.StrictReplay.{IsStrictReport}
 use Rattle.verdict_report.specs.ReplayText.{IsReplayText}
 use Rattle.verdict_report.specs.RunText.{IsRunText}
-use Rattle.multiscalar_c.specs.Codes.{curve_emits, emits, formats, prediction_of, replay_emits, run_emits, source_of}
+use Rattle.multiscalar_c.specs.Codes.{curve_emits, emits, formats, prediction_of, replay_emits, run_emits, source_of, warnings_of}
 
 -- what `annotate` writes
 abbrev pub IsAnnotated : (emit : ℕ) → (program : List ℕ) → Report → Type 0
@@ -37,7 +36,7 @@ pub record ExplainTakes (format : ℕ) (name : List ℕ) (file : Option (List �
 -- what `explain` writes, without colours and of no event script
 abbrev pub IsExplained : (format : ℕ) → (warnings : Bool) → (name : List ℕ) → (file : Option (List ℕ)) → (program certificate : List ℕ) → Report → Type 0
 IsExplained format warnings name file program certificate report =
-    IfSome (slice_get formats format) (λ _. IsExplainReport file None (if warnings then Told else Silent) program certificate [] report)
+    IfSome (slice_get formats format) (λ _. IsExplainReport file None (warnings_of warnings) program certificate [] report)
 
 -- what `replay` takes
 pub record ReplayTakes (units emit : ℕ) : Type 0 where

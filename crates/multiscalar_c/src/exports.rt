@@ -13,7 +13,7 @@ use crate::codes;
 use crate::texts::{name, texts};
 use demonstration::report::demonstrate;
 use explain_report::explaining::explain;
-use jobs::job::{Colors, DemonstrateEmit, VerdictFormat, Warnings};
+use jobs::job::{Colors, DemonstrateEmit, VerdictFormat};
 use limits::ranges::{Budget, Units};
 use report_texts::annotating::annotate;
 use report_texts::printing::print;
@@ -170,11 +170,7 @@ fn explain_of(
     let texts = texts(alloc, program, certificate, b"")?;
     let none: Option<String> = None;
     let never = Colors::Never;
-    let warnings = if warnings {
-        Warnings::Told
-    } else {
-        Warnings::Silent
-    };
+    let warnings = codes::warnings(warnings);
     Ok(explain(alloc, format, title, &file, &none, warnings, never, &texts)?)
 }
 
