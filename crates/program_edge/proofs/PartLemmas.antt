@@ -74,15 +74,17 @@ pub reported_itself : (t : Bool) (asked : Job) (name : List ℕ) (texts : Texts)
 reported_itself t asked name texts r other h = reported t asked asked name texts r (job_itself asked name other) (λ report part same. same) h
 
 -- a program that a log has
-pub logged_reported : (t : Bool) (job : Job) (own : String Global) (warnings : Warnings) (colors : Colors) (name : List ℕ) (texts : Texts) (r : Result Made ServeFault)
-    → job ≡ Explain own None None warnings Sarif colors
+pub logged_reported : (t : Bool) (job : Job) (own : String Global) (certificate script : Option (String Global)) (warnings : Warnings) (format : Format) (colors : Colors) (name : List ℕ) (texts : Texts) (r : Result Made ServeFault)
+    → job ≡ Explain own certificate script warnings format colors → certificate ≡ None → script ≡ None → format ≡ Sarif
     → IfOk r (λ made. (report : Report) × IsExplainReport None None warnings texts.program.items texts.certificate texts.script.items report
     × ◌≡◌ {A = Part} (seen made) (record { output = []; errors = []; judged = judged_by report.status }))
     → IfOk r (λ made. (report : Report) × IsReportOf job texts report × IsPartWith t job name report (seen made))
-logged_reported t job own warnings colors name texts (Ok made) is h =
-    subst (λ (j : Job). (report : Report) × IsReportOf j texts report × IsPartWith t j name report (seen made)) (sym is)
+logged_reported t job own certificate script warnings format colors name texts (Ok made) is none alone log h =
+    let same : job ≡ Explain own None None warnings Sarif colors = is ∙ ap (λ (x : Option (String Global)). Explain own x script warnings format colors) none
+        ∙ ap (λ (x : Option (String Global)). Explain own None x warnings format colors) alone ∙ ap (λ (x : Format). Explain own None None warnings x colors) log in
+    subst (λ (j : Job). (report : Report) × IsReportOf j texts report × IsPartWith t j name report (seen made)) (sym same)
     (h.0, h.1, record { output = ap (λ (p : Part). p.output) h.2; silent = λ _. ap (λ (p : Part). p.errors) h.2; judged = ap (λ (p : Part). p.judged) h.2 })
-logged_reported t job own warnings colors name texts (Err fault) is h = tt
+logged_reported t job own certificate script warnings format colors name texts (Err fault) is none alone log h = tt
 
 -- a text that is not taken for a certificate is judged
 pub text_judged : (t : Bool) (asked : Job) (name text : List ℕ) (b : Bool) (certificate script : List ℕ) (r : Result Made ServeFault)
