@@ -8,7 +8,7 @@ _multiscalar_options() {
         annotate) echo "--emit --output --in-place --report --help" ;;
         explain) echo "--certificate --script --no-warnings --werror --format --color --fix --output --in-place --help" ;;
         check) echo "--format --least --workers --output --help" ;;
-        replay) echo "--least --units --emit --until --strict --output --help" ;;
+        replay) echo "--least --units --emit --until --strict --complete --format --output --help" ;;
         run) echo "--least --schedule --units --workers --budget --predict --emit --axis --with-values --output --help" ;;
         curve) echo "--least --units --budget --predict --emit --progress --output --help" ;;
         demonstrate) echo "--units --steps --emit --output --help" ;;

@@ -16,7 +16,7 @@ second of the processor, and one for each 30 MB that are read and written. Needs
 in the temporary folder and 3 GB of memory; it is no part of the tests.
 
 With --gate: texts that take long, or much memory, where an answer is sought carelessly. Each run may take
-three times the processor's time of `check --least` of the same program (SLOWER has one that may take more), or a second if that is
+three times the processor's time of `check --least` of the same program, or a second if that is
 more, which a slower machine has longer, and 512 MB; a trace of a
 long script 26 MB, as it is written while its events are played. A run that takes more is made again, twice, as other processes may
 have slowed it, and is ended some two seconds after its time. `.ci/run` runs this after `rt ci`.
@@ -51,9 +51,8 @@ PROGRAM_LIMIT, FILE_LIMIT = 4_194_304, 134_217_728
 BOUNDS = {"seq": 410, "print": 410, "annotate": 410, "explain": 490, "check": 545, "run": 545, "replay": 1760, "curve": 545}
 # `explain` reads a refused text once more, with places. The most is where a name is unknown beside a list of targets in one
 # long line: the text, a token of 48 bytes and a place of 16 for each byte, and for each two a target that is kept twice in
-# 48: 4.2 + 201.3 + 67.1 + 201.3 MB. Where a label stands a second time, each label with its place has 112 bytes: 4.2 +
-# 201.3 + 234.9 MB. The process takes 3 MB, and of what was given back before, the C library keeps up to 10 MB.
-# With a certificate it takes what `check` takes.
+# 48: 4.2 + 201.3 + 67.1 + 201.3 MB. The process takes 3 MB, and of what was given back before, the C library keeps up to
+# 10 MB. With a certificate it takes what `check` takes.
 # What a trace takes, as text and as lines of JSON; `replay` writes it while the events are played.
 TRACED = {"run": 1300, "replay": 1760}
 AS_JSON = {"run": 2100, "replay": 1760}
@@ -366,10 +365,6 @@ def many_tasks(folder, traces):
 # What a run of `worst` may take: this many times what `check --least` of its program takes, but no less than a second; and millions of bytes.
 # A run that takes more is made again, until it was made this often.
 TIMES, LEAST_SECONDS, GATE_MEMORY, TRIES = 3, 1, 512, 3
-# `explain` of two million labels of one name in one line reads them once more, with their places: five times.
-SLOWER = {("one label many times", "explain"): 5}
-# `explain` reads a refused text to its end, and once more where it judges a fix: two seconds.
-SECONDS = {"explain": 2}
 # In how many seconds the interpreter counts to ten million on the machine whose second is meant.
 COUNTED = 0.3
 # Of a run that writes on the way.
@@ -479,7 +474,7 @@ def gate(program, only=""):
             if text not in least:
                 least[text] = ran(program, ["check", "--least", str(text)], folder).processor
             for _ in range(TRIES):
-                most = max(second() * SECONDS.get(words[0], 1), SLOWER.get((kind, words[0]), TIMES) * least[text])
+                most = max(second(), TIMES * least[text])
                 ended = ran(program, [str(word) for word in words], folder, most, kind.endswith(AT_TERMINAL))
                 if not is_dear(ended, most, memory):
                     break
