@@ -193,7 +193,7 @@ fn write_instruction(
     for change in changes {
         write_effect(&mut note, *change)?;
     }
-    let unit = ring.number_at(position) as u32;
+    let unit = ring.number_at(position).min(u32::MAX as usize) as u32;
     begin_timed(out, name.as_str(), "instruction", "X", unit, time)?;
     out.number("dur", 1)?;
     out.object("args")?;

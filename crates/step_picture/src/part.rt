@@ -14,7 +14,7 @@ use run_picture::chart::{Chart, MOST_SINGLE};
 use run_picture::shape::{Axis, Wait};
 use std::alloc::{AllocError, Global};
 use task_lives::life::Life;
-use unit_waits::waits::waits_between;
+use unit_waits::between::waits_between;
 
 /// A part of a chart, and how many events come before its first one.
 #[derive(Drop)]

@@ -1,7 +1,7 @@
 -- The steps so far.
 use Rattle.std.proofs.Common.{◌-◌, length}
 use Rattle.unit_waits.proofs.Stepping.{IsUnderway}
-use Rattle.unit_waits.proofs.waits.waits_between.Given as goal
+use Rattle.unit_waits.proofs.between.waits_between.Given as goal
 
 abbrev pub invariant-loop-start : goal.invariant-loop-start
 invariant-loop-start l = IsUnderway l.accepted l.units l.history l.start l.number l.machine

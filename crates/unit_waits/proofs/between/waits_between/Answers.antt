@@ -3,7 +3,7 @@ use Rattle.std.proofs.Common.{List, ◌+◌, length, ap, arith}
 use Rattle.std.proofs.lemmas.List.{length-drop}
 use Rattle.machine_model.specs.declared.event.Event.{Event}
 use Rattle.unit_waits.proofs.Stepping.{begins, step_allowed, step_on}
-use Rattle.unit_waits.proofs.waits.waits_between.Goals as goal
+use Rattle.unit_waits.proofs.between.waits_between.Goals as goal
 
 pub loop-start-init : goal.loop-start-init
 loop-start-init c =
