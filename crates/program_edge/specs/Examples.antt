@@ -1,29 +1,22 @@
--- Worked examples, computed by the checker: names of standard input, the lines that report a fault, what is no result
--- for a file, and what standard error gets beside a result.
-use Rattle.std.specs.Prelude.{◌≡◌, ℕ, List, Bool, Option, true, false, [], ◌∷◌, ◌++◌, codes, Some}
-use Rattle.std.specs.String.{string_bytes}
-use Rattle.std.specs.declared.io.ErrorKind.TheVariants as kind
+-- Worked examples, computed by the checker: names of standard input, what is no result for a file, and what standard
+-- error gets beside a result.
+use Rattle.std.specs.Prelude.{◌≡◌, ℕ, Bool, Option, true, false, [], ◌∷◌, ◌++◌, codes, Some}
 use Rattle.std.proofs.Common.{refl}
-use Rattle.program_edge.specs.declared.fault.Fault.TheVariants.{InputTwice, Explained, NotWritten}
-use Rattle.program_edge.specs.declared.unread.UnreadReason.TheVariants.{NoSuchFile, Other}
-use Rattle.program_edge.specs.declared.unread.Unread.{Unread}
+use Rattle.program_edge.specs.declared.fault.Fault.TheVariants.{InputTwice}
 use Rattle.jobs.specs.declared.job.CertificateSource.TheVariants.{Least}
 use Rattle.jobs.specs.declared.job.Colors.{Colors}
-use Rattle.jobs.specs.declared.job.Colors.TheVariants.{Always, Auto, Never}
 use Rattle.jobs.specs.declared.job.Format.{Format}
 use Rattle.jobs.specs.declared.job.Job.{Job}
 use Rattle.jobs.specs.declared.job.Job.TheVariants.{Check, Explain, Print, Seq}
 use Rattle.std.specs.declared.string.String.{String}
 use Rattle.std.specs.declared.alloc.Global.{Global}
-use Rattle.result_files.specs.declared.unwritten.Unwritten.TheVariants.{NoSuchFolder}
 use Rattle.explain_report.specs.declared.left.LeftOver.{LeftOver}
 use Rattle.program_edge.specs.Asking.{input_of}
 use Rattle.program_edge.specs.Beside.{rest_said}
-use Rattle.program_edge.specs.Colouring.{colors_for}
-use Rattle.program_edge.specs.FileTexts.{but_there, opening_reason, program_name}
+use Rattle.program_edge.specs.FileTexts.{program_name}
 use Rattle.program_edge.specs.Hints.{is_heard}
 use Rattle.program_edge.specs.Refusals.{is_refusal}
-use Rattle.program_edge.specs.Telling.{said_of, unread_fault}
+use Rattle.program_edge.specs.Telling.{said_of}
 
 -- `-` is standard input, `./-` is not
 pub input : input_of (codes "-") ≡ 1
@@ -49,27 +42,8 @@ pub dash_named : program_name (codes "./-") ≡ codes "-"
 dash_named = refl
 
 -- two files that are `-`
-pub input_twice : said_of InputTwice ≡ codes "multiscalar: 5 InputTwice: only one file can be - (standard input)" ++ 10 ∷ []
+pub input_twice : said_of InputTwice ≡ Some (codes "multiscalar: 5 InputTwice: only one file can be - (standard input)" ++ 10 ∷ [])
 input_twice = refl
-
--- `explain a.s`, where there is no such file
-pub missing : (unread : Unread) → string_bytes unread.path ≡ codes "a.s" → unread.reason ≡ NoSuchFile
-    → said_of (Explained unread) ≡ codes "multiscalar: file a.s: no such file" ++ 10 ∷ []
-missing unread path reason = rw (path, reason) refl
-
--- `check --least a.s`, where there is no such file
-pub missing_of_check : (workers : ℕ) (unread : Unread) → string_bytes unread.path ≡ codes "a.s" → unread.reason ≡ NoSuchFile
-    → said_of (unread_fault (Check Least workers) unread) ≡ codes "multiscalar: file a.s: no such file" ++ 10 ∷ []
-missing_of_check workers unread path reason = rw (path, reason) refl
-
--- an open file is there, whatever a read of it says
-pub there : but_there (opening_reason kind.NotFound) ≡ Other
-there = refl
-
--- `print -o out/a.s a.s`, where there is no folder `out`
-pub no_folder : (path : String Global) → string_bytes path ≡ codes "out/a.s"
-    → said_of (NotWritten path NoSuchFolder) ≡ codes "multiscalar: file out/a.s: no such folder" ++ 10 ∷ []
-no_folder path is = rw (is) refl
 
 -- a refused program gives `print` no result, and `check` one
 pub refused : is_refusal Print 1 (codes "program refused: 4 Mnemonic line 1" ++ 10 ∷ []) ≡ true
@@ -107,15 +81,3 @@ asked left = refl
 
 pub unasked : (left : LeftOver) → left.count ≡ 0 → rest_said false (Some left) ≡ []
 unasked left none = rw (none) refl
-
--- a terminal shows colours unless they are unwanted; a file gets them only from who asks for them
-pub shown_in_colours : colors_for true false Auto ≡ Always
-shown_in_colours = refl
-
-pub none_in_a_file : colors_for true true Auto ≡ Never
-none_in_a_file = refl
-
-pub asked_for : (sees is_kept : Bool) → colors_for sees is_kept Always ≡ Always
-asked_for true true = refl
-asked_for true false = refl
-asked_for false is_kept = refl

@@ -1,10 +1,9 @@
 //! The job for several programs, one after another.
-ghost use Rattle.std.specs.Prelude.{◌≡◌, ◌≤◌, ◌+◌, Err, IfErr, IfOk, OnErr, OnOk};
-ghost use Rattle.std.specs.String.{string_bytes};
+ghost use Rattle.std.specs.Prelude.{◌≡◌, ◌≤◌, IfErr, IfOk, OnOk};
 ghost use Rattle.result_files.specs.Files.{Files};
 ghost use Rattle.program_edge.specs.Several.{EndsAt, IsEach, IsPartOf, Part as PartOf, Sums};
 ghost use Rattle.program_edge.specs.Streams.{IsCut, IsWritten};
-ghost use Rattle.program_edge.specs.Summaries.{all_of, summary_line};
+ghost use Rattle.program_edge.specs.Summaries.{all_of};
 
 use crate::fault::Fault;
 use crate::named_files::NamedFiles;
@@ -15,7 +14,7 @@ use crate::summary::{
 };
 use crate::told::{Answered, tell};
 use jobs::job::Job;
-use std::alloc::Global;
+use std::alloc::{AllocError, Global};
 use std::io::Write;
 use std::sync::Wait;
 use std::thread::Threads;
@@ -101,7 +100,7 @@ fn sum_up<O: Write, E: Write>(
         record { output = O.contents output.old; errors = E.contents errors.old; files = known }
         record { output = O.contents output.new; errors = E.contents errors.new; files = known } }
 {
-    match line_of(alloc, tally) {
+    match summary_line(alloc, tally) {
         Ok(line) => match write_both(line.as_bytes(), &[], output, errors) {
             Ok(()) => Answered {
                 status: worst_status(tally),
@@ -109,17 +108,8 @@ fn sum_up<O: Write, E: Write>(
             },
             Err(ending) => ending,
         },
-        Err(lack) => tell(&Fault::Serve(lack), output, errors),
+        Err(AllocError) => tell(&Fault::Serve(ServeFault::OutOfMemory), output, errors),
     }
-}
-
-// The line that sums up.
-fn line_of(alloc: Global, tally: ProgramTally) -> Result<String, ServeFault>
-    requires { all_of tally ≤ usize.MAX }
-    ensures line { IfOk result (λ line. string_bytes line ≡ summary_line tally) }
-    ensures memory { OnErr result (result ≡ Err ServeFault.OutOfMemory) }
-{
-    Ok(summary_line(alloc, tally)?)
 }
 
 // Writes to both streams; or how it ends where one of them fails.

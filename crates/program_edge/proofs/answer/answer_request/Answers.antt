@@ -7,12 +7,12 @@ pub returns-in-Ok : goal.returns-in-Ok
 returns-in-Ok g c = record {
   read = result_map_both (λ read. read.texts) (λ unread. unread) c.read_texts.result;
   texts = c.read_texts.ensures.texts;
-  served = rw c.in-Ok.is (rw (← c.in-Ok.ensures.name) c.deliver_of.ensures);
+  ends = rw c.in-Ok.is (rw (← c.in-Ok.ensures.name) c.deliver_of.ensures);
 }
 
 pub returns : goal.returns
 returns g c = record {
   read = result_map_both (λ read. read.texts) (λ unread. unread) c.read_texts.result;
   texts = c.read_texts.ensures.texts;
-  served = rw (c.in-Err.is, ← c.fault_of_file.ensures) (c.tell.ensures, λ _. refl);
+  ends = rw (c.in-Err.is, ← c.fault_of_file.ensures) (c.tell.ensures, λ _. refl);
 }
