@@ -11,17 +11,18 @@ use Rattle.jobs.specs.declared.job.Texts.{Texts}
 use Rattle.report_texts.specs.OutputTexts.{Report}
 use Rattle.verdict_report.specs.JobTexts.{IsReportOf}
 use Rattle.verdict_report.specs.declared.fault.ServeFault.{ServeFault}
-use Rattle.program_edge.specs.Several.{IsJobFor, IsJudged, IsPartOfText, IsPartWith, Part}
+use Rattle.program_edge.specs.declared.part.Part.{Part as Made}
+use Rattle.program_edge.specs.Several.{IsJobFor, IsJudged, IsPartOfText, IsPartWith, Part, seen}
 
 -- the part by the job for the program's own name is that by the job that was asked for
 same_said : (t : Bool) (first own : String Global) (certificate script : Option (String Global)) (warnings : Bool) (format : Format) (colors : Colors) (report : Report) (part : Part)
     → IsPartWith t (Explain own None None warnings format colors) report part → IsPartWith t (Explain first certificate script warnings format colors) report part
 same_said t first own certificate script warnings format colors report part h = record { output = h.output; silent = h.silent; judged = h.judged }
 
-reported : (t : Bool) (asked own : Job) (name : List ℕ) (texts : Texts) (r : Result Part ServeFault) → IsJobFor asked name own
+reported : (t : Bool) (asked own : Job) (name : List ℕ) (texts : Texts) (r : Result Made ServeFault) → IsJobFor asked name own
     → ((report : Report) (part : Part) → IsPartWith t own report part → IsPartWith t asked report part)
-    → IfOk r (λ made. (report : Report) × IsReportOf own texts report × IsPartWith t own report made)
-    → IfOk r (λ made. texts.certificate ≡ [] → texts.script.items ≡ [] → IsJudged t asked name texts.program.items made)
+    → IfOk r (λ made. (report : Report) × IsReportOf own texts report × IsPartWith t own report (seen made))
+    → IfOk r (λ made. texts.certificate ≡ [] → texts.script.items ≡ [] → IsJudged t asked name texts.program.items (seen made))
 reported t asked own name texts (Ok made) for_it same h = λ certificate script. record {
   job = own;
   own = for_it;
@@ -29,16 +30,16 @@ reported t asked own name texts (Ok made) for_it same h = λ certificate script.
   alone = (refl, certificate, script);
   report = h.0;
   right = h.1;
-  said = same h.0 made h.2;
+  said = same h.0 (seen made) h.2;
 }
 reported t asked own name texts (Err fault) for_it same h = tt
 
-pub reported_explained : (t : Bool) (asked : Job) (first own : String Global) (certificate script : Option (String Global)) (warnings : Bool) (format : Format) (colors : Colors) (name : List ℕ) (texts : Texts) (r : Result Part ServeFault)
+pub reported_explained : (t : Bool) (asked : Job) (first own : String Global) (certificate script : Option (String Global)) (warnings : Bool) (format : Format) (colors : Colors) (name : List ℕ) (texts : Texts) (r : Result Made ServeFault)
     → asked ≡ Explain first certificate script warnings format colors → string_bytes own ≡ name
-    → IfOk r (λ made. (report : Report) × IsReportOf (Explain own None None warnings format colors) texts report × IsPartWith t (Explain own None None warnings format colors) report made)
-    → IfOk r (λ made. texts.certificate ≡ [] → texts.script.items ≡ [] → IsJudged t asked name texts.program.items made)
+    → IfOk r (λ made. (report : Report) × IsReportOf (Explain own None None warnings format colors) texts report × IsPartWith t (Explain own None None warnings format colors) report (seen made))
+    → IfOk r (λ made. texts.certificate ≡ [] → texts.script.items ≡ [] → IsJudged t asked name texts.program.items (seen made))
 reported_explained t asked first own certificate script warnings format colors name texts r is named h =
-    subst (λ (job : Job). IfOk r (λ made. texts.certificate ≡ [] → texts.script.items ≡ [] → IsJudged t job name texts.program.items made)) (sym is)
+    subst (λ (job : Job). IfOk r (λ made. texts.certificate ≡ [] → texts.script.items ≡ [] → IsJudged t job name texts.program.items (seen made))) (sym is)
     (reported t (Explain first certificate script warnings format colors) (Explain own None None warnings format colors) name texts r (own, refl, named)
     (λ report part. same_said t first own certificate script warnings format colors report part) h)
 
@@ -55,17 +56,17 @@ job_itself (Run source schedule units workers budget predict emit) name other = 
 job_itself (Curve source units budget predict emit) name other = refl
 job_itself (Demonstrate units steps emit) name other = refl
 
-pub reported_itself : (t : Bool) (asked : Job) (name : List ℕ) (texts : Texts) (r : Result Part ServeFault)
+pub reported_itself : (t : Bool) (asked : Job) (name : List ℕ) (texts : Texts) (r : Result Made ServeFault)
     → ((first : String Global) (certificate script : Option (String Global)) (warnings : Bool) (format : Format) (colors : Colors) → asked ≡ Explain first certificate script warnings format colors → ⊥)
-    → IfOk r (λ made. (report : Report) × IsReportOf asked texts report × IsPartWith t asked report made)
-    → IfOk r (λ made. texts.certificate ≡ [] → texts.script.items ≡ [] → IsJudged t asked name texts.program.items made)
+    → IfOk r (λ made. (report : Report) × IsReportOf asked texts report × IsPartWith t asked report (seen made))
+    → IfOk r (λ made. texts.certificate ≡ [] → texts.script.items ≡ [] → IsJudged t asked name texts.program.items (seen made))
 reported_itself t asked name texts r other h = reported t asked asked name texts r (job_itself asked name other) (λ report part same. same) h
 
 -- a text that is not taken for a certificate is judged
-pub text_judged : (t : Bool) (asked : Job) (name text : List ℕ) (b : Bool) (certificate script : List ℕ) (r : Result Part ServeFault)
+pub text_judged : (t : Bool) (asked : Job) (name text : List ℕ) (b : Bool) (certificate script : List ℕ) (r : Result Made ServeFault)
     → b ≡ false → certificate ≡ [] → script ≡ []
-    → IfOk r (λ made. certificate ≡ [] → script ≡ [] → IsJudged t asked name text made)
-    → IfOk r (λ made. IsPartOfText b t asked name text made)
+    → IfOk r (λ made. certificate ≡ [] → script ≡ [] → IsJudged t asked name text (seen made))
+    → IfOk r (λ made. IsPartOfText b t asked name text (seen made))
 text_judged t asked name text b certificate script (Ok made) is none empty h =
-    subst (λ (x : Bool). IsPartOfText x t asked name text made) (sym is) (h none empty)
+    subst (λ (x : Bool). IsPartOfText x t asked name text (seen made)) (sym is) (h none empty)
 text_judged t asked name text b certificate script (Err fault) is none empty h = tt

@@ -11,6 +11,7 @@ use Rattle.report_texts.specs.OutputTexts.{Report}
 use Rattle.verdict_report.specs.JobTexts.{IsReportOf}
 use Rattle.verdict_report.specs.declared.fault.ServeFault.TheVariants as serve
 use Rattle.program_edge.specs.declared.fault.Fault.TheVariants.{Serve}
+use Rattle.program_edge.specs.declared.part.Part.{Part as Made}
 use Rattle.program_edge.specs.declared.summary.ProgramVerdict.{ProgramVerdict}
 use Rattle.program_edge.specs.declared.summary.ProgramVerdict.TheVariants.{Unjudged}
 use Rattle.program_edge.specs.declared.summary.ProgramTally.{ProgramTally}
@@ -27,6 +28,10 @@ pub record Part : Type 0 where
   pub output : List ℕ
   pub errors : List ℕ
   pub judged : ProgramVerdict
+
+-- a part, as contracts see it
+abbrev pub seen : Made → Part
+seen made = record { output = made.output.items; errors = made.errors.items; judged = made.judged }
 
 -- a program that is not judged, of which this is told
 abbrev pub unjudged : (told : List ℕ) → Part

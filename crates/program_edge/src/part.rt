@@ -3,7 +3,7 @@ ghost use Rattle.std.specs.Prelude.{◌≡◌, [], Err, IfOk, OnErr};
 ghost use Rattle.report_texts.specs.OutputTexts.{Report};
 ghost use Rattle.std.specs.String.{string_bytes};
 ghost use Rattle.verdict_report.specs.JobTexts.{IsReportOf};
-ghost use Rattle.program_edge.specs.Several.{IsAmongOthers, IsJudged, IsPartOf, IsPartOfText, IsPartWith, is_certificate, unjudged};
+ghost use Rattle.program_edge.specs.Several.{IsAmongOthers, IsJudged, IsPartOf, IsPartOfText, IsPartWith, is_certificate, seen, unjudged};
 
 use crate::hint::{explains, hint_for};
 use crate::named_files::NamedFiles;
@@ -15,7 +15,7 @@ use jobs::job::{Job, Texts};
 use shown_names::name::shown_name;
 use shown_names::shell::shell_word;
 use std::alloc::{AllocError, Global};
-use std::marker::{Model, Sync};
+use std::marker::Sync;
 use std::sync::Wait;
 use std::thread::Threads;
 use text_pieces::text::Text;
@@ -32,14 +32,6 @@ pub(crate) struct Part {
     pub judged: ProgramVerdict,
 }
 
-impl Model for Part {
-    ghost use Rattle.program_edge.specs.Several.{Part as Seen};
-
-    ghost Value = { Seen };
-
-    ghost view = { λ p. record { output = p.output.items; errors = p.errors.items; judged = p.judged } };
-}
-
 /// The part of the program of this name, or that memory ran out.
 pub(crate) fn part_of<F: NamedFiles, R: Threads + Wait + Sync>(
     rt: &R,
@@ -49,7 +41,7 @@ pub(crate) fn part_of<F: NamedFiles, R: Threads + Wait + Sync>(
     files: &F,
     is_terminal: bool,
 ) -> Result<Part, ServeFault>
-    ensures part { IfOk result (IsPartOf is_terminal (F.known files.now) job.now name.now) }
+    ensures part { IfOk result (λ part. IsPartOf is_terminal (F.known files.now) job.now name.now (seen part)) }
     ensures memory { OnErr result (result ≡ Err ServeFault.OutOfMemory) }
 {
     match read_file(alloc, files, name, MOST_PROGRAM) {
@@ -68,7 +60,7 @@ fn part_of_text<R: Threads + Wait + Sync>(
     text: Vec<u8>,
     is_terminal: bool,
 ) -> Result<Part, ServeFault>
-    ensures part { IfOk result (IsPartOfText (is_certificate job.now text.items) is_terminal job.now name.now text.items) }
+    ensures part { IfOk result (λ part. IsPartOfText (is_certificate job.now text.items) is_terminal job.now name.now text.items (seen part)) }
     ensures memory { OnErr result (result ≡ Err ServeFault.OutOfMemory) }
 {
     if is_certificate(job, text.as_slice()) {
@@ -100,7 +92,7 @@ fn judged_part<R: Threads + Wait + Sync>(
     is_terminal: bool,
 ) -> Result<Part, ServeFault>
     ensures part { IfOk result (λ part. (texts.now.certificate ≡ []) → (texts.now.script.items ≡ []) →
-        IsJudged is_terminal job.now name.now texts.now.program.items part) }
+        IsJudged is_terminal job.now name.now texts.now.program.items (seen part)) }
     ensures memory { OnErr result (result ≡ Err ServeFault.OutOfMemory) }
 {
     match job {
@@ -134,7 +126,7 @@ fn reported_part<R: Threads + Wait + Sync>(
     is_terminal: bool,
 ) -> Result<Part, ServeFault>
     ensures part { IfOk result (λ part. (report : Report) × IsReportOf job.now texts.now report
-        × IsPartWith is_terminal job.now report part) }
+        × IsPartWith is_terminal job.now report (seen part)) }
     ensures memory { OnErr result (result ≡ Err ServeFault.OutOfMemory) }
 {
     let report = report_of(rt, alloc, job, texts)?;
@@ -174,7 +166,7 @@ fn named_lines(alloc: Global, name: &str, text: &[u8]) -> Result<Vec<u8>, AllocE
 
 // The part of a program that is not judged, of which this is told.
 fn unjudged(alloc: Global, line: String) -> Part
-    ensures { result ≡ unjudged (string_bytes line) }
+    ensures { seen result ≡ unjudged (string_bytes line) }
 {
     Part {
         output: Vec::new(alloc),
