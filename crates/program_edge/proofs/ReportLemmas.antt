@@ -1,5 +1,5 @@
 -- What becomes of a job.
-use Rattle.std.proofs.Common.{◌≡◌, ◌∙◌, ap, subst, sym, inl, refl, ℕ, Bool, false, true, List, [], ◌⊎◌, ◌||◌, append-nil}
+use Rattle.std.proofs.Common.{◌≡◌, ◌∙◌, ap, ap₂, subst, sym, inl, refl, ℕ, Bool, false, true, List, [], ◌⊎◌, ◌||◌, append-nil}
 use Rattle.std.specs.Prelude.{None, Option}
 use Rattle.std.specs.Io.KnownBytes.{Keeps}
 use Rattle.std.specs.declared.alloc.Global.{Global}
@@ -11,8 +11,10 @@ use Rattle.jobs.specs.declared.job.Format.{Format}
 use Rattle.jobs.specs.declared.job.Job.{Job}
 use Rattle.jobs.specs.declared.job.Job.TheVariants.{Seq, Print, Annotate, Explain, Check, Replay, ReplayStrictly, Run, Curve, Demonstrate}
 use Rattle.jobs.specs.declared.job.Texts.{Texts}
+use Rattle.jobs.specs.declared.job.Warnings.{Warnings}
 use Rattle.report_texts.specs.OutputTexts.{Report}
 use Rattle.explain_report.specs.LeftOvers.{IsLeftOver}
+use Rattle.explain_report.specs.declared.left.LeftOver.{LeftOver}
 use Rattle.verdict_report.specs.Delivering.{is_cut}
 use Rattle.verdict_report.specs.JobTexts.{IsDone}
 use Rattle.verdict_report.specs.declared.fault.ServeFault.{ServeFault}
@@ -22,7 +24,7 @@ use Rattle.shown_names.specs.Shown.{shown as shown_name}
 use Rattle.program_edge.specs.declared.fault.Fault.TheVariants.{Serve}
 use Rattle.program_edge.specs.declared.told.Answered.{Answered}
 use Rattle.program_edge.specs.Answering.{IsDelivered, IsFixed, IsNotDone, IsRepairDelivered, IsServed}
-use Rattle.program_edge.specs.Beside.{Audience, IsRest, is_played}
+use Rattle.program_edge.specs.Beside.{Audience, IsRest, is_played, rest_said}
 use Rattle.program_edge.specs.Hints.{IsHint, IsSaid}
 use Rattle.program_edge.specs.Streams.{IsToldAlone, World}
 use Rattle.program_edge.specs.Telling.{IsTold}
@@ -35,7 +37,7 @@ cut_alone false progress watched audience path job texts ending old new is h = h
 cut_alone true progress watched audience path job texts ending old new is h = absurd (cc)
 
 -- a program was explained, and its text with fixes delivered
-pub explained_fixed : (whole progress watched : Bool) (audience : Audience) (path : String Global) (job : Job) (name : String Global) (certificate script : Option (String Global)) (warnings : Bool) (format : Format) (colors : Colors) (texts : Texts) (ending : Answered) (old new : World)
+pub explained_fixed : (whole progress watched : Bool) (audience : Audience) (path : String Global) (job : Job) (name : String Global) (certificate script : Option (String Global)) (warnings : Warnings) (format : Format) (colors : Colors) (texts : Texts) (ending : Answered) (old new : World)
     → whole ≡ true → job ≡ Explain name certificate script warnings format colors
     → IsRepairDelivered watched path certificate script warnings texts ending old new ⊎ IsToldAlone (Serve serve.OutOfMemory) ending old new
     → IsFixed whole progress watched audience path job texts ending old new
@@ -45,18 +47,18 @@ explained_fixed whole progress watched audience path job name certificate script
 
 -- another job is done as ever
 pub other_alone : (whole progress watched : Bool) (audience : Audience) (path : String Global) (job : Job) (texts : Texts) (ending : Answered) (old new : World)
-    → ((name : String Global) (certificate script : Option (String Global)) (warnings : Bool) (format : Format) (colors : Colors) → job ≡ Explain name certificate script warnings format colors → ⊥)
+    → ((name : String Global) (certificate script : Option (String Global)) (warnings : Warnings) (format : Format) (colors : Colors) → job ≡ Explain name certificate script warnings format colors → ⊥)
     → IsServed progress watched audience None job texts ending old new
     → IsFixed whole progress watched audience path job texts ending old new
 other_alone false progress watched audience path job texts ending old new other h = h
 other_alone true progress watched audience path (Explain name certificate script warnings format colors) texts ending old new other h =
     absurd (other name certificate script warnings format colors refl)
 other_alone true progress watched audience path (Seq budget) texts ending old new other h = h
-other_alone true progress watched audience path Print texts ending old new other h = h
+other_alone true progress watched audience path (Print listing) texts ending old new other h = h
 other_alone true progress watched audience path (Annotate emit) texts ending old new other h = h
-other_alone true progress watched audience path (Check source workers) texts ending old new other h = h
+other_alone true progress watched audience path (Check source workers format) texts ending old new other h = h
 other_alone true progress watched audience path (Replay source units emit until) texts ending old new other h = h
-other_alone true progress watched audience path (ReplayStrictly source units) texts ending old new other h = h
+other_alone true progress watched audience path (ReplayStrictly source units complete format) texts ending old new other h = h
 other_alone true progress watched audience path (Run source schedule units workers budget predict emit) texts ending old new other h = h
 other_alone true progress watched audience path (Curve source units budget predict emit) texts ending old new other h = h
 other_alone true progress watched audience path (Demonstrate units steps emit) texts ending old new other h = h
@@ -67,9 +69,9 @@ played_leaves (Replay source units emit until) program name written h = refl
 played_leaves (Annotate emit) program name written h = absurd (cc)
 played_leaves (Explain own certificate script warnings format colors) program name written h = absurd (cc)
 played_leaves (Seq budget) program name written h = absurd (cc)
-played_leaves Print program name written h = absurd (cc)
-played_leaves (Check source workers) program name written h = absurd (cc)
-played_leaves (ReplayStrictly source units) program name written h = absurd (cc)
+played_leaves (Print listing) program name written h = absurd (cc)
+played_leaves (Check source workers format) program name written h = absurd (cc)
+played_leaves (ReplayStrictly source units complete format) program name written h = absurd (cc)
 played_leaves (Run source schedule units workers budget predict emit) program name written h = absurd (cc)
 played_leaves (Curve source units budget predict emit) program name written h = absurd (cc)
 played_leaves (Demonstrate units steps emit) program name written h = absurd (cc)
@@ -111,3 +113,20 @@ not_done job texts fault ending old new is told same = record {
   told = told;
   files = same;
 }
+
+abbrev report_of : List ℕ → ℕ → Report
+report_of bytes status = record { bytes = bytes; status = status }
+
+-- someone hears of what is left
+pub rest_told : (heard asked : Bool) (job : Job) (program program' own name bytes : List ℕ) (status : ℕ) (written : Report) (left : Option LeftOver) (said : List ℕ)
+    → heard ≡ true → program' ≡ program → name ≡ shown_name own → bytes ≡ written.bytes → status ≡ written.status
+    → IsLeftOver job program' name (report_of bytes status) left → said ≡ rest_said asked left
+    → IsRest heard asked job program own written said
+rest_told heard asked job program program' own name bytes status written left said is text named same ended over told =
+    subst (λ (b : Bool). IsRest b asked job program own written said) (sym is) (
+      left,
+      subst (λ (l : List ℕ). IsLeftOver job l (shown_name own) written left) text
+          (subst (λ (l : List ℕ). IsLeftOver job program' l written left) named
+          (subst (λ (r : Report). IsLeftOver job program' name r left) (ap₂ report_of same ended) over)),
+      told,
+    )

@@ -91,7 +91,7 @@ ends_at t known job names i name parts ending old between new h is each written 
 -- no program is left
 pub sums_up : (t : Bool) (known : List ℕ → Known) (job : Job) (names : List (String Global)) (i : ℕ) (parts : List Part) (tally : ProgramTally) (ending : Answered) (old between new : World)
     → length names ≤ i → ArePartsOf t known job (take i names) parts → tally ≡ tally_of_parts parts
-    → IsWritten (outputs_of parts) (errors_of parts) old between → Sums tally ending between new
+    → IsWritten (outputs_of parts) (errors_of parts) old between → Sums job tally ending between new
     → IsEach t known job names ending old new
 sums_up t known job names i parts tally ending old between new h each is written sums = record {
   done = names;
@@ -101,7 +101,7 @@ sums_up t known job names i parts tally ending old between new h each is written
   each = subst (λ l. ArePartsOf t known job l parts) (take_all i names h) each;
   between = between;
   written = written;
-  ends = subst (λ x. Sums x ending between new) is sums;
+  ends = subst (λ x. Sums job x ending between new) is sums;
 }
 
 -- memory ran out before the first

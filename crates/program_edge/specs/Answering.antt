@@ -8,6 +8,7 @@ use Rattle.std.specs.declared.alloc.Global.{Global}
 use Rattle.jobs.specs.declared.job.Job.{Job}
 use Rattle.jobs.specs.declared.job.Job.TheVariants.{Explain}
 use Rattle.jobs.specs.declared.job.Texts.{Texts}
+use Rattle.jobs.specs.declared.job.Warnings.{Warnings}
 use Rattle.command_line.specs.declared.request.Request.{Request}
 use Rattle.report_texts.specs.OutputTexts.{Report}
 use Rattle.explain_report.specs.declared.repaired.Repaired.{Repaired}
@@ -30,7 +31,7 @@ use Rattle.program_edge.specs.Hints.{IsSaid}
 use Rattle.program_edge.specs.Refusals.{is_refusal}
 use Rattle.program_edge.specs.Several.{IsEach}
 use Rattle.program_edge.specs.Streams.{IsBroken, IsToldAlone, World}
-use Rattle.program_edge.specs.Telling.{IsTold, unread_fault}
+use Rattle.program_edge.specs.Telling.{IsTold, told_as, unread_fault}
 
 -- the job was not done: before the fault is reported, after Write and PartWritten a beginning of its report was written,
 -- after another fault nothing
@@ -104,7 +105,7 @@ pub record IsServed (progress watched : Bool) (audience : Audience) (place : Opt
 
 -- a program was explained: a file took its text with fixes; then standard output took what is said of the text as it was,
 -- and standard error how many fixes there are
-pub record IsRepairDelivered (watched : Bool) (path : String Global) (certificate script : Option (String Global)) (warnings : Bool) (texts : Texts) (ending : Answered) (old new : World) : Type 0 where
+pub record IsRepairDelivered (watched : Bool) (path : String Global) (certificate script : Option (String Global)) (warnings : Warnings) (texts : Texts) (ending : Answered) (old new : World) : Type 0 where
   pub repaired : Repaired
   pub right : IsRepaired (option_map string_bytes certificate) (option_map string_bytes script) warnings texts.program.items texts.certificate texts.script.items repaired
   pub delivery : IsDelivery watched (Some path) repaired.text repaired.said.items repaired.line.items repaired.status ending old new
@@ -148,7 +149,7 @@ IsAnsweredFor watched is_terminal known request (name ∷ names) ending old new 
 abbrev pub IsAnswered : (watched is_terminal : Bool) → (known : List ℕ → Known) → (asked : Result Request Fault) → Answered → World → World → Type 0
 IsAnswered watched is_terminal known (Ok request) ending old new =
     IsAnsweredFor watched is_terminal known request request.further.items ending old new
-IsAnswered watched is_terminal known (Err fault) ending old new = IsToldAlone fault ending old new
+IsAnswered watched is_terminal known (Err fault) ending old new = IsToldAlone (told_as is_terminal fault) ending old new
 
 -- a run of the program on words and files of which this is known; `watched` says whether it is known what the
 -- files that it writes hold, and `is_terminal` whether standard error is a terminal

@@ -4,10 +4,12 @@ use Rattle.std.specs.Prelude.{◌≡◌, ℕ, Bool, Option, true, false, [], ◌
 use Rattle.std.proofs.Common.{refl}
 use Rattle.program_edge.specs.declared.fault.Fault.TheVariants.{InputTwice}
 use Rattle.jobs.specs.declared.job.CertificateSource.TheVariants.{Least}
+use Rattle.jobs.specs.declared.job.CheckFormat.{CheckFormat}
 use Rattle.jobs.specs.declared.job.Colors.{Colors}
 use Rattle.jobs.specs.declared.job.Format.{Format}
 use Rattle.jobs.specs.declared.job.Job.{Job}
 use Rattle.jobs.specs.declared.job.Job.TheVariants.{Check, Explain, Print, Seq}
+use Rattle.jobs.specs.declared.job.Warnings.{Warnings}
 use Rattle.std.specs.declared.string.String.{String}
 use Rattle.std.specs.declared.alloc.Global.{Global}
 use Rattle.explain_report.specs.declared.left.LeftOver.{LeftOver}
@@ -46,14 +48,14 @@ pub input_twice : said_of InputTwice ≡ Some (codes "multiscalar: 5 InputTwice:
 input_twice = refl
 
 -- a refused program gives `print` no result, and `check` one
-pub refused : is_refusal Print 1 (codes "program refused: 4 Mnemonic line 1" ++ 10 ∷ []) ≡ true
+pub refused : is_refusal (Print false) 1 (codes "program refused: 4 Mnemonic line 1" ++ 10 ∷ []) ≡ true
 refused = refl
 
-pub judged : (workers : ℕ) → is_refusal (Check Least workers) 1 (codes "program refused: 4 Mnemonic line 1" ++ 10 ∷ []) ≡ false
-judged workers = refl
+pub judged : (workers : ℕ) (format : CheckFormat) → is_refusal (Check Least workers format) 1 (codes "program refused: 4 Mnemonic line 1" ++ 10 ∷ []) ≡ false
+judged workers format = refl
 
 -- the number of findings stands in the last line
-pub findings : is_refusal Print 1 (codes "A 0 rule 5 $8" ++ (10 ∷ (codes "refused 1" ++ 10 ∷ []))) ≡ true
+pub findings : is_refusal (Print false) 1 (codes "A 0 rule 5 $8" ++ (10 ∷ (codes "refused 1" ++ 10 ∷ []))) ≡ true
 findings = refl
 
 -- a run that trapped is a result
@@ -61,7 +63,7 @@ pub trapped : (budget : ℕ) → is_refusal (Seq budget) 1 (codes "10" ++ (10 �
 trapped budget = refl
 
 -- only a terminal hears of a refused program, and of none that halts
-pub heard : is_heard true Print 1 ≡ true
+pub heard : is_heard true (Print false) 1 ≡ true
 heard = refl
 
 pub no_terminal : (job : Job) (status : ℕ) → is_heard false job status ≡ false
@@ -71,7 +73,7 @@ pub halted : (budget : ℕ) → is_heard true (Seq budget) 0 ≡ false
 halted budget = refl
 
 -- `explain` says all itself
-pub explained : (name : String Global) (certificate script : Option (String Global)) (warnings : Bool) (format : Format) (colors : Colors)
+pub explained : (name : String Global) (certificate script : Option (String Global)) (warnings : Warnings) (format : Format) (colors : Colors)
     → is_heard true (Explain name certificate script warnings format colors) 1 ≡ false
 explained name certificate script warnings format colors = refl
 

@@ -4,6 +4,8 @@ use Rattle.std.specs.List.{starts_with}
 use Rattle.std.specs.String.{string_bytes}
 use Rattle.std.specs.declared.alloc.Global.{Global}
 use Rattle.std.specs.declared.string.String.{String}
+use Rattle.jobs.specs.declared.job.CheckFormat.TheVariants.{Text as Lines, Json as Objects}
+use Rattle.jobs.specs.declared.job.Format.TheVariants.{Sarif, Json}
 use Rattle.jobs.specs.declared.job.Job.{Job}
 use Rattle.jobs.specs.declared.job.Job.TheVariants.{Explain, Check}
 use Rattle.jobs.specs.declared.job.Texts.{Texts}
@@ -40,9 +42,10 @@ unjudged told = record { output = []; errors = told; judged = Unjudged }
 abbrev pub IsUnjudged : Part → Type 0
 IsUnjudged part = (told : List ℕ) × (part ≡ unjudged told)
 
--- how a report is told among others: how the lines of `check` name their file is tested
+-- how a report is told among others: what a log has of it comes last; how the lines of `check` name their file is tested
 abbrev pub IsAmongOthers : Job → (text said : List ℕ) → Type 0
-IsAmongOthers (Check source workers) text said = ⊤
+IsAmongOthers (Check source workers Lines) text said = ⊤
+IsAmongOthers (Explain first certificate script warnings Sarif colors) text said = said ≡ []
 IsAmongOthers _ text said = said ≡ text
 
 -- `explain` takes no text for a program that begins as a certificate does
@@ -108,24 +111,30 @@ tally_of_parts parts = tally_of (map (λ part. part.judged) parts)
 abbrev pub IsOutOfMemory : Answered → World → World → Type 0
 IsOutOfMemory ending old new = IsToldAlone (Serve serve.OutOfMemory) ending old new
 
--- the summary is the last line, and the status the worst of all
-abbrev pub IsSummedUp : ProgramTally → (line : List ℕ) → Answered → World → World → Type 0
-IsSummedUp tally line ending old new =
-    (ending ≡ record { status = worst_status tally; is_told = true }) × IsWritten line [] old new
+-- what comes last: nothing after objects, else a log of all programs or the summary, whose text is tested
+abbrev pub IsLast : Job → (last : List ℕ) → Type 0
+IsLast (Explain first certificate script warnings Json colors) last = last ≡ []
+IsLast (Check source workers Objects) last = last ≡ []
+IsLast _ last = ⊤
+
+-- it was written, and the status is the worst of all
+abbrev pub IsSummedUp : ProgramTally → (last : List ℕ) → Answered → World → World → Type 0
+IsSummedUp tally last ending old new =
+    (ending ≡ record { status = worst_status tally; is_told = true }) × IsWritten last [] old new
 
 -- it ended at this program: memory ran out, or a stream did not take its part
 abbrev pub EndsAt : (is_terminal : Bool) → (known : List ℕ → Known) → (asked : Job) → (name : List ℕ) → Answered → World → World → Type 0
 EndsAt is_terminal known asked name ending old new = IsOutOfMemory ending old new
     ⊎ ((part : Part) × IsPartOf is_terminal known asked name part × IsCut part.output part.errors ending old new)
 
--- the last line was to be the summary
-abbrev pub Sums : ProgramTally → Answered → World → World → Type 0
-Sums tally ending old new = IsOutOfMemory ending old new
-    ⊎ ((line : List ℕ) × (IsSummedUp tally line ending old new ⊎ IsCut line [] ending old new))
+-- what comes last was to be written
+abbrev pub Sums : (asked : Job) → ProgramTally → Answered → World → World → Type 0
+Sums asked tally ending old new = IsOutOfMemory ending old new
+    ⊎ ((last : List ℕ) × IsLast asked last × (IsSummedUp tally last ending old new ⊎ IsCut last [] ending old new))
 
 -- the end, after programs with this tally, where these are left: with the summary, if nothing fails
 abbrev pub Ends : (is_terminal : Bool) → (known : List ℕ → Known) → (asked : Job) → (left : List (String Global)) → ProgramTally → Answered → World → World → Type 0
-Ends is_terminal known asked [] tally ending old new = Sums tally ending old new
+Ends is_terminal known asked [] tally ending old new = Sums asked tally ending old new
 Ends is_terminal known asked (name ∷ names) tally ending old new = EndsAt is_terminal known asked (string_bytes name) ending old new
 
 -- the programs of these names had their turn, from the first on, as far as nothing ended it

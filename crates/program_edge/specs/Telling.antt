@@ -4,7 +4,7 @@ use Rattle.std.specs.Io.KnownBytes.{Appends, Keeps}
 use Rattle.std.specs.Str.{bytes_eq}
 use Rattle.std.specs.String.{string_bytes}
 use Rattle.program_edge.specs.declared.fault.Fault.{Fault}
-use Rattle.program_edge.specs.declared.fault.Fault.TheVariants.{Help, Words, NoText, Predict, Emit, OutOfMemory, InputTwice, File, Explained, NoProgram, Serve}
+use Rattle.program_edge.specs.declared.fault.Fault.TheVariants.{Help, Words, NoText, Predict, Emit, PredictValues, EmitValues, OutOfMemory, InputTwice, File, Explained, NoProgram, Serve}
 use Rattle.program_edge.specs.declared.unread.Unread.{Unread}
 use Rattle.jobs.specs.declared.job.Job.{Job}
 use Rattle.jobs.specs.declared.job.Job.TheVariants.{Check, Explain}
@@ -38,7 +38,9 @@ said_of (Help usage) = Some (string_bytes usage.text)
 said_of (Words usage) = Some (string_bytes usage.text)
 said_of NoText = Some (line (codes "1 Words"))
 said_of Predict = Some (line (codes "2 Predict"))
+said_of PredictValues = Some (line (codes "2 Predict: the value of --predict is first, last, or 1 to 64 numbers 0 to 15 separated by commas, as in 1,0"))
 said_of Emit = Some (line (codes "3 Emit"))
+said_of EmitValues = Some (line (codes "3 Emit: the value of --emit is text, cert, keep or marks"))
 said_of OutOfMemory = Some (line (codes "4 OutOfMemory"))
 said_of InputTwice = Some (line (codes "5 InputTwice: only one file can be - (standard input)"))
 said_of (Serve fault) = Some (line (serve_fault_text fault))
@@ -64,8 +66,14 @@ IsTold fault status is_told output output' errors errors' =
 abbrev pub unread_fault : Job → Unread → Fault
 unread_fault (Explain name certificate script warnings format colors) unread =
     if bytes_eq (string_bytes unread.path) (string_bytes name) then NoProgram unread else Explained unread
-unread_fault (Check Least workers) unread = NoProgram unread
+unread_fault (Check Least workers format) unread = NoProgram unread
 unread_fault _ unread = File unread.path
+
+-- a terminal hears which values there are
+abbrev pub told_as : (is_terminal : Bool) → Fault → Fault
+told_as true Predict = PredictValues
+told_as true Emit = EmitValues
+told_as _ fault = fault
 
 -- the fault of the words: of `clap`'s own faults the text that is made of it
 abbrev pub IsFaultOf : UsageFault → Fault → Type 0

@@ -4,7 +4,7 @@ ghost use Rattle.result_files.specs.Files.{Files};
 ghost use Rattle.program_edge.specs.Answering.{IsAnswered, IsDelivered, IsDelivery, IsFiled, IsFixed, IsNotDone, IsRead, IsServed, IsUnfiled, is_whole, place_of, said_at};
 ghost use Rattle.program_edge.specs.Beside.{is_played};
 ghost use Rattle.program_edge.specs.Several.{IsEach};
-ghost use Rattle.program_edge.specs.Telling.{unread_fault};
+ghost use Rattle.program_edge.specs.Telling.{told_as, unread_fault};
 ghost use Rattle.verdict_report.specs.JobTexts.{IsReportOf};
 
 use crate::each::answer_each;
@@ -63,7 +63,21 @@ pub fn answer_reader<F: NamedFiles, D: Folder, O: Write, E: Write, R: Threads + 
             is_terminal,
         ),
         Ok(request) => answer_several(rt, alloc, request, files, output, errors, is_terminal),
-        Err(fault) => tell(&fault, output, errors),
+        Err(fault) => tell(&told_as(is_terminal, fault), output, errors),
+    }
+}
+
+// The fault that is told: a terminal hears which values there are.
+fn told_as(is_terminal: bool, fault: Fault) -> Fault
+    ensures { result ≡ told_as is_terminal fault }
+{
+    if !is_terminal {
+        return fault;
+    }
+    match fault {
+        Fault::Predict => Fault::PredictValues,
+        Fault::Emit => Fault::EmitValues,
+        other => other,
     }
 }
 

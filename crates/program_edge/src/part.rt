@@ -1,9 +1,11 @@
 //! The part of one of several programs on the two streams.
-ghost use Rattle.std.specs.Prelude.{◌≡◌, [], Err, IfOk, OnErr};
+ghost use Rattle.std.specs.Prelude.{◌≡◌, [], None, Err, IfOk, OnErr};
+ghost use Rattle.explain_report.specs.ExplainText.{IsExplainReport};
 ghost use Rattle.report_texts.specs.OutputTexts.{Report};
 ghost use Rattle.std.specs.String.{string_bytes};
 ghost use Rattle.verdict_report.specs.JobTexts.{IsReportOf};
 ghost use Rattle.program_edge.specs.Several.{IsAmongOthers, IsJudged, IsPartOf, IsPartOfText, IsPartWith, is_certificate, seen, unjudged};
+ghost use Rattle.program_edge.specs.Summaries.{judged_by};
 
 use crate::hint::{explains, hint_for};
 use crate::named_files::NamedFiles;
@@ -11,7 +13,8 @@ use crate::reports::report_of;
 use crate::summary::{ProgramVerdict, judged_by};
 use crate::texts::{MOST_PROGRAM, read_file};
 use crate::unread::UnreadReason;
-use jobs::job::{Job, Texts};
+use explain_report::logging::{LoggedProgram, add_program};
+use jobs::job::{CheckFormat, Format, Job, Texts, Warnings};
 use shown_names::name::shown_name;
 use shown_names::shell::shell_word;
 use std::alloc::{AllocError, Global};
@@ -40,12 +43,13 @@ pub(crate) fn part_of<F: NamedFiles, R: Threads + Wait + Sync>(
     name: &str,
     files: &F,
     is_terminal: bool,
+    log: &mut Vec<LoggedProgram>,
 ) -> Result<Part, ServeFault>
     ensures part { IfOk result (λ part. IsPartOf is_terminal (F.known files.now) job.now name.now (seen part)) }
     ensures memory { OnErr result (result ≡ Err ServeFault.OutOfMemory) }
 {
     match read_file(alloc, files, name, MOST_PROGRAM) {
-        Ok(text) => part_of_text(rt, alloc, job, name, text, is_terminal),
+        Ok(text) => part_of_text(rt, alloc, job, name, text, is_terminal, log),
         Err(UnreadReason::OutOfMemory) => Err(ServeFault::OutOfMemory),
         Err(reason) => Ok(unjudged(alloc, unread_line(alloc, name, reason)?)),
     }
@@ -59,6 +63,7 @@ fn part_of_text<R: Threads + Wait + Sync>(
     name: &str,
     text: Vec<u8>,
     is_terminal: bool,
+    log: &mut Vec<LoggedProgram>,
 ) -> Result<Part, ServeFault>
     ensures part { IfOk result (λ part. IsPartOfText (is_certificate job.now text.items) is_terminal job.now name.now text.items (seen part)) }
     ensures memory { OnErr result (result ≡ Err ServeFault.OutOfMemory) }
@@ -67,12 +72,12 @@ fn part_of_text<R: Threads + Wait + Sync>(
         return Ok(unjudged(alloc, certificate_line(alloc, name)?));
     }
     let texts = Texts {
-        name: String::new(alloc),
+        name: String::from_str(alloc, name)?,
         program: text,
         certificate: Text::new(alloc, Vec::new(alloc)),
         script: Vec::new(alloc),
     };
-    judged_part(rt, alloc, job, name, &texts, is_terminal)
+    judged_part(rt, alloc, job, name, &texts, is_terminal, log)
 }
 
 // Whether the job takes this text for a certificate.
@@ -90,6 +95,7 @@ fn judged_part<R: Threads + Wait + Sync>(
     name: &str,
     texts: &Texts,
     is_terminal: bool,
+    log: &mut Vec<LoggedProgram>,
 ) -> Result<Part, ServeFault>
     ensures part { IfOk result (λ part. (texts.now.certificate ≡ []) → (texts.now.script.items ≡ []) →
         IsJudged is_terminal job.now name.now texts.now.program.items (seen part)) }
@@ -110,7 +116,12 @@ fn judged_part<R: Threads + Wait + Sync>(
                 format: *format,
                 colors: *colors,
             };
-            reported_part(rt, alloc, &own, name, texts, is_terminal)
+            match format {
+                Format::Sarif => logged_part(alloc, *warnings, name, texts, log),
+                Format::Text | Format::Json => {
+                    reported_part(rt, alloc, &own, name, texts, is_terminal)
+                }
+            }
         }
         _ => reported_part(rt, alloc, job, name, texts, is_terminal),
     }
@@ -130,20 +141,49 @@ fn reported_part<R: Threads + Wait + Sync>(
     ensures memory { OnErr result (result ≡ Err ServeFault.OutOfMemory) }
 {
     let report = report_of(rt, alloc, job, texts)?;
+    let program = texts.program.as_slice();
     let (bytes, status) = (report.bytes(), report.status());
     Ok(Part {
         output: among_others(alloc, job, name, bytes)?,
-        errors: hint_for(alloc, is_terminal, job, name, status, bytes)?,
+        errors: hint_for(alloc, is_terminal, job, name, program, status, bytes)?,
         judged: judged_by(status),
     })
 }
 
-// How a report is told among others: the lines of `check` get their file's name.
+// The part of a program that a log has.
+fn logged_part(
+    alloc: Global,
+    warnings: Warnings,
+    name: &str,
+    texts: &Texts,
+    log: &mut Vec<LoggedProgram>,
+) -> Result<Part, ServeFault>
+    ensures part { IfOk result (λ part. (report : Report)
+        × IsExplainReport None None warnings texts.now.program.items texts.now.certificate texts.now.script.items report
+        × (seen part ≡ record { output = []; errors = []; judged = judged_by report.status })) }
+    ensures memory { OnErr result (result ≡ Err ServeFault.OutOfMemory) }
+{
+    let status = add_program(alloc, log, warnings, name, texts)?;
+    Ok(Part {
+        output: Vec::new(alloc),
+        errors: Vec::new(alloc),
+        judged: judged_by(status),
+    })
+}
+
+// How a report is told among others: the lines of `check` get their file's name, and objects have it.
 fn among_others(alloc: Global, job: &Job, name: &str, text: &[u8]) -> Result<Vec<u8>, AllocError>
     ensures { IfOk result (λ said. IsAmongOthers job.now text.now said.items) }
 {
     match job {
-        Job::Check { .. } => named_lines(alloc, name, text),
+        Job::Check {
+            format: CheckFormat::Text,
+            ..
+        } => named_lines(alloc, name, text),
+        Job::Explain {
+            format: Format::Sarif,
+            ..
+        } => Ok(Vec::new(alloc)),
         _ => text.to_vec(alloc),
     }
 }

@@ -70,8 +70,9 @@ pub(crate) fn told_beside(
     ensures { IfOk result (λ told. IsBeside reader.now job.now texts.now.program.items report.now told.items) }
 {
     let name = reader.name.as_str();
-    let bytes = report.bytes();
-    let mut hint = hint_for(alloc, reader.is_terminal, job, name, report.status(), bytes)?;
+    let program = texts.program.as_slice();
+    let (bytes, status) = (report.bytes(), report.status());
+    let mut hint = hint_for(alloc, reader.is_terminal, job, name, program, status, bytes)?;
     let rest = rest_of(alloc, job, texts, reader, report)?;
     hint.extend_from_slice(rest.as_slice())?;
     Ok(hint)
@@ -111,8 +112,9 @@ pub(crate) fn hint_unkept<R: Threads + Wait + Sync>(
         return Vec::new(alloc);
     };
     let name = reader.name.as_str();
+    let program = texts.program.as_slice();
     let bytes = report.bytes();
-    match hint_for(alloc, reader.is_terminal, job, name, status, bytes) {
+    match hint_for(alloc, reader.is_terminal, job, name, program, status, bytes) {
         Ok(hint) => hint,
         Err(AllocError) => Vec::new(alloc),
     }

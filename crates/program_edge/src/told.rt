@@ -61,6 +61,15 @@ fn write_fault<W: Write>(fault: &Fault, writer: &mut W) -> io::Result<()>
         Fault::NoText => write_line("1 Words", writer),
         Fault::Predict => write_line("2 Predict", writer),
         Fault::Emit => write_line("3 Emit", writer),
+        Fault::PredictValues => {
+            let name =
+                "2 Predict: the value of --predict is first, last, or 1 to 64 numbers 0 to 15 separated by commas, as in 1,0";
+            write_line(name, writer)
+        }
+        Fault::EmitValues => {
+            let name = "3 Emit: the value of --emit is text, cert, keep or marks";
+            write_line(name, writer)
+        }
         Fault::OutOfMemory => write_line("4 OutOfMemory", writer),
         Fault::InputTwice => {
             let name = "5 InputTwice: only one file can be - (standard input)";
