@@ -15,6 +15,7 @@ use Rattle.report_texts.specs.OutputTexts.{Report}
 use Rattle.verdict_report.specs.JobTexts.{IsReportOf}
 use Rattle.verdict_report.specs.declared.fault.ServeFault.{ServeFault}
 use Rattle.program_edge.specs.declared.part.Part.{Part as Made}
+use Rattle.program_edge.specs.declared.summary.ProgramVerdict.{ProgramVerdict}
 use Rattle.program_edge.specs.Several.{IsJobFor, IsJudged, IsPartOfText, IsPartWith, Part, seen}
 use Rattle.program_edge.specs.Summaries.{judged_by}
 
@@ -67,6 +68,15 @@ pub reported_itself : (t : Bool) (asked : Job) (name : List ℕ) (texts : Texts)
     → IfOk r (λ made. (report : Report) × IsReportOf asked texts report × IsPartWith t asked report (seen made))
     → IfOk r (λ made. texts.certificate ≡ [] → texts.script.items ≡ [] → IsJudged t asked name texts.program.items (seen made))
 reported_itself t asked name texts r other h = reported t asked asked name texts r (job_itself asked name other) (λ report part same. same) h
+
+-- neither stream gets anything of a program that a log has
+abbrev part_with : (output errors : List ℕ) → ProgramVerdict → Part
+part_with output errors judged = record { output = output; errors = errors; judged = judged }
+
+pub silent_part : (output errors : List ℕ) (judged : ProgramVerdict) (status : ℕ) → output ≡ [] → errors ≡ [] → judged ≡ judged_by status
+    → part_with output errors judged ≡ part_with [] [] (judged_by status)
+silent_part output errors judged status p q r = ap (λ (l : List ℕ). part_with l errors judged) p
+    ∙ ap (λ (l : List ℕ). part_with [] l judged) q ∙ ap (λ (j : ProgramVerdict). part_with [] [] j) r
 
 -- a program that a log has
 pub logged : (t : Bool) (asked : Job) (first own : String Global) (certificate script : Option (String Global)) (warnings : Warnings) (format : Format) (colors : Colors) (name : List ℕ) (texts : Texts) (r : Result Made ServeFault)
