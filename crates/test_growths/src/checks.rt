@@ -1,92 +1,40 @@
-//! Certificates, and the checks of one worker and of several.
+//! The checks of one worker and of several, and files that are fetched.
 
 use crate::given::{Given, Runtime, TRIES};
 use crate::notes::Notes;
 use crate::watch::Watch;
 use mark_checker::check::{check_task, verdict};
-use mask_certificate::certificate::Cert;
-use mask_certificate::fault::CertFault;
-use mask_certificate::reading::read;
-use mask_certificate::writing::write;
 use parallel_check::checking::{accepts_shared, verdict_shared};
 use parallel_check::fault::ShareFault;
 use parallel_check::gate::Open as OpenCheck;
-use task_descriptor::program::Program;
+use text_pieces::serial::{FetchFault, fetch};
 
-/// A call on a program and its certificate by one worker.
-#[derive(Clone, Copy)]
-pub(crate) enum OfPair {
-    Write,
-    CheckTask,
-    Verdict,
+pub(crate) fn fetches(given: &Given<'_>) -> Option<()> {
+    let bytes = given.tried(
+        || fetch(
+            given.alloc(),
+            &mut given.certificate.as_slice(),
+            134_217_728,
+        ),
+        |fault| *fault == FetchFault::OutOfMemory,
+    )?;
+    given.shows(&bytes)
 }
 
-/// Makes a call on the program and its certificate until it is not refused.
-pub(crate) fn of_pair(given: &Given<'_>, call: OfPair) -> Option<()> {
+pub(crate) fn checks_task(given: &Given<'_>) -> Option<()> {
     let (program, cert) = given.pair()?;
-    for _ in 0..TRIES {
-        if once(given, &program, &cert, call) {
-            return Some(());
-        }
-    }
-    None
+    let found = given.tried(|| check_task(given.alloc(), &program, &cert, 0), |_| true)?;
+    let mut notes = Notes::new(given.alloc());
+    write!(notes, "{found:?}");
+    given.shows_notes(&notes)
 }
 
-// Makes the call once, and tells whether it answered.
-fn once(given: &Given<'_>, program: &Program, cert: &Cert, call: OfPair) -> bool {
-    match call {
-        OfPair::Write => writes_certificate(given, program, cert),
-        OfPair::CheckTask => checks_task(given, program, cert),
-        OfPair::Verdict => checks(given, program, cert),
-    }
-}
-
-pub(crate) fn reads_certificate(given: &Given<'_>, program: &Program) -> bool {
-    given.begins();
-    let answer = read(given.alloc(), &given.certificate, program);
-    given.ends();
-    match answer {
-        Ok(cert) => given.shows_certificate(&cert, program).is_some(),
-        Err(fault) => given.refused_once(fault == CertFault::OutOfMemory),
-    }
-}
-
-fn writes_certificate(given: &Given<'_>, program: &Program, cert: &Cert) -> bool {
-    given.begins();
-    let answer = write(given.alloc(), cert, program);
-    given.ends();
-    match answer {
-        Ok(text) => given.shows(&text).is_some(),
-        Err(_) => given.refused_once(true),
-    }
-}
-
-fn checks_task(given: &Given<'_>, program: &Program, cert: &Cert) -> bool {
-    given.begins();
-    let answer = check_task(given.alloc(), program, cert, 0);
-    given.ends();
-    match answer {
-        Ok(found) => {
-            let mut notes = Notes::new(given.alloc());
-            write!(notes, "{found:?}");
-            given.shows_notes(&notes).is_some()
-        }
-        Err(_) => given.refused_once(true),
-    }
-}
-
-fn checks(given: &Given<'_>, program: &Program, cert: &Cert) -> bool {
-    given.begins();
-    let answer = verdict(given.alloc(), program, cert);
-    given.ends();
-    match answer {
-        Ok(verdict) => {
-            let mut notes = Notes::new(given.alloc());
-            write!(notes, "{verdict:?}");
-            given.shows_notes(&notes).is_some()
-        }
-        Err(_) => given.refused_once(true),
-    }
+pub(crate) fn checks(given: &Given<'_>) -> Option<()> {
+    let (program, cert) = given.pair()?;
+    let found = given.tried(|| verdict(given.alloc(), &program, &cert), |_| true)?;
+    let mut notes = Notes::new(given.alloc());
+    write!(notes, "{found:?}");
+    given.shows_notes(&notes)
 }
 
 pub(crate) fn checks_shared(given: &Given<'_>, rt: &impl Runtime) -> Option<()> {

@@ -67,10 +67,25 @@ impl Given<'_> {
         });
     }
 
-    /// Reports a refusal after which the call is made again; the answer is that there was none yet.
-    pub(crate) fn refused_once(&self, is_memory: bool) -> bool {
-        self.refused(is_memory, true);
-        false
+    /// Makes a call that keeps nothing until it is not refused; what it answers. Faults other than want of memory are told.
+    pub(crate) fn tried<T, E: Drop, F: FnMut() -> Result<T, E>, M: Fn(&E) -> bool>(
+        &self,
+        mut call: F,
+        is_memory: M,
+    ) -> Option<T>
+        requires call { F.IsAlwaysCallable call }
+        requires fault { M.IsAlwaysCallable is_memory }
+    {
+        for _ in 0..TRIES {
+            self.begins();
+            let answer = call();
+            self.ends();
+            match answer {
+                Ok(answer) => return Some(answer),
+                Err(fault) => self.refused(is_memory(&fault), true),
+            }
+        }
+        None
     }
 
     pub(crate) fn shows(&self, bytes: &[u8]) -> Option<()> {

@@ -9,7 +9,6 @@
 
 mod bursts;
 mod checks;
-mod files;
 mod given;
 mod machines;
 mod notes;
@@ -19,30 +18,28 @@ mod runs;
 mod units;
 mod watch;
 
-use crate::checks::{OfPair, of_pair};
 use crate::given::{Given, Runtime};
 use crate::machines::{OfMachine, of_machine};
-use crate::programs::{OfProgram, of_program};
 use std::io::Read;
 use std::process::ExitCode;
 use std::{env, fs};
 
 fn made(given: &Given<'_>, rt: &impl Runtime, call: &str) -> Option<()> {
     match call {
-        "Memory::new" => of_program(given, OfProgram::NewMemory),
+        "Memory::new" => plain::makes_memory(given),
         "Plain::new" => plain::makes_plain_of_code(given),
         "Plain::step" => plain::steps_plain(given),
         "Plain::run" => plain::runs_plain(given),
-        "Program::plain" => of_program(given, OfProgram::Plain),
+        "Program::plain" => plain::makes_plain(given),
         "assemble" => programs::assembles(given),
-        "print" => of_program(given, OfProgram::Print),
-        "members" => of_program(given, OfProgram::Members),
+        "print" => programs::prints(given),
+        "members" => programs::finds_members(given),
         "propose" => programs::proposes(given),
-        "certify" => of_program(given, OfProgram::Certify),
-        "certificate read" => of_program(given, OfProgram::ReadCertificate),
-        "certificate write" => of_pair(given, OfPair::Write),
-        "check_task" => of_pair(given, OfPair::CheckTask),
-        "verdict" => of_pair(given, OfPair::Verdict),
+        "certify" => programs::certifies(given),
+        "certificate read" => programs::reads_certificate(given),
+        "certificate write" => programs::writes_certificate(given),
+        "check_task" => checks::checks_task(given),
+        "verdict" => checks::checks(given),
         "verdict_shared" => checks::checks_shared(given, rt),
         "accepts_shared" => checks::accepts_by_several(given, rt),
         _ => made_above(given, rt, call),
@@ -60,7 +57,7 @@ fn made_above(given: &Given<'_>, rt: &impl Runtime, call: &str) -> Option<()> {
         "Burst::run" => of_machine(given, 1, OfMachine::MakeBursts),
         "apply_burst" => of_machine(given, 1, OfMachine::HandInBursts),
         "run_threads" => runs::runs_threads(given, rt),
-        "fetch" => files::fetches(given),
+        "fetch" => checks::fetches(given),
         _ => None,
     }
 }

@@ -9,27 +9,19 @@ use mips_plain::outcome::Outcome;
 use mips_plain::plain::{Plain, PlainFault};
 use task_descriptor::program::Program;
 
-pub(crate) fn makes_memory(given: &Given<'_>, program: &Program) -> bool {
-    given.begins();
-    let answer = Memory::new(given.alloc(), program.bytes(), program.fixed());
-    given.ends();
-    match answer {
-        Ok(memory) => match memory.fixed().get(..64) {
-            Some(bytes) => given.shows(bytes).is_some(),
-            None => false,
-        },
-        Err(fault) => given.refused_once(fault == MemoryFault::OutOfMemory),
-    }
+pub(crate) fn makes_memory(given: &Given<'_>) -> Option<()> {
+    let program = given.assembled()?;
+    let memory = given.tried(
+        || Memory::new(given.alloc(), program.bytes(), program.fixed()),
+        |fault| *fault == MemoryFault::OutOfMemory,
+    )?;
+    given.shows(memory.fixed().get(..64)?)
 }
 
-pub(crate) fn makes_plain(given: &Given<'_>, program: &Program) -> bool {
-    given.begins();
-    let answer = program.plain(given.alloc());
-    given.ends();
-    match answer {
-        Ok(plain) => shows_plain(given, &plain).is_some(),
-        Err(_) => given.refused_once(true),
-    }
+pub(crate) fn makes_plain(given: &Given<'_>) -> Option<()> {
+    let program = given.assembled()?;
+    let plain = given.tried(|| program.plain(given.alloc()), |_| true)?;
+    shows_plain(given, &plain)
 }
 
 pub(crate) fn makes_plain_of_code(given: &Given<'_>) -> Option<()> {

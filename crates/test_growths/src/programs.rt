@@ -1,97 +1,60 @@
-//! Programs: their texts, their members, and what is proposed for them.
+//! Programs: their texts, their members and certificates, and what is proposed for them.
 
-use crate::checks::reads_certificate;
 use crate::given::{Given, TRIES};
 use crate::notes::Notes;
-use crate::plain::{makes_memory, makes_plain};
 use annotated_asm::assembler::assemble;
 use annotated_asm::fault::AsmFault;
 use annotator::certify::certify;
 use annotator::propose::{AnnotateFault, propose};
 use canonical_text::print::print;
 use mask_certificate::certificate::Cert;
+use mask_certificate::fault::CertFault;
+use mask_certificate::reading::read;
+use mask_certificate::writing::write;
 use task_descriptor::program::Program;
 use task_graph::members::members;
 
-/// A call on a program, which keeps nothing of it.
-#[derive(Clone, Copy)]
-pub(crate) enum OfProgram {
-    Print,
-    Members,
-    Certify,
-    ReadCertificate,
-    NewMemory,
-    Plain,
-}
-
-/// Makes a call on the program until it is not refused.
-pub(crate) fn of_program(given: &Given<'_>, call: OfProgram) -> Option<()> {
-    let program = given.assembled()?;
-    for _ in 0..TRIES {
-        if once(given, &program, call) {
-            return Some(());
-        }
-    }
-    None
-}
-
-// Makes the call once, and tells whether it answered.
-fn once(given: &Given<'_>, program: &Program, call: OfProgram) -> bool {
-    match call {
-        OfProgram::Print => prints(given, program),
-        OfProgram::Members => finds_members(given, program),
-        OfProgram::Certify => certifies(given, program),
-        OfProgram::ReadCertificate => reads_certificate(given, program),
-        OfProgram::NewMemory => makes_memory(given, program),
-        OfProgram::Plain => makes_plain(given, program),
-    }
-}
-
-fn prints(given: &Given<'_>, program: &Program) -> bool {
-    given.begins();
-    let answer = print(given.alloc(), program);
-    given.ends();
-    match answer {
-        Ok(text) => given.shows(&text).is_some(),
-        Err(_) => given.refused_once(true),
-    }
-}
-
-fn finds_members(given: &Given<'_>, program: &Program) -> bool {
-    given.begins();
-    let answer = members(given.alloc(), program, 0);
-    given.ends();
-    match answer {
-        Ok(found) => {
-            let mut notes = Notes::new(given.alloc());
-            write!(notes, "{found:?}");
-            given.shows_notes(&notes).is_some()
-        }
-        Err(_) => given.refused_once(true),
-    }
-}
-
-fn certifies(given: &Given<'_>, program: &Program) -> bool {
-    given.begins();
-    let answer = certify(given.alloc(), program);
-    given.ends();
-    match answer {
-        Ok(cert) => given.shows_certificate(&cert, program).is_some(),
-        Err(_) => given.refused_once(true),
-    }
-}
-
 pub(crate) fn assembles(given: &Given<'_>) -> Option<()> {
-    for _ in 0..TRIES {
-        given.begins();
-        let answer = assemble(given.alloc(), &given.program);
-        given.ends();
-        match answer {
-            Ok(program) => return given.shows_program(&program),
-            Err(fault) => given.refused(fault == AsmFault::OutOfMemory, true),
-        }
-    }
-    None
+    let program = given.tried(
+        || assemble(given.alloc(), &given.program),
+        |fault| *fault == AsmFault::OutOfMemory,
+    )?;
+    given.shows_program(&program)
+}
+
+pub(crate) fn prints(given: &Given<'_>) -> Option<()> {
+    let program = given.assembled()?;
+    let text = given.tried(|| print(given.alloc(), &program), |_| true)?;
+    given.shows(&text)
+}
+
+pub(crate) fn finds_members(given: &Given<'_>) -> Option<()> {
+    let program = given.assembled()?;
+    let found = given.tried(|| members(given.alloc(), &program, 0), |_| true)?;
+    let mut notes = Notes::new(given.alloc());
+    write!(notes, "{found:?}");
+    given.shows_notes(&notes)
+}
+
+pub(crate) fn certifies(given: &Given<'_>) -> Option<()> {
+    let program = given.assembled()?;
+    let cert = given.tried(|| certify(given.alloc(), &program), |_| true)?;
+    given.shows_certificate(&cert, &program)
+}
+
+pub(crate) fn reads_certificate(given: &Given<'_>) -> Option<()> {
+    let program = given.assembled()?;
+    let cert = given.tried(
+        || read(given.alloc(), &given.certificate, &program),
+        |fault| *fault == CertFault::OutOfMemory,
+    )?;
+    given.shows_certificate(&cert, &program)
+}
+
+pub(crate) fn writes_certificate(given: &Given<'_>) -> Option<()> {
+    let (program, cert) = given.pair()?;
+    let text = given.tried(|| write(given.alloc(), &cert, &program), |_| true)?;
+    given.shows(&text)
 }
 
 pub(crate) fn proposes(given: &Given<'_>) -> Option<()> {
