@@ -1,5 +1,5 @@
 -- The part of a program is what its report, or its file, gives.
-use Rattle.std.proofs.Common.{◌≡◌, ◌∙◌, ap, refl, subst, sym, ℕ, Bool, true, false, List, [], Option, None, Result, Ok, Err, IfOk}
+use Rattle.std.proofs.Common.{◌≡◌, refl, subst, sym, ℕ, Bool, false, List, [], Option, None, Result, Ok, Err, IfOk}
 use Rattle.std.specs.String.{string_bytes}
 use Rattle.std.specs.declared.alloc.Global.{Global}
 use Rattle.std.specs.declared.string.String.{String}
@@ -12,7 +12,6 @@ use Rattle.report_texts.specs.OutputTexts.{Report}
 use Rattle.verdict_report.specs.JobTexts.{IsReportOf}
 use Rattle.verdict_report.specs.declared.fault.ServeFault.{ServeFault}
 use Rattle.program_edge.specs.declared.part.Part.{Part as Made}
-use Rattle.program_edge.specs.declared.summary.ProgramVerdict.{ProgramVerdict}
 use Rattle.program_edge.specs.Several.{IsJobFor, IsJudged, IsPartOfText, IsPartWith, Part}
 
 -- a part, as contracts see it

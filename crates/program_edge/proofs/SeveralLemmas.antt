@@ -1,24 +1,21 @@
 -- One program more: its part stands after the others, and the tally counts it.
-use Rattle.std.proofs.Common.{◌≡◌, ◌∙◌, ◌+◌, ◌<◌, ◌≤◌, ap, subst, sym, refl, inl, inr, ℕ, Bool, true, List, [], ◌∷◌, ◌++◌, length, get_or, take, drop, map, suc, zero-add, append-nil, take-append-drop, add-zero, add-one, arith, Option, None, Some, Result, Ok, Err}
+use Rattle.std.proofs.Common.{◌≡◌, ◌∙◌, ◌+◌, ◌<◌, ◌≤◌, ap, subst, sym, refl, inl, inr, ℕ, Bool, true, List, [], ◌∷◌, ◌++◌, length, get_or, take, drop, map, suc, zero-add, append-nil, take-append-drop, add-zero, add-one, arith, Option, Result, Ok, Err}
 use Rattle.std.proofs.KnownBytes.{Appends-nil, Appends-trans}
 use Rattle.std.proofs.Math.Seq.{drop-cons}
 use Rattle.std.proofs.lemmas.List.{flat_map_more, map-append, take_all, take_more}
 use Rattle.std.proofs.lemmas.List.Sums.{sum_by-append}
-use Rattle.std.specs.Io.KnownBytes.{Appends, Keeps}
+use Rattle.std.specs.Io.KnownBytes.{Appends}
 use Rattle.std.specs.Prelude.{flat_map, if◌then◌else◌}
 use Rattle.std.specs.List.{count_by}
 use Rattle.std.specs.String.{string_bytes}
 use Rattle.std.specs.declared.alloc.Global.{Global}
 use Rattle.std.specs.declared.string.String.{String}
 use Rattle.jobs.specs.declared.job.Job.{Job}
-use Rattle.result_files.specs.Writing.{Begins}
-use Rattle.verdict_report.proofs.BeginsLemmas.{whole}
 use Rattle.program_edge.specs.declared.summary.ProgramVerdict.{ProgramVerdict}
 use Rattle.program_edge.specs.declared.summary.ProgramVerdict.TheVariants.{Right, Wrong, Unjudged}
 use Rattle.program_edge.specs.declared.summary.ProgramTally.{ProgramTally}
 use Rattle.program_edge.specs.declared.told.Answered.{Answered}
 use Rattle.program_edge.specs.FileTexts.{Known}
-use Rattle.program_edge.specs.Hints.{IsSaid}
 use Rattle.result_files.specs.Files.{Same}
 use Rattle.verdict_report.specs.declared.fault.ServeFault.{ServeFault}
 use Rattle.verdict_report.specs.declared.fault.ServeFault.TheVariants as serve

@@ -1,6 +1,6 @@
 -- Worked examples, computed by the checker: names of standard input, the lines that report a fault, what is no result
 -- for a file, and what standard error gets beside a result.
-use Rattle.std.specs.Prelude.{◌≡◌, ℕ, List, Bool, Option, true, false, [], ◌∷◌, ◌++◌, codes, Some}
+use Rattle.std.specs.Prelude.{◌≡◌, ℕ, Bool, Option, true, false, [], ◌∷◌, ◌++◌, codes, Some}
 use Rattle.std.specs.String.{string_bytes}
 use Rattle.std.specs.declared.io.ErrorKind.TheVariants as kind
 use Rattle.std.proofs.Common.{refl}

@@ -10,7 +10,6 @@ use Rattle.std.specs.declared.io.ErrorKind.TheVariants as kind
 use Rattle.std.specs.declared.string.String.{String}
 use Rattle.std.specs.declared.alloc.Global.{Global}
 use Rattle.jobs.specs.declared.job.Job.{Job}
-use Rattle.jobs.specs.declared.job.Job.TheVariants.{Check}
 use Rattle.jobs.specs.declared.job.Paths.{Paths}
 use Rattle.jobs.specs.declared.job.Texts.{Texts}
 use Rattle.jobs.specs.Files.{has_certificate, has_script}
@@ -53,11 +52,6 @@ but_there reason = reason
 abbrev pub reading_reason : FetchFault → UnreadReason
 reading_reason fetch.OutOfMemory = OutOfMemory
 reading_reason (fetch.Read kind) = but_there (opening_reason kind)
-
--- how many threads fetch a certificate
-abbrev pub fetchers_of : Job → ℕ
-fetchers_of (Check source workers) = workers
-fetchers_of _ = 1
 
 -- the most bytes of a program text, and of any other file
 abbrev pub most_program : ℕ

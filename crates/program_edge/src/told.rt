@@ -1,7 +1,6 @@
 //! What the program says of a fault, and its status.
-ghost use Rattle.std.specs.Prelude.{◌≡◌, ◌∷◌, ◌++◌, [], OnOk, codes};
+ghost use Rattle.std.specs.Prelude.{◌∷◌, ◌++◌, [], OnOk, codes};
 ghost use Rattle.std.specs.Io.KnownBytes.{Appends};
-ghost use Rattle.std.specs.String.{string_bytes};
 ghost use Rattle.result_files.specs.Writing.{Begins};
 ghost use Rattle.result_files.specs.Refusals.{link_reason};
 ghost use Rattle.shown_names.specs.Shown.{shown};
