@@ -19,7 +19,7 @@ import accepted as generator
 import explain
 import returns
 from accepted import accepted
-from explain import MOST_SHOWN, Bench, changed, laid_out, lists, place_of, places, plant, region_of, spelled
+from explain import MOST_SHOWN, Bench, changed, columns, instructions, laid_out, lists, place_of, places, plant, region_of, spelled
 from model import Fault, assemble, certify, dests, edges, exits, inner, is_exit, print_program, verdict
 
 R = random.Random()
@@ -76,6 +76,7 @@ def warnings(program):
     return found
 
 
+BRANCHES = ("beq", "bne", "blez", "bgtz", "bltz", "bgez")
 # What is proposed of jumps to addresses in registers.
 PROPOSED = ("warning-JumpNotListed", "warning-NoReturn")
 OF_TASKS = ("runs", "untaken", "never", "stop", "step")
@@ -203,9 +204,39 @@ def said_of(results):
     return [(it["ruleId"], region_of(it["locations"][0]), it["message"]["text"]) for it in results if it["ruleId"] != "more"]
 
 
+def labelled(text):
+    """The numbers of the instructions that have a label; and how many there are, if a label is behind the last."""
+    found, count, section = set(), 0, ".text"
+    for line in text.split("\n"):
+        starts = columns(line)
+        while len(starts) >= 2 and starts[1][1] == ":":
+            found |= {count} if section == ".text" else set()
+            starts = starts[2:]
+        head = starts[0][1] if starts else "."
+        if head in (".text", ".data", ".rodata"):
+            section = head
+        elif not head.startswith("."):
+            count += instructions(head, starts)
+    return found
+
+
+def is_slot(program, labels, j):
+    """Whether an instruction may be meant as a delay slot: alone behind a branch or a jump, before where code begins anew."""
+    turns = lambda i: program.code[i][0][0] in ("j", "jal", "jr", "jalr") or program.code[i][0][0] in BRANCHES
+    if not 0 < j < len(program.code) or not turns(j - 1) or turns(j) or program.code[j][0][0] in ("halt", "release"):
+        return False
+    return j not in labels and (j + 1 == len(program.code) or j + 1 in labels or any(entry == j + 1 for _, entry, _, _ in program.tasks))
+
+
+def is_swapped(op):
+    """Whether a jalr puts the return address elsewhere and jumps through $31."""
+    return op[0] == "jalr" and op[2] == 31 and op[1] != 31
+
+
 def proposals(program, text):
     """What is proposed of jumps to addresses in registers: code and place of each, one of a task at most."""
     seen, calls = returns.jumps(program)
+    labels = labelled(text)
     begins = {entry: t for t, (_, entry, _, _) in enumerate(program.tasks)}
     reached = set().union(*(walk(program, [entry]) for entry in begins))
     lost = {number for kind, number, _ in forgotten(program) if kind == "runs"}
@@ -221,8 +252,11 @@ def proposals(program, text):
         missing = unlisted(t, places)
         may_lead = lambda j: not all(it[1] for it in own) or j in places or (program.code[j - 1][0][0] in ("jal", "jalr") and j - 1 not in calls)
         taken = {j for i in walk(program, [program.tasks[t][1]]) for j in exits(program, i)}
-        if missing:
-            said = any(first[j] != t or (begins[j] not in lost if j in begins else j in reached or program.code[j - 1][0][0] not in ("jal", "jalr")) for j in missing) and "JumpNotListed"
+        if is_swapped(program.code[next(i for task, i in seen if task == t)][0]):
+            said = "JumpNotListed"
+        elif missing:
+            lost_slot = lambda j: is_slot(program, labels, j) and j not in reached
+            said = any(not lost_slot(j) and (first[j] != t or (begins[j] not in lost if j in begins else j in reached or program.code[j - 1][0][0] not in ("jal", "jalr"))) for j in missing) and "JumpNotListed"
         elif own[0][2] or not targets and not own[0][1]:
             said = "JumpNotListed"
         else:

@@ -3,8 +3,8 @@
 
 Takes the random programs of explain.py and costly_marks.py, with wrong marks or with marks that cost speed, and
 texts that are refused. Of each it checks that the log is of SARIF 2.1.0 (sarif_schema.py), and that the text form says
-the same: each result with its place, its sentence, its further places and what to do, in their order. `--file LOG`
-checks one log alone. PROGRAM is the built `multiscalar`.
+the same: each result with its place, its sentence, its further places and what to do, in their order; and the line
+of C, if a comment names one. `--file LOG` checks one log alone. PROGRAM is the built `multiscalar`.
 """
 import argparse
 import collections
@@ -47,10 +47,30 @@ def place_of(location, text):
 def in_lines(result, text):
     """The lines of the text form that stand for a result, each with its sentence alone."""
     related = result["relatedLocations"]
+    related = related[1:] if related and sarif_schema.is_origin(related[0]) else related
     yield f"{place_of(result['locations'][0], text)} {result['level']}: {result['message']['text'].removesuffix('.')}"
     for number, it in enumerate(related):
         is_help = number == len(related) - 1 and result["ruleId"] != "more"
         yield f"{place_of(it, text)} {'help' if is_help else 'note'}: {it['message']['text'].removesuffix('.')}"
+
+
+def in_c(result, text):
+    """The file and the line of C that the comment at the end of a result's line names."""
+    region = result["locations"][0]["physicalLocation"].get("region", {"startLine": 0})
+    line = ["", *text.split("\n")][region["startLine"]].encode("latin-1")
+    try:
+        named = re.search(r"# at ((?:(?!# at ).)+):([1-9][0-9]*)\s*$", line.decode("utf-8"))
+    except UnicodeDecodeError:
+        named = None
+    return [(named[1], int(named[2]))] if named else []
+
+
+def told_in_c(result):
+    """What the log tells of it, before the further places."""
+    for it in result["relatedLocations"][:1]:
+        if sarif_schema.is_origin(it):
+            physical = it["physicalLocation"]
+            yield urllib.parse.unquote(physical["artifactLocation"]["uri"]), physical["region"]["startLine"]
 
 
 def told(said):
@@ -94,7 +114,23 @@ class Bench:
         if wanted != found:
             pairs = [pair for pair in zip(wanted, found) if pair[0] != pair[1]]
             return f"the text form says something else: {pairs[0] if pairs else (len(wanted), len(found))}"
+        for it in results:
+            self.counts["lines of C"] += len(in_c(it, text))
+            if in_c(it, text) != list(told_in_c(it)):
+                return f"{in_c(it, text)} in C, in the log {list(told_in_c(it))}"
         return None
+
+
+def from_c(text):
+    """The text with comments at the end of some instructions, as c2ms.py writes them, and of some a bit differently."""
+    R = generator.R
+    names = ["a.c", "a b.c", "50%.c", "x:7.h", "part#1.c", "../sub/x.c"]
+    ends = ["", "", " ", " more", ":", " # at b.c:3", " # at b.c:0", " # at :5"]
+    lines = text.split("\n")
+    for at, line in enumerate(lines):
+        if line.strip() and "#" not in line and R.random() < .5:
+            lines[at] = f"{line:<39} # at {R.choice(names)}:{R.choice([1, 12, 4000000000])}{R.choice(ends)}"
+    return "\n".join(lines)
 
 
 def broken(text):
@@ -127,6 +163,8 @@ def main():
     while time.time() < end:
         plant = random.choice([explain.plant, costly_marks.loosened])
         text = explain.laid_out(plant(print_program(accepted()[0])))
+        if random.random() < .5:
+            text = from_c(text)
         if random.random() < .4:
             text = random.choice([broken, explain.plant_fault])(text)
         what = bench.wrong(text)

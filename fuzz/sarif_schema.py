@@ -112,6 +112,20 @@ def parts(value, name):
             yield from parts(part, name)
 
 
+def is_origin(location):
+    """Whether a place is the line of C that a comment of the program names."""
+    return location["message"]["text"].startswith("the instruction comes from line ")
+
+
+def check_origin(location):
+    """A file alone, in a folder that is not known (section 3.4.4), and a whole line of it (section 3.30.5)."""
+    physical = location["physicalLocation"]
+    need(list(physical["artifactLocation"]) == ["uri"] and list(physical["region"]) == ["startLine"], "a line of C")
+    line, uri = physical["region"]["startLine"], physical["artifactLocation"]["uri"]
+    name = urllib.parse.unquote(uri.removeprefix("file://"))
+    need(location["message"]["text"] == f"the instruction comes from line {line} of {name}.", f"line {line} of {name}")
+
+
 def check_artifact(location, run):
     """Sections 3.4.3 to 3.4.5: a URI or an index; a base for a relative URI and for no other."""
     need("uri" in location or "index" in location, "an artifact without a URI and without an index")
@@ -145,13 +159,19 @@ def check_words(log):
             check_sentence(result["message"]["text"], result["ruleId"])
         failed = any(result["level"] == "error" for result in run["results"])
         need([it["exitCode"] for it in run["invocations"]] == [1 if failed else 0], "the exit code")
+        origins = [it for result in run["results"] for it in result["relatedLocations"] if is_origin(it)]
+        for it in origins:
+            check_origin(it)
+        of_origins = [it["physicalLocation"][name] for it in origins for name in ("artifactLocation", "region")]
         for name in ("artifactLocation", "stdin"):
             for location in parts(run, name):
-                check_artifact(location, run)
+                if not any(location is it for it in of_origins):
+                    check_artifact(location, run)
         need(bool(list(parts(run, "stdin"))) == bool(run["artifacts"]), "standard input is told once")
         for name in ("region", "deletedRegion"):
             for region in parts(run, name):
-                need(region["startColumn"] <= region["endColumn"], "columns in order")
+                if not any(region is it for it in of_origins):
+                    need(region["startColumn"] <= region["endColumn"], "columns in order")
         for name in ("message", "description", "help", "shortDescription"):
             for message in parts(run, name):
                 check_sentence(message["text"], name)

@@ -141,7 +141,7 @@ class Verdict(Report):
 @dataclass(frozen=True)
 class Diagnostic:
     """One thing that is wrong, or that costs speed. Lines and columns begin with 1; columns count characters. The
-    advice has a sentence for each further place that shows it, and then what to do."""
+    advice has a sentence for the line of C, if a comment names it, for each further place, and then what to do."""
 
     severity: str
     code: str

@@ -16,6 +16,10 @@ function placeOf(location) {
   };
 }
 
+function fileOf(location) {
+  return location?.physicalLocation?.artifactLocation?.uri;
+}
+
 function isSamePlace(one, other) {
   return one !== null && other !== null && one.line === other.line && one.column === other.column && one.endColumn === other.endColumn;
 }
@@ -35,9 +39,14 @@ function pathOf(result) {
   return steps.map(step => placeOf(step.location)).filter(place => place !== null);
 }
 
+// The place of a related location; a line of C is in another file, and none of the text's.
+function placeHere(location, result) {
+  return fileOf(location) === fileOf(result.locations?.[0]) ? placeOf(location) : null;
+}
+
 // Notes are the related places; the last one at the finding's own place is the help, if the sentence has none below it.
 function notesAndHelp(result, place, below) {
-  const notes = (result.relatedLocations ?? []).map(it => ({ place: placeOf(it), sentence: tidy(it.message?.text ?? '') }));
+  const notes = (result.relatedLocations ?? []).map(it => ({ place: placeHere(it, result), sentence: tidy(it.message?.text ?? '') }));
   const said = below.filter(line => line.startsWith('help: ')).map(line => line.slice(6));
   if (said.length) return { notes, help: said.join(' ') };
   const described = result.fixes?.[0]?.description?.text === undefined ? null : tidy(result.fixes[0].description.text);

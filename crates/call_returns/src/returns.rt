@@ -1,5 +1,11 @@
 //! Where the jumps to addresses in registers lead that tasks reach.
 
+ghost use Rattle.std.specs.Prelude.{◌≡◌, IfOk, OnOk};
+ghost use Rattle.std.specs.List.{All};
+ghost use Rattle.std.specs.List.Sorted.{IsStrictlyIncreasing};
+ghost use Rattle.task_descriptor.specs.Listing.{Listing};
+ghost use Rattle.call_returns.specs.Returns.{behind, ComesBack, IsBehindCall, IsTold, IsWith};
+
 use crate::function::Function;
 use crate::held::Held;
 use crate::walk::{Walk, index_at};
@@ -22,7 +28,10 @@ pub struct Jump {
     pub index: u32,
     /// The task.
     pub task: u32,
-    /// Where it is seen to lead, rising: of a `jr` by which calls come back, to behind these calls; at most `MOST_PLACES`.
+    /// Behind which calls it is seen to come back, rising.
+    pub returns: Vec<u32>,
+    /// Where it is seen to lead, rising: to these places, and to the address that the register is seen to hold; at most
+    /// `MOST_PLACES`.
     pub places: Vec<u32>,
     /// Whether it leads nowhere else, as far as all is seen.
     pub is_whole: bool,
@@ -38,8 +47,18 @@ pub struct Returns {
 }
 
 impl Returns {
+    /// Of a program at which nobody has looked.
+    pub fn none(alloc: Global) -> Returns {
+        Returns {
+            jumps: Vec::new(alloc),
+            calls: Vec::new(alloc),
+        }
+    }
+
     /// The jumps to addresses in registers that tasks reach, one task after another.
-    pub fn jumps(&self) -> &[Jump] {
+    pub fn jumps(&self) -> &[Jump]
+        ensures { result.now ≡ self.now.jumps.items }
+    {
         &self.jumps
     }
 
@@ -56,9 +75,24 @@ struct Way {
     held: Held,
 }
 
+/// The place behind an instruction, if that is a call.
+pub fn behind(program: &Program, index: u32) -> Option<u32>
+    ensures { result ≡ behind program.now index }
+{
+    match program.code().get(index as usize)?.op {
+        Op::JumpLink(_) | Op::JumpLinkReg(_, _) => Some(index + 1),
+        _ => None,
+    }
+}
+
 /// Whether an instruction is a jump to an address in a register.
 fn is_indirect(op: &Op) -> bool {
     matches!(op, Op::JumpReg(_) | Op::JumpLinkReg(..))
+}
+
+/// Whether a program has a jump to an address in a register.
+pub fn has_indirect(program: &Program) -> bool {
+    program.code().iter().any(|marked| is_indirect(&marked.op))
 }
 
 /// As many empty lists as there are instructions.
@@ -70,54 +104,57 @@ fn lists<T: Drop>(alloc: Global, count: usize) -> Result<Vec<Vec<T>>, AllocError
     Ok(lists)
 }
 
+/// A jump to an address in a register that a task reaches.
+#[derive(Clone, Copy, Debug)]
+struct Site {
+    index: u32,
+    task: u32,
+}
+
 /// By index, for a jump to an address in a register, the tasks that reach it.
 fn owners_of(
     alloc: Global,
     program: &Program,
-    jumps: &[Jump],
+    sites: &[Site],
 ) -> Result<Vec<Vec<u32>>, AllocError> {
     let mut owners = lists(alloc, program.code().len())?;
-    for jump in jumps {
-        if let Some(tasks) = owners.get_mut(jump.index as usize) {
-            tasks.push(jump.task)?;
+    for site in sites {
+        if let Some(tasks) = owners.get_mut(site.index as usize) {
+            tasks.push(site.task)?;
         }
     }
     Ok(owners)
 }
 
-/// Adds the jumps of a task, of which nothing is seen yet.
-fn add_jumps(
-    alloc: Global,
+/// Adds the jumps of a task.
+fn add_sites(
     program: &Program,
     least: &Cert,
     task: u32,
-    jumps: &mut Vec<Jump>,
+    sites: &mut Vec<Site>,
 ) -> Result<(), AllocError> {
-    for entry in least.list(task) {
-        let marked = program.code().get(entry.0 as usize);
-        if marked.is_some_and(|marked| is_indirect(&marked.op)) && jumps.len() < MOST_JUMPS {
-            jumps.push(Jump {
-                index: entry.0,
+    for (index, _) in least.list(task) {
+        let marked = program.code().get(*index as usize);
+        if marked.is_some_and(|marked| is_indirect(&marked.op)) && sites.len() < MOST_JUMPS {
+            sites.push(Site {
+                index: *index,
                 task,
-                places: Vec::new(alloc),
-                is_whole: false,
-                is_uncalled: false,
             })?;
         }
     }
     Ok(())
 }
 
-/// The jumps that tasks reach, one task after another, of which nothing is seen yet.
-fn jumps_of(alloc: Global, program: &Program, least: &Cert) -> Result<Vec<Jump>, AllocError> {
-    let mut jumps = Vec::new(alloc);
-    if !program.code().iter().any(|marked| is_indirect(&marked.op)) {
-        return Ok(jumps);
+/// The jumps that tasks reach, one task after another.
+fn sites_of(alloc: Global, program: &Program, least: &Cert) -> Result<Vec<Site>, AllocError> {
+    let mut sites = Vec::new(alloc);
+    if !has_indirect(program) {
+        return Ok(sites);
     }
     for task in 0..program.tasks().len() {
-        add_jumps(alloc, program, least, task as u32, &mut jumps)?;
+        add_sites(program, least, task as u32, &mut sites)?;
     }
-    Ok(jumps)
+    Ok(sites)
 }
 
 /// By index, the ways to each jump.
@@ -150,21 +187,73 @@ fn add_ways(
     Ok(())
 }
 
+/// Adds a place to some, if it is not there; whether it is there then.
+#[tactic(auto, using(crate::proofs::Places::as_they_are, crate::proofs::Places::one_more))]
+fn add(places: &mut Vec<u32>, place: u32) -> Result<bool, AllocError>
+    ensures { OnOk result (IsWith places.old.items place places.new.items) }
+{
+    if places.contains(&place) {
+        return Ok(true);
+    }
+    if places.len() >= MOST_PLACES {
+        return Ok(false);
+    }
+    places.push(place)?;
+    Ok(true)
+}
+
+/// Puts places in order.
+fn rise(places: &mut Vec<u32>)
+    ensures rising { IsStrictlyIncreasing places.new.items }
+    ensures behind { (p : Listing) → All (IsBehindCall p) places.old.items → All (IsBehindCall p) places.new.items }
+{
+    places.sort_unstable();
+    places.dedup();
+}
+
 impl Jump {
+    /// A jump of which nothing is seen.
+    #[tactic(auto, using(crate::proofs::Places::none_yet))]
+    fn unseen(alloc: Global, site: Site) -> Jump
+        ensures { (p : Listing) → ComesBack p result }
+    {
+        Jump {
+            index: site.index,
+            task: site.task,
+            returns: Vec::new(alloc),
+            places: Vec::new(alloc),
+            is_whole: false,
+            is_uncalled: false,
+        }
+    }
+
     /// Adds a place to which it leads.
-    fn add(&mut self, place: u32) -> Result<(), AllocError> {
-        if self.places.contains(&place) {
-            return Ok(());
-        }
-        if self.places.len() >= MOST_PLACES {
-            self.is_whole = false;
-            return Ok(());
-        }
-        match self.places.iter().position(|other| *other > place) {
-            Some(before) => self.places.insert(before, place)?,
-            None => self.places.push(place)?,
-        }
+    fn lead(&mut self, place: u32) -> Result<(), AllocError>
+        ensures { OnOk result (self.new.returns ≡ self.old.returns) }
+    {
+        let is_there = add(&mut self.places, place)?;
+        self.is_whole = self.is_whole && is_there;
         Ok(())
+    }
+
+    /// Adds a place behind a call to which it comes back.
+    fn come_back(&mut self, program: &Program, place: u32) -> Result<(), AllocError>
+        requires behind { IsBehindCall program.now place }
+        requires others { ComesBack program.now self.old }
+        ensures { OnOk result (ComesBack program.now self.new) }
+    {
+        self.lead(place)?;
+        add(&mut self.returns, place)?;
+        Ok(())
+    }
+
+    /// Puts its places in order.
+    fn rise(&mut self, program: &Program)
+        requires { ComesBack program.now self.old }
+        ensures { IsTold program.now self.new }
+    {
+        rise(&mut self.places);
+        rise(&mut self.returns);
     }
 }
 
@@ -195,10 +284,13 @@ impl<'a> Seen<'a> {
     }
 
     /// Adds where a jump leads by a way.
-    fn add_way(&self, jump: &mut Jump, op: &Op, way: Way) -> Result<(), AllocError> {
+    fn add_way(&self, jump: &mut Jump, op: &Op, way: Way) -> Result<(), AllocError>
+        requires { ComesBack self.now.program.now jump.old }
+        ensures { OnOk result (ComesBack self.now.program.now jump.new) }
+    {
         match (op, way.held) {
             (_, Held::Word(address)) => match index_at(self.program, address) {
-                Some(place) => jump.add(place),
+                Some(place) => jump.lead(place),
                 None => {
                     jump.is_whole = false;
                     Ok(())
@@ -217,7 +309,10 @@ impl<'a> Seen<'a> {
     /// Adds to where the calls of a function come back. Where the task begins inside of the function, those are all; where it
     /// begins with the function, those that end their tasks, and of the others it is not seen whether they do; else those in
     /// the task.
-    fn add_returns(&self, jump: &mut Jump, number: usize, register: u8) -> Result<(), AllocError> {
+    fn add_returns(&self, jump: &mut Jump, number: usize, register: u8) -> Result<(), AllocError>
+        requires { ComesBack self.now.program.now jump.old }
+        ensures { OnOk result (ComesBack self.now.program.now jump.new) }
+    {
         let Some(function) = self.functions.get(number) else {
             return Ok(());
         };
@@ -234,7 +329,7 @@ impl<'a> Seen<'a> {
                 continue;
             }
             if is_sure || self.is_within(jump.task, call.index) {
-                jump.add(call.index.saturating_add(1))?;
+                self.add_return(jump, call.index)?;
             } else if is_inside {
                 jump.is_whole = false;
             }
@@ -242,17 +337,61 @@ impl<'a> Seen<'a> {
         Ok(())
     }
 
-    /// Tells of a jump where it leads by some ways.
-    fn tell(&self, jump: &mut Jump, ways: &[Way]) -> Result<(), AllocError> {
-        let Some(marked) = self.program.code().get(jump.index as usize) else {
-            return Ok(());
-        };
-        jump.is_whole = !ways.is_empty();
-        for way in ways {
-            self.add_way(jump, &marked.op, *way)?;
+    /// Adds that a jump comes back from a call.
+    fn add_return(&self, jump: &mut Jump, call: u32) -> Result<(), AllocError>
+        requires { ComesBack self.now.program.now jump.old }
+        ensures { OnOk result (ComesBack self.now.program.now jump.new) }
+    {
+        match behind(self.program, call) {
+            Some(place) => jump.come_back(self.program, place),
+            None => Ok(()),
         }
-        jump.is_uncalled = jump.is_uncalled && jump.places.is_empty();
+    }
+
+    /// Tells of a jump where it leads by some ways.
+    fn tell(&self, alloc: Global, site: Site, ways: &[Way]) -> Result<Jump, AllocError>
+        ensures { IfOk result (IsTold self.now.program.now) }
+    {
+        let mut jump = Jump::unseen(alloc, site);
+        if let Some(marked) = self.program.code().get(site.index as usize) {
+            jump.is_whole = !ways.is_empty();
+            self.add_ways(&mut jump, &marked.op, ways)?;
+            jump.is_uncalled = jump.is_uncalled && jump.places.is_empty();
+        }
+        jump.rise(self.program);
+        Ok(jump)
+    }
+
+    /// Adds where a jump leads by some ways.
+    fn add_ways(&self, jump: &mut Jump, op: &Op, ways: &[Way]) -> Result<(), AllocError>
+        requires { ComesBack self.now.program.now jump.old }
+        ensures { OnOk result (ComesBack self.now.program.now jump.new) }
+    {
+        for way in ways {
+            self.add_way(jump, op, *way)?;
+        }
         Ok(())
+    }
+
+    /// Tells of jumps where they lead; by index, the ways to each.
+    fn tell_all(
+        &self,
+        alloc: Global,
+        sites: &[Site],
+        ways: &[Vec<Way>],
+    ) -> Result<Vec<Jump>, AllocError>
+        ensures { IfOk result (λ told. All (IsTold self.now.program.now) told.items) }
+    {
+        let mut told = Vec::new(alloc);
+        for site in sites {
+            let ways: &[Way] = match ways.get(site.index as usize) {
+                Some(ways) => ways.as_slice(),
+                None => &[],
+            };
+            let jump = self.tell(alloc, *site, ways)?;
+            told.push(jump)?;
+        }
+        Ok(told)
     }
 }
 
@@ -269,15 +408,24 @@ fn add_calls(calls: &mut Vec<u32>, function: &Function) -> Result<(), AllocError
 /// # Errors
 ///
 /// `AllocError` where memory was refused.
-pub fn returns_of(alloc: Global, program: &Program, least: &Cert) -> Result<Returns, AllocError> {
-    let mut jumps = jumps_of(alloc, program, least)?;
+pub fn returns_of(alloc: Global, program: &Program, least: &Cert) -> Result<Returns, AllocError>
+    ensures { IfOk result (λ seen. All (IsTold program.now) seen.jumps.items) }
+{
+    let sites = sites_of(alloc, program, least)?;
     let mut calls = Vec::new(alloc);
-    if jumps.is_empty() || jumps.len() >= MOST_JUMPS {
+    let unseen = Seen {
+        program,
+        least,
+        functions: &[],
+    };
+    if sites.is_empty() || sites.len() >= MOST_JUMPS {
+        let jumps = unseen.tell_all(alloc, &sites, &[])?;
         return Ok(Returns { jumps, calls });
     }
-    let owners = owners_of(alloc, program, &jumps)?;
+    let owners = owners_of(alloc, program, &sites)?;
     let mut walk = Walk::new(alloc, program, &owners)?;
     if !walk.walk()? {
+        let jumps = unseen.tell_all(alloc, &sites, &[])?;
         return Ok(Returns { jumps, calls });
     }
     let ways = ways_of(alloc, program.code().len(), &walk.functions)?;
@@ -286,11 +434,7 @@ pub fn returns_of(alloc: Global, program: &Program, least: &Cert) -> Result<Retu
         least,
         functions: &walk.functions,
     };
-    for jump in &mut jumps {
-        if let Some(ways) = ways.get(jump.index as usize) {
-            seen.tell(jump, ways)?;
-        }
-    }
+    let jumps = seen.tell_all(alloc, &sites, &ways)?;
     for function in &walk.functions {
         add_calls(&mut calls, function)?;
     }

@@ -1,8 +1,7 @@
 //! The walk over the calls: function by function, through tasks and tail calls. A function is walked again when one that it
 //! calls is seen to keep fewer registers.
 
-ghost use Rattle.std.specs.Prelude.{◌≡◌, ◌+◌, ◌<◌};
-ghost use Rattle.mips_instructions.specs.Words.{address};
+ghost use Rattle.std.specs.Prelude.{◌<◌};
 
 use crate::function::{Call, End, Function};
 use crate::held::Held;
@@ -20,11 +19,8 @@ const MOST_STEPS: usize = 32;
 /// The most places that are looked at where an address is not seen.
 const MOST_LISTED: usize = 64;
 
-/// The address of the place after an instruction: a call's return address.
-#[tactic(auto, unfolding(mips_instructions::specs::Words::address))]
-fn address_after(index: u32) -> u32
-    ensures { index < 4096 → result ≡ address (index + 1) }
-{
+/// The address of the place after an instruction.
+fn address_after(index: u32) -> u32 {
     CODE_START.wrapping_add(index.wrapping_add(1).wrapping_mul(4))
 }
 

@@ -26,6 +26,8 @@ pub(crate) enum Artifact {
     Relative(String),
     /// In a file named from the root.
     Absolute(String),
+    /// In a file whose folder is not known.
+    Somewhere(String),
 }
 
 /// A URI with this beginning, followed by a name.
@@ -48,12 +50,20 @@ fn artifact_of(alloc: Global, name: &str) -> Result<Artifact, AllocError> {
     Ok(Artifact::Relative(uri(alloc, "", name)?))
 }
 
+/// Where a file of this name is that a line of a program names.
+pub(crate) fn named_artifact(alloc: Global, name: &str) -> Result<Artifact, AllocError> {
+    if name.starts_with('/') {
+        return artifact_of(alloc, name);
+    }
+    Ok(Artifact::Somewhere(uri(alloc, "", name)?))
+}
+
 /// Adds where a text is.
 pub(crate) fn write_artifact(out: &mut JsonText, artifact: &Artifact) -> Written {
     out.begin()?;
     match artifact {
         Artifact::StandardInput => out.number("index", 0)?,
-        Artifact::Absolute(uri) => out.text("uri", uri.as_str())?,
+        Artifact::Absolute(uri) | Artifact::Somewhere(uri) => out.text("uri", uri.as_str())?,
         Artifact::Relative(uri) => {
             out.text("uri", uri.as_str())?;
             out.text("uriBaseId", "PWD")?;

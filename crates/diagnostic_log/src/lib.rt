@@ -5,6 +5,7 @@
 mod artifact;
 mod columns;
 pub mod json_lines;
+mod origin;
 mod paths;
 mod results;
 mod rules;

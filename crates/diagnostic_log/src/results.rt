@@ -1,7 +1,8 @@
 //! The results of a log as JSON: one for each diagnostic.
 
-use crate::artifact::{Artifacts, write_artifact};
+use crate::artifact::{Artifacts, named_artifact, write_artifact};
 use crate::columns::Columns;
+use crate::origin::{Origin, origin_of};
 use crate::paths::told;
 use diagnostics::code::Code;
 use diagnostics::diagnostic::{Diagnostic, Help, Note, Severity, Source, Span};
@@ -137,9 +138,34 @@ impl<'a> Results<'a> {
         self.out.end()
     }
 
-    /// Adds the further places, the paths, and what to do, of a diagnostic.
+    /// Adds the line of C that a place comes from, if a comment there names it.
+    fn origin(&mut self, span: Option<Span>) -> Written {
+        let Some(span) = span else {
+            return Ok(());
+        };
+        let rows = self.files.text_of(self.source).rows;
+        let row = rows.get(span.line.saturating_sub(1) as usize);
+        let Some(Origin { file, line }) = row.and_then(|row| origin_of(row)) else {
+            return Ok(());
+        };
+        let artifact = named_artifact(self.alloc, file)?;
+        self.out.begin()?;
+        self.out.object("physicalLocation")?;
+        self.out.key("artifactLocation")?;
+        write_artifact(self.out, &artifact)?;
+        self.out.object("region")?;
+        self.out.number("startLine", line as usize)?;
+        self.out.end()?;
+        self.out.end()?;
+        let text = format!(in self.alloc; "the instruction comes from line {line} of {file}")?;
+        self.out.message("message", text.as_str())?;
+        self.out.end()
+    }
+
+    /// Adds the line of C, the further places and what to do, the paths, and what to do as changes, of a diagnostic.
     fn beside(&mut self, said: &Diagnostic) -> Written {
         self.out.list("relatedLocations")?;
+        self.origin(said.span)?;
         for note in said.notes.as_slice() {
             self.said(note.span, note.message.as_str())?;
         }

@@ -3,14 +3,13 @@
 use crate::advice::Names;
 use crate::going::{Going, going_on};
 use crate::jump::{add_missing, back_words, halt_help, jump_of};
-use call_returns::returns::Jump;
+use call_returns::returns::{Jump, behind};
 use diagnostics::diagnostic::Help;
 use diagnostics::words;
 use diagnostics::words::Words;
 use mark_subjects::parts::{place_words, places_words};
 use mark_subjects::put_stop::stop_put;
 use mark_subjects::subject::{Made, Subject};
-use mips_instructions::instruction::Op;
 
 const LISTED: &str = "add !s: it leads to {places}{calls}";
 
@@ -24,10 +23,7 @@ const UNSEEN: &str =
 
 /// The place after an instruction, if that is a call.
 pub fn back(subject: &Subject, index: u32) -> Option<u32> {
-    match subject.code().get(index as usize)?.op {
-        Op::JumpLink(_) | Op::JumpLinkReg(_, _) => Some(index.saturating_add(1)),
-        _ => None,
-    }
+    behind(subject.program(), index)
 }
 
 /// Where the last call on a path before its end comes back, in words.

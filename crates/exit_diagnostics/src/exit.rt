@@ -6,10 +6,11 @@ ghost use Rattle.mark_subjects.specs.Parts.{paths, way_paths};
 ghost use Rattle.exit_diagnostics.specs.Exits.{unlisted, lacking, is_taken, wrong_number};
 
 use crate::advice::Names;
+use crate::call::back;
 use crate::going::{going_on, task_line};
 use crate::jump::may_go_on;
 use crate::meant::meant_help;
-use crate::slot::slot_or;
+use crate::slot::{is_turning, slot_or};
 use diagnostics::diagnostic::{Help, Note};
 use diagnostics::listed::Listed;
 use diagnostics::words;
@@ -25,6 +26,11 @@ const EXIT: &str = "{edge}task {task} ends here and goes on to {place}{why}";
 
 const EXITS: &str =
     "task {task} ends here and goes on to {place}, or to {second} if the branch is taken; neither is one of its targets";
+
+const LISTED: &str = "write {fix}; or is {meant} meant on line {line}?";
+
+const CALLS_BEHIND: &str =
+    "is {meant} meant on line {line}, which calls the place to which it comes back? else write {fix}";
 
 /// What begins at a place.
 fn beginning_words(subject: &Subject, index: u32) -> Made<Words> {
@@ -141,13 +147,71 @@ pub fn exit_notes(subject: &Subject, finding: &Finding, path: &[u32]) -> Made<Ve
     Ok(notes)
 }
 
-/// What to do: the targets to write, with these places, if they are not too many.
-fn listing_help(subject: &Subject, task: u32, places: &[u32]) -> Made<Help> {
-    let alloc = subject.alloc();
+/// Whether a task comes to a place, as far as it is seen: inside of it, or by an exit.
+fn comes_to(subject: &Subject, task: u32, place: u32) -> bool {
+    subject.mask(task, place).is_some() || may_go_on(subject, task, place)
+}
+
+/// The targets of a task with these places, without those to which it does not come.
+fn targets_taken(subject: &Subject, task: u32, places: &[u32]) -> Made<Vec<u32>> {
     let targets = targets_with(subject, task, places)?;
+    targets
+        .iter()
+        .copied()
+        .filter(|place| places.contains(place) || comes_to(subject, task, *place))
+        .collect(subject.alloc())
+}
+
+/// The target that may be meant where an instruction goes on to this place: the one alone to which the task does not come,
+/// unless it is the next instruction.
+fn meant_target(subject: &Subject, task: u32, index: u32, place: u32) -> Made<Option<u32>> {
+    let is_onward = place == index.saturating_add(1) && back(subject, index).is_none();
+    if is_onward || !is_turning(subject, index) {
+        return Ok(None);
+    }
+    let listed = entries_listed(subject, task)?;
+    let unused: Vec<u32> = listed
+        .iter()
+        .copied()
+        .filter(|target| !comes_to(subject, task, *target))
+        .collect(subject.alloc())?;
+    let [meant] = unused.as_slice() else {
+        return Ok(None);
+    };
+    let is_next = *meant == index.saturating_add(1);
+    Ok(if is_next { None } else { Some(*meant) })
+}
+
+/// What to do: to write these targets; or another one is meant where the instruction leads.
+fn list_or_meant(subject: &Subject, finding: &Finding, place: u32, text: Words) -> Made<Help> {
+    let alloc = subject.alloc();
+    let index = finding.index;
+    let span = subject.targets_span(finding.task);
+    let Some(meant) = meant_target(subject, finding.task, index, place)? else {
+        return written(alloc, span, text);
+    };
+    let mut names = Names::new(alloc);
+    names.add("fix", text.as_str())?;
+    names.put("meant", place_words(subject, meant)?)?;
+    names.line("line", subject, index)?;
+    if is_end(back(subject, index), place) {
+        return names.advice(CALLS_BEHIND);
+    }
+    let message = names.filled(LISTED)?;
+    by_text(alloc, message, span, text)
+}
+
+/// What to do: the targets to write, with these places, if they are not too many.
+fn listing_help(subject: &Subject, finding: &Finding, places: &[u32]) -> Made<Help> {
+    let alloc = subject.alloc();
+    let task = finding.task;
+    let targets = targets_taken(subject, task, places)?;
     if targets.len() <= 16 {
         let text = targets_words(subject, &targets)?;
-        return written(alloc, subject.targets_span(task), text);
+        return match places {
+            [place] => list_or_meant(subject, finding, *place, text),
+            _ => written(alloc, subject.targets_span(task), text),
+        };
     }
     let name = subject.task(task);
     let message =
@@ -161,7 +225,7 @@ pub fn exit_help(subject: &Subject, finding: &Finding, needless: bool) -> Made<H
     let task = finding.task;
     let places = lacking(subject, finding)?;
     let Some(to) = places.iter().find(|index| !subject.is_entry(**index)) else {
-        return listing_help(subject, task, &places);
+        return listing_help(subject, finding, &places);
     };
     let begin = begin_help(subject, task, *to, &places)?;
     let help = meant_help(subject, finding, *to, needless, begin)?;

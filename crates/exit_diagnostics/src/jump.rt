@@ -9,16 +9,19 @@ use crate::call::back;
 use crate::exit::is_taken;
 use crate::going::{Going, going_on, name_of};
 use crate::returning::coming_back;
-use crate::stop::never_runs;
+use crate::slot::is_slot;
+use crate::stale::stale_or;
+use crate::stop::{entry_of, never_runs};
 use call_returns::returns::Jump;
 use diagnostics::code::Code;
-use diagnostics::diagnostic::{Diagnostic, Help, Replacement, Severity, Source, Span};
+use diagnostics::diagnostic::{Diagnostic, Help, Replacement, Severity, Source};
 use diagnostics::listed::Listed;
 use diagnostics::words;
 use diagnostics::words::Words;
-use mark_subjects::parts::places_words;
+use mark_subjects::parts::{place_words, places_words};
 use mark_subjects::subject::{Made, Subject, is_end};
 use mark_subjects::targets::{entries_listed, is_among};
+use mips_instructions::instruction::Op;
 
 const NOT_LISTED: Row = Row {
     says: "task {task} does not list {places}, where its {jump} on line {line} leads{back}",
@@ -41,6 +44,18 @@ const UNCALLED: Row = Row {
     fix: "halt",
 };
 
+const CALL_MEANT: &str =
+    "is jal meant on line {from}, as on line {call}? else, if the program ends here, write halt";
+
+const START_MEANT: &str =
+    "is the program to start at {first}? else, if the program ends here, write halt";
+
+const SWAPPED: Row = Row {
+    says: "the jalr on line {line} jumps through {through}, and puts the return address into {register}",
+    help: "are its operands swapped? write jalr {through},{register}",
+    fix: "",
+};
+
 const NO_RETURN: Row = Row {
     says: "no call returns to {places} from task {task}, which lists it",
     help: "write {fix}",
@@ -54,11 +69,10 @@ pub enum JumpKind {
     NoReturn,
 }
 
-/// What is said of where the jumps of a task lead.
+/// What is said of where the jumps of a task lead, and what to do.
 #[derive(Drop)]
 struct JumpSaid {
     kind: JumpKind,
-    span: Span,
     message: Words,
     help: Help,
 }
@@ -111,6 +125,25 @@ pub fn leading_nowhere<'a>(subject: &'a Subject) -> Option<&'a Jump> {
     jumps.iter().find(|jump| subject.targets(jump.task).is_empty() && !jump.is_whole)
 }
 
+/// Whether a jump goes through $31, as a return does.
+fn returns(subject: &Subject, index: u32) -> bool {
+    match subject.code().get(index as usize) {
+        Some(marked) => match marked.op {
+            Op::JumpReg(register) => register.get() == 31,
+            _ => false,
+        },
+        None => false,
+    }
+}
+
+/// The first jump that is no return, where it is not seen of all where it leads.
+pub fn leading_anywhere<'a>(subject: &'a Subject) -> Option<&'a Jump> {
+    let jumps = subject.returns().jumps();
+    jumps
+        .iter()
+        .find(|jump| !jump.is_whole && !returns(subject, jump.index))
+}
+
 /// Adds those places of a jump that its task does not list.
 pub fn add_missing(subject: &Subject, jump: &Jump, missing: &mut Vec<u32>) -> Made<()> {
     for place in &jump.places {
@@ -133,14 +166,17 @@ pub fn missing_of(subject: &Subject, task: u32) -> Made<Vec<u32>> {
 }
 
 /// Whether a task reaches an instruction.
-fn is_reached(subject: &Subject, index: u32) -> bool {
+pub fn is_reached(subject: &Subject, index: u32) -> bool {
     let program = subject.program();
     (0..program.tasks().len() as u32).any(|task| subject.mask(task, index).is_some())
 }
 
 /// Whether it is said of a place that no task comes to it: of the task that begins there, which never runs, or of the code behind
-/// a call; and so that this task does not list it.
+/// a call; and so that this task does not list it. Of a delay slot nothing else is said.
 fn is_told(subject: &Subject, task: u32, place: u32) -> bool {
+    if is_slot(subject, place) && !is_reached(subject, place) {
+        return true;
+    }
     let is_lost = match subject.task_at(place) {
         Some(other) => never_runs(subject, other),
         None => is_behind(subject, place) && !is_reached(subject, place),
@@ -154,7 +190,7 @@ pub fn back_words(subject: &Subject, jump: &Jump, places: &[u32]) -> Made<Words>
     let mut lines = String::new(alloc);
     let mut count = 0;
     for place in places {
-        if jump.places.contains(place) && is_behind(subject, *place) {
+        if jump.returns.contains(place) {
             let line = subject.span(place.saturating_sub(1)).line;
             let comma = if lines.is_empty() { "" } else { "," };
             write!(lines, "{comma}{line}")?;
@@ -204,9 +240,8 @@ fn missing_said(subject: &Subject, jump: &Jump, missing: &[u32]) -> Made<JumpSai
     };
     Ok(JumpSaid {
         kind: JumpKind::NotListed,
-        span: subject.targets_span(jump.task),
         message: names.filled(NOT_LISTED.says)?,
-        help,
+        help: stale_or(subject, jump.task, help)?,
     })
 }
 
@@ -220,17 +255,55 @@ pub fn halt_help(subject: &Subject, index: u32, names: &Names) -> Made<Help> {
     names.help(UNCALLED.help, changes)
 }
 
+/// Whether an instruction jumps to a place: as a call, or not.
+fn leads_by(subject: &Subject, index: u32, place: u32, is_call: bool) -> bool {
+    match subject.code().get(index as usize) {
+        Some(marked) => match marked.op {
+            Op::Jump(to) => !is_call && to.get() == place,
+            Op::JumpLink(to) => is_call && to.get() == place,
+            _ => false,
+        },
+        None => false,
+    }
+}
+
+/// The first instruction that jumps to a place: as a call, or not.
+fn leading_to(subject: &Subject, place: u32, is_call: bool) -> Option<u32> {
+    let program = subject.program();
+    let mut indices = 0..program.code().len() as u32;
+    indices.find(|index| leads_by(subject, *index, place, is_call))
+}
+
+/// What to do about a jump to which no call came: a call may be meant where a jump leads to its task, or the program may be
+/// meant to start elsewhere; else it may end there.
+fn uncalled_help(subject: &Subject, jump: &Jump, names: &mut Names) -> Made<Help> {
+    let entry = entry_of(subject, jump.task);
+    if let Some(call) = leading_to(subject, entry, true) {
+        if let Some(from) = leading_to(subject, entry, false) {
+            names.line("call", subject, call)?;
+            names.line("from", subject, from)?;
+            return names.advice(CALL_MEANT);
+        }
+    }
+    match subject.task_at(0) {
+        Some(first) if never_runs(subject, first) => {
+            names.put("first", place_words(subject, 0)?)?;
+            names.advice(START_MEANT)
+        }
+        _ => halt_help(subject, jump.index, names),
+    }
+}
+
 /// What is said of a jump by which a task leaves that lists no target, or to which no call came.
 fn ending_said(subject: &Subject, jump: &Jump) -> Made<JumpSaid> {
-    let names = names_of(subject, jump)?;
+    let mut names = names_of(subject, jump)?;
     let (row, help) = if jump.is_uncalled {
-        (UNCALLED, halt_help(subject, jump.index, &names)?)
+        (UNCALLED, uncalled_help(subject, jump, &mut names)?)
     } else {
         (NO_TARGET, names.advice(NO_TARGET.help)?)
     };
     Ok(JumpSaid {
         kind: JumpKind::NotListed,
-        span: subject.targets_span(jump.task),
         message: names.filled(row.says)?,
         help,
     })
@@ -257,33 +330,41 @@ pub(crate) fn may_go_on(subject: &Subject, task: u32, place: u32) -> bool {
     is_taken(subject, task, place) || may_jump(subject, task, place)
 }
 
-/// What is said of targets of a task to which no call returns, if there are such.
-fn unused_said(subject: &Subject, task: u32) -> Made<Option<JumpSaid>> {
-    let alloc = subject.alloc();
+/// What a row says of some targets that a task is not to list: to write the others.
+pub fn targets_without(
+    subject: &Subject,
+    task: u32,
+    row: Row,
+    places: &[u32],
+) -> Made<(Words, Help)> {
     let listed = entries_listed(subject, task)?;
-    let is_unused = |place: u32| !may_go_on(subject, task, place);
-    let unused: Vec<u32> = listed
-        .iter()
-        .copied()
-        .filter(|place| is_unused(*place))
-        .collect(alloc)?;
-    if unused.is_empty() {
-        return Ok(None);
-    }
     let kept: Vec<u32> = listed
         .iter()
         .copied()
-        .filter(|place| !is_unused(*place))
-        .collect(alloc)?;
+        .filter(|place| !places.contains(place))
+        .collect(subject.alloc())?;
     let mut names = Names::of_task(subject, task)?;
-    names.put("places", places_words(subject, &unused)?)?;
+    names.put("places", places_words(subject, places)?)?;
     names.put("targets", places_words(subject, &kept)?)?;
-    let (message, help) = names.fixed(NO_RETURN, subject.targets_span(task))?;
+    names.fixed(row, subject.targets_span(task))
+}
+
+/// What is said of targets of a task to which no call returns, if there are such.
+fn unused_said(subject: &Subject, task: u32) -> Made<Option<JumpSaid>> {
+    let listed = entries_listed(subject, task)?;
+    let unused: Vec<u32> = listed
+        .iter()
+        .copied()
+        .filter(|place| !may_go_on(subject, task, *place))
+        .collect(subject.alloc())?;
+    if unused.is_empty() {
+        return Ok(None);
+    }
+    let (message, help) = targets_without(subject, task, NO_RETURN, &unused)?;
     Ok(Some(JumpSaid {
         kind: JumpKind::NoReturn,
-        span: subject.targets_span(task),
         message,
-        help,
+        help: stale_or(subject, task, help)?,
     }))
 }
 
@@ -296,9 +377,38 @@ fn untold(subject: &Subject, task: u32, missing: &[u32]) -> Made<Vec<u32>> {
         .collect(subject.alloc())
 }
 
+/// The register into which a jalr through $31 puts the return address, if that is another one.
+fn swapped(subject: &Subject, index: u32) -> Option<u8> {
+    match subject.code().get(index as usize)?.op {
+        Op::JumpLinkReg(link, through) => {
+            let is_swapped = through.get() == 31 && link.get() != 31;
+            is_swapped.then_some(link.get())
+        }
+        _ => None,
+    }
+}
+
+/// What is said of a jalr whose operands may be swapped.
+fn swapped_said(subject: &Subject, jump: &Jump) -> Made<Option<JumpSaid>> {
+    let Some(register) = swapped(subject, jump.index) else {
+        return Ok(None);
+    };
+    let mut names = names_of(subject, jump)?;
+    names.add("register", subject.register(register))?;
+    names.add("through", subject.register(31))?;
+    Ok(Some(JumpSaid {
+        kind: JumpKind::NotListed,
+        message: names.filled(SWAPPED.says)?,
+        help: names.advice(SWAPPED.help)?,
+    }))
+}
+
 /// What is said of the jumps of a task, of which this is the first, if there is something to say.
 fn jump_said(subject: &Subject, first: &Jump) -> Made<Option<JumpSaid>> {
     let task = first.task;
+    if let Some(said) = swapped_said(subject, first)? {
+        return Ok(Some(said));
+    }
     let missing = missing_of(subject, task)?;
     if !missing.is_empty() {
         if untold(subject, task, &missing)?.is_empty() {
@@ -341,7 +451,6 @@ fn jump_warning(subject: &Subject, first: &Jump) -> Made<Option<Diagnostic>>
     let Some(
         JumpSaid {
             kind,
-            span,
             message,
             help,
         },
@@ -353,7 +462,7 @@ fn jump_warning(subject: &Subject, first: &Jump) -> Made<Option<Diagnostic>>
         severity: Severity::Warning,
         code: code_of_jump(kind),
         source: Source::Program,
-        span: Some(span),
+        span: Some(subject.targets_span(first.task)),
         message,
         notes: Listed::new(Vec::new(subject.alloc())),
         help: Some(help),

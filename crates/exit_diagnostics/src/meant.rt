@@ -1,7 +1,8 @@
 //! The stop that may be meant where a task ends at a place where no task begins.
 
 use crate::advice::Names;
-use crate::slot::is_halt;
+use crate::halting::halts;
+use crate::slot::is_turning;
 use crate::stop::stops_always;
 use diagnostics::diagnostic::{Help, Replacement};
 use mark_checker::finding::Finding;
@@ -21,11 +22,11 @@ enum MeantStop {
     This,
     /// That of one edge of the branch, which alone leads to a target, at this index.
     Edge { taken: bool, target: u32 },
-    /// One on the next instruction, at this index.
+    /// One on the instruction at this index, to which a straight line leads.
     Next(u32),
-    /// One on the next instruction, at this index, which is a jump to an address in a register.
+    /// One on such an instruction, at this index, which is a jump to an address in a register.
     Jump(u32),
-    /// None: the next instruction, at this index, is a halt, which ends the task.
+    /// None: such an instruction, at this index, is a halt, which ends the task.
     AtHalt(u32),
     /// None: without it the tasks that reach the instruction go right.
     Needless,
@@ -62,14 +63,6 @@ fn leads_to_targets(subject: &Subject, task: u32, index: u32) -> bool {
         && (way(subject, index, true).is_none() || to_target(subject, task, index, true).is_some())
 }
 
-/// Whether a halt is at an index.
-fn halts(subject: &Subject, index: u32) -> bool {
-    match subject.code().get(index as usize) {
-        Some(marked) => is_halt(&marked.op),
-        None => false,
-    }
-}
-
 /// Whether an instruction has no stop, and is a jump to an address in a register, of a task that has targets.
 fn jumps_away(subject: &Subject, task: u32, index: u32) -> bool {
     let is_jump = match subject.code().get(index as usize) {
@@ -77,6 +70,27 @@ fn jumps_away(subject: &Subject, task: u32, index: u32) -> bool {
         None => false,
     };
     is_jump && matches!(subject.stop(index), Stop::None) && !subject.targets(task).is_empty()
+}
+
+/// Whether an instruction goes on to the next one alone, without a stop, and neither has a label.
+fn goes_straight(subject: &Subject, index: u32) -> bool {
+    !is_turning(subject, index)
+        && !halts(subject, index)
+        && matches!(subject.stop(index), Stop::None)
+        && subject.label(index).is_none()
+        && subject.label(index.saturating_add(1)).is_none()
+        && !subject.is_entry(index.saturating_add(1))
+}
+
+/// The end of the straight line of at most 8 instructions more that begins at a place.
+fn end_of_line(subject: &Subject, to: u32) -> u32 {
+    let mut end = to;
+    for _ in 0..8 {
+        if goes_straight(subject, end) {
+            end = end.saturating_add(1);
+        }
+    }
+    end
 }
 
 /// The stop that may be meant where an instruction ends a task that goes on to a place where no task begins.
@@ -98,12 +112,13 @@ fn meant(subject: &Subject, task: u32, index: u32, to: u32) -> MeantStop {
     if !stops_always(subject.stop(index)) {
         return MeantStop::This;
     }
-    if halts(subject, to) {
-        MeantStop::AtHalt(to)
-    } else if leads_to_targets(subject, task, to) {
-        MeantStop::Next(to)
-    } else if jumps_away(subject, task, to) {
-        MeantStop::Jump(to)
+    let end = end_of_line(subject, to);
+    if halts(subject, end) {
+        MeantStop::AtHalt(end)
+    } else if leads_to_targets(subject, task, end) {
+        MeantStop::Next(end)
+    } else if jumps_away(subject, task, end) {
+        MeantStop::Jump(end)
     } else {
         MeantStop::This
     }

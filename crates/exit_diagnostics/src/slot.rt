@@ -19,6 +19,14 @@ fn turns(op: &Op) -> bool {
     )
 }
 
+/// Whether a branch or a jump is at an index.
+pub(crate) fn is_turning(subject: &Subject, index: u32) -> bool {
+    match subject.code().get(index as usize) {
+        Some(marked) => turns(&marked.op),
+        None => false,
+    }
+}
+
 /// Whether an instruction is a halt.
 pub(crate) fn is_halt(op: &Op) -> bool {
     matches!(op, Op::Halt)

@@ -1,6 +1,7 @@
 -- The lists of the least certificate tell which tasks reach an instruction.
-use Rattle.std.proofs.Common.{◌≡◌, ℕ, ◌<◌, ◌↔◌, Bool, true, false, not, ◌&&◌, Option, Some, List, length, get_or, slice_get, refl, sym, ◌∙◌, ap, subst, arith}
+use Rattle.std.proofs.Common.{◌≡◌, ℕ, ◌+◌, ◌<◌, ◌↔◌, Bool, true, false, not, ◌&&◌, Option, Some, List, length, get_or, slice_get, refl, sym, ◌∙◌, ap, subst, arith, inl, inr}
 use Rattle.std.specs.Prelude.{is_some}
+use Rattle.std.proofs.lemmas.Bool.{cases_lt}
 use Rattle.std.proofs.lemmas.Option.{slice_get_read, slice_get_within}
 use Rattle.mips_instructions.specs.Words.{has}
 use Rattle.task_descriptor.specs.Listing.{Listing}
@@ -11,7 +12,7 @@ use Rattle.annotator.specs.Proposed.{Produces}
 use Rattle.annotator.specs.Marking.{indices_of, ProducedAt}
 use Rattle.annotator.proofs.MarkLemmas.{listed_reached}
 use Rattle.finding_paths.specs.Costly.{IsAwaited, IsNeverProduced, has_target}
-use Rattle.finding_paths.specs.Steps.{TaskIsAwaited, TaskLacks, SomeTaskLacks}
+use Rattle.finding_paths.specs.Steps.{AllHave, TaskIsAwaited, TaskLacks, SomeTaskLacks}
 
 -- a test that fails refuses what does not hold
 pub refused : {X : Type 0} → (X → ⊥) → (false ≡ true) ↔ X
@@ -41,6 +42,25 @@ lacks_exact p cert t index set d false least there masked within =
   where
     no : false ≡ true → ⊥
     no h = cc
+
+-- of what all create masks before have, what the next has, too
+both_kept : (set lacked created new : Bool) → lacked ≡ (set && not created) → new ≡ (set && not lacked) → new ≡ true → (set ≡ true) × (created ≡ true)
+both_kept true lacked true new a b h = (refl, refl)
+both_kept true lacked false new a b h = let fails : new ≡ false = subst (λ (k : Bool). new ≡ not k) a b in absurd (cc)
+both_kept false lacked created new a b h = absurd (cc)
+
+pub all_have_more : (tasks : List Descriptor) (n set lacked new : ℕ) (d : Descriptor) → slice_get tasks n ≡ Some d
+    → ((r : ℕ) → has lacked r ≡ (has set r && not (has d.create r))) → ((r : ℕ) → has new r ≡ (has set r && not (has lacked r)))
+    → AllHave tasks n set → AllHave tasks (n + 1) new
+all_have_more tasks n set lacked new d there one two before t r e less is h =
+    let k = both_kept (has set r) (has lacked r) (has d.create r) (has new r) (one r) (two r) h in
+    elim (cases_lt t n) [
+      | inl earlier ↦ before t r e earlier is k.0
+      | inr last ↦
+          let same : t ≡ n = omega (arith, less, last) in
+          let it : e ≡ d = cc (is, there, same) in
+          subst (λ (x : Descriptor). has x.create r ≡ true) (sym it) k.1
+    ]
 
 pub none_lacks : (p : Listing) (n index set : ℕ) → n ≡ length p.tasks → ((t : ℕ) → t < n → TaskLacks p t index set → ⊥) → SomeTaskLacks p index set → ⊥
 none_lacks p n index set end none some =

@@ -44,6 +44,10 @@ pub record TaskLacks (p : Listing) (task index set : ℕ) : Type 0 where
   pub reached : Reaches p descriptor.entry index
   pub lacks : ((r : ℕ) → has set r ≡ true → has descriptor.create r ≡ true) → ⊥
 
+-- each of the first n tasks has the registers of a set in its create mask
+abbrev pub AllHave : List Descriptor → (n set : ℕ) → Type 0
+AllHave tasks n set = (t r : ℕ) (d : Descriptor) → t < n → slice_get tasks t ≡ Some d → has set r ≡ true → has d.create r ≡ true
+
 -- some task does
 pub record SomeTaskLacks (p : Listing) (index set : ℕ) : Type 0 where
   pub task : ℕ

@@ -8,7 +8,7 @@ ghost use Rattle.mark_checker.specs.Rules.{in_mask};
 ghost use Rattle.annotator.specs.Least.{IsLeast};
 ghost use Rattle.annotator.specs.Marking.{WrittenBehind};
 ghost use Rattle.finding_paths.specs.Costly.{IsNotForwarded};
-ghost use Rattle.finding_paths.specs.Steps.{AreReaching};
+ghost use Rattle.finding_paths.specs.Steps.{AllHave, AreReaching};
 
 use crate::reaching::{is_awaited, some_task_lacks};
 use annotator::updates::writes_last;
@@ -22,10 +22,12 @@ pub(crate) fn is_not_forwarded(
     program: &Program,
     cert: &Cert,
     reaching: &[Option<u32>],
+    common: RegSet,
     index: u32,
 ) -> bool
     requires least { IsLeast program.now cert.now }
     requires table { AreReaching program.now (length program.now.tasks) reaching.now }
+    requires common { AllHave program.now.tasks (length program.now.tasks) common }
     requires there { index < length program.now.code }
     ensures { (result ≡ true) ↔ IsNotForwarded program.now index }
 {
@@ -40,8 +42,8 @@ pub(crate) fn is_not_forwarded(
     if !writes_last(&marked.op, again) {
         return false;
     }
-    if is_awaited(program, cert, index) {
-        !some_task_lacks(program, cert, index, marked.op.dests())
+    if is_awaited(program, cert, task, index) {
+        !some_task_lacks(program, cert, common, index, marked.op.dests())
     } else {
         false
     }

@@ -6,7 +6,7 @@ ghost use Rattle.annotator.specs.Least.{IsLeast};
 ghost use Rattle.annotator.specs.Proposed.{IsMember};
 ghost use Rattle.finding_paths.specs.Costly.{BeginsUnreached, IsAwaited, has_target};
 ghost use Rattle.annotator.specs.Marking.{indices_of};
-ghost use Rattle.finding_paths.specs.Steps.{AreNoted, AreReaching, SomeTaskLacks, TaskIsAwaited, TaskLacks};
+ghost use Rattle.finding_paths.specs.Steps.{AllHave, AreNoted, AreReaching, SomeTaskLacks, TaskIsAwaited, TaskLacks};
 
 use mask_certificate::certificate::Cert;
 use mips_instructions::number::RegSet;
@@ -49,11 +49,35 @@ pub(crate) fn is_member(program: &Program, reaching: &[Option<u32>], index: u32)
     reaching[index as usize].is_some()
 }
 
-/// Whether some task that reaches the instruction does not have all these registers in its create mask.
-pub(crate) fn some_task_lacks(program: &Program, cert: &Cert, index: u32, written: RegSet) -> bool
-    requires { IsLeast program.now cert.now }
+/// Registers that the create masks of all tasks have.
+#[tactic(auto, using(crate::proofs::Reached::all_have_more))]
+pub(crate) fn created_by_all(program: &Program) -> RegSet
+    ensures { AllHave program.now.tasks (length program.now.tasks) result }
+{
+    let mut set = RegSet::from_bits(0x3_ffff_ffff).unwrap_or(RegSet::empty());
+    for descriptor in program.tasks() {
+        let lacked = set.minus(descriptor.create);
+        set = set.minus(lacked);
+    }
+    set
+}
+
+/// Whether some task that reaches the instruction does not have all these registers in its create mask. `common` has registers
+/// that all create masks have.
+pub(crate) fn some_task_lacks(
+    program: &Program,
+    cert: &Cert,
+    common: RegSet,
+    index: u32,
+    written: RegSet,
+) -> bool
+    requires least { IsLeast program.now cert.now }
+    requires common { AllHave program.now.tasks (length program.now.tasks) common }
     ensures { (result ≡ true) ↔ SomeTaskLacks program.now index written }
 {
+    if written.is_subset(common) {
+        return false;
+    }
     for task in 0..program.tasks().len() {
         if task_lacks(program, cert, task as u32, index, written) {
             return true;
@@ -74,11 +98,15 @@ fn task_lacks(program: &Program, cert: &Cert, task: u32, index: u32, written: Re
     !written.is_subset(program.tasks()[task as usize].create)
 }
 
-/// Whether some task that has a target reaches the instruction.
-pub(crate) fn is_awaited(program: &Program, cert: &Cert, index: u32) -> bool
-    requires { IsLeast program.now cert.now }
+/// Whether some task that has a target reaches the instruction: this one, or another.
+pub(crate) fn is_awaited(program: &Program, cert: &Cert, first: u32, index: u32) -> bool
+    requires least { IsLeast program.now cert.now }
+    requires there { first < length program.now.tasks }
     ensures { (result ≡ true) ↔ IsAwaited program.now index }
 {
+    if task_is_awaited(program, cert, first, index) {
+        return true;
+    }
     for task in 0..program.tasks().len() {
         if task_is_awaited(program, cert, task as u32, index) {
             return true;

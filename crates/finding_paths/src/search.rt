@@ -9,7 +9,7 @@ ghost use Rattle.finding_paths.specs.Steps.{Adds, AreReaching, AreUnsent, marks_
 use crate::last_update::is_not_forwarded;
 use crate::mark::CostlyMark;
 use crate::production::{is_release, spare};
-use crate::reaching::{begins_unreached, reaching_tasks};
+use crate::reaching::{begins_unreached, created_by_all, reaching_tasks};
 use crate::table::{is_sent_before, unsent_table};
 use mask_certificate::certificate::Cert;
 use mips_instructions::number::{REGISTERS, Reg};
@@ -104,9 +104,10 @@ fn add_of_instructions(
     requires table { AreUnsent program.now 34 (marks_of table.now) }
     ensures { OnOk result (Adds program.now (up_to of_instruction (length program.now.code)) list.old.items list.new.items) }
 {
+    let common = created_by_all(program);
     for i in 0..program.code().len() {
         let index = i as u32;
-        let is_costly = is_not_forwarded(program, cert, reaching, index);
+        let is_costly = is_not_forwarded(program, cert, reaching, common, index);
         add(list, CostlyMark::NotForwarded { index }, is_costly)?;
         add_sent_before(program, reaching, table, index, list)?;
     }

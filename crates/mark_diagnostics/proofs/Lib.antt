@@ -1,4 +1,6 @@
 mod Counting
 mod Numbers
 mod Ranges
+mod StopsAlike
 mod Telling
+mod Warned

@@ -1,5 +1,5 @@
 -- What could be better about the marks of a program: a warning for each remark, by its code, at its place.
-use Rattle.std.specs.Prelude.{◌≡◌, ℕ, ◌-◌, List, [], ◌∷◌, ◌++◌, codes, map, take, length, Some}
+use Rattle.std.specs.Prelude.{◌≡◌, ℕ, ◌-◌, List, [], ◌++◌, codes, map, take, length, Some}
 use Rattle.std.specs.List.{All, AllZip}
 use Rattle.task_descriptor.specs.Listing.{Listing}
 use Rattle.finding_paths.specs.declared.mark.CostlyMark.{CostlyMark}

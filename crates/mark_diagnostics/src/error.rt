@@ -23,6 +23,7 @@ use exit_diagnostics::exit::{
     add_place_note, beyond, beyond_help, exit_help, exit_message, exit_notes, target_help,
     wrong_number, wrong_target,
 };
+use exit_diagnostics::halting::halt_or;
 use exit_diagnostics::needless::is_needless;
 use finding_paths::shown::{ShownFinding, path_of};
 use mark_checker::accept::accepts;
@@ -230,7 +231,8 @@ fn told_notes(
     }
 }
 
-/// What to do about a finding; where it is told in short, to put a stop on this step of its path.
+/// What to do about a finding; where it is told in short, to put a stop on this step of its path. Before all a halt may be
+/// forgotten there.
 fn told_help(
     subject: &Subject,
     finding: &Finding,
@@ -238,11 +240,14 @@ fn told_help(
     shown: &[ShownFinding],
     short: Option<(u32, u32)>,
 ) -> Made<Help> {
+    let path = first_path(shown);
     if let Some(step) = short {
-        return end_help(subject, finding.task, step.0, step.1);
+        let help = end_help(subject, finding.task, step.0, step.1)?;
+        return halt_or(subject, finding.task, path, help);
     }
-    let help = help(subject, finding, first_path(shown), about)?;
-    stop_or(subject, finding.task, first_entered(subject, shown), help)
+    let help = help(subject, finding, path, about)?;
+    let help = stop_or(subject, finding.task, first_entered(subject, shown), help)?;
+    halt_or(subject, finding.task, path, help)
 }
 
 /// What is said of a finding, with what is told with it.

@@ -6,6 +6,7 @@ pub mod error;
 mod mask;
 mod release;
 mod sending;
+mod strayed;
 mod together;
 pub mod told;
 pub mod warning;

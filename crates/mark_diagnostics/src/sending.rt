@@ -15,7 +15,7 @@ use mark_checker::finding::{Finding, Rule};
 use mark_subjects::mark_place::mark_span;
 use mark_subjects::parts::{last_or, path_note, registers_where, take_out};
 use mark_subjects::put_stop::bit_put;
-use mark_subjects::subject::{Made, Subject, has_number};
+use mark_subjects::subject::{Made, Subject, has_number, is_end};
 use mips_instructions::number::RegSet;
 
 /// What to do where the register is written again.
@@ -216,6 +216,25 @@ fn side(subject: &Subject, finding: &Finding) -> Option<u32> {
     None
 }
 
+/// Whether a task goes on from an entry to a place, and does not write a register any more after the entry.
+fn is_written_before(subject: &Subject, entry: &(u32, RegSet), place: u32, register: u8) -> bool
+    requires { register < 34 }
+{
+    let is_led = is_end(subject.inner(entry.0, false), place)
+        || is_end(subject.inner(entry.0, true), place);
+    is_led && (!has_number(entry.1, register) || writes(subject, entry.0, register))
+}
+
+/// Whether a task may come to a place after its last write of a register, too.
+fn follows_write(subject: &Subject, task: u32, place: u32, register: u8) -> bool
+    requires { register < 34 }
+{
+    let entries = subject.entries(task);
+    entries
+        .iter()
+        .any(|entry| is_written_before(subject, entry, place, register))
+}
+
 /// To release a register before an instruction, and after its label.
 fn put_release(subject: &Subject, index: u32, register: u8) -> Made<Words> {
     let alloc = subject.alloc();
@@ -258,7 +277,12 @@ pub(crate) fn early_help(subject: &Subject, finding: &Finding, path: &[u32]) -> 
     }
     if let Some(place) = side(subject, finding) {
         let release = put_release(subject, place, register)?;
-        let beside = words!(in alloc; "; {release}, on the path that does not write it")?;
+        let path = if follows_write(subject, task, place, register) {
+            ""
+        } else {
+            ", on the path that does not write it"
+        };
+        let beside = words!(in alloc; "; {release}{path}")?;
         names.put("beside", beside)?;
     }
     let row = match resend_at(subject, finding, path)? {

@@ -1,6 +1,6 @@
 //! What could be better about a program's marks, as diagnostics.
 
-ghost use Rattle.std.specs.Prelude.{◌≡◌, ◌<◌, ◌++◌, ◌&&◌, ◌==◌, not, slice_get, map as each, Ok, IfOk, OnOk};
+ghost use Rattle.std.specs.Prelude.{◌≡◌, ◌<◌, ◌++◌, ◌&&◌, ◌==◌, true, [], not, slice_get, map as each, Ok, IfOk, OnOk};
 ghost use Rattle.std.specs.List.{AllZip, list_any};
 ghost use Rattle.mark_diagnostics.specs.Fixes.{created_in, produced, still_released};
 ghost use Rattle.annotated_asm.specs.ProgramText.{parse};
@@ -14,8 +14,10 @@ use crate::error::MOST_SHOWN;
 use crate::mask::is_among;
 use crate::release::{release_words, release_written};
 use crate::sending::writes;
+use crate::strayed::{label_words, slot_is_lacked, strayed};
 use crate::together::add_marks;
-use call_returns::returns::Jump;
+use annotated_asm::laws::map_fits;
+use call_returns::returns::{Jump, has_indirect};
 use diagnostics::code::Code;
 use diagnostics::diagnostic::{Diagnostic, Help, Severity, Source, Span};
 use diagnostics::listed::Listed;
@@ -26,7 +28,8 @@ use exit_diagnostics::call::back;
 use exit_diagnostics::exit::is_taken;
 use exit_diagnostics::going::{Going, going_on};
 use exit_diagnostics::jump::{
-    is_behind, jump_warnings, leading_nowhere, missing_at, missing_of, name_at,
+    is_behind, jump_warnings, leading_anywhere, leading_nowhere, missing_at, missing_of, name_at,
+    targets_without,
 };
 use exit_diagnostics::remark::{Remark, StopRemark};
 use exit_diagnostics::returning::{coming_back, step_into};
@@ -43,7 +46,6 @@ use mark_subjects::parts::{
 use mark_subjects::put_stop::{bit_put, missing_stop};
 use mark_subjects::step::{end_help, stop_name};
 use mark_subjects::subject::{Made, Subject, has_number, is_end};
-use mark_subjects::targets::entries_listed;
 use mask_certificate::certificate::Cert;
 use std::alloc::{AllocError, Global};
 use task_descriptor::program::Program;
@@ -53,6 +55,9 @@ const NEVER_PRODUCED: Row = Row {
     help: "write {fix}",
     fix: "create={kept}",
 };
+
+const STRAYED: &str =
+    "does line {line}, which no task reaches, belong to task {task}? else write create={kept}";
 
 const NOT_FORWARDED: Row = Row {
     says: "this is a last update without !f: later tasks wait for what it writes",
@@ -79,14 +84,17 @@ const ALL_SENT_BEFORE: Row = Row {
 
 const UNREACHED: Row = Row {
     says: "no task reaches the code from here on",
-    help: "{rest}",
+    help: "{meant}{rest}{moved}",
     fix: "",
 };
 
 const SLOT_UNREACHED: Row = Row {
-    help: "is it a delay slot? there are none here: move it before line {line}; else {rest}",
+    help: "{meant}is it a delay slot? there are none here: move it before line {line}{moved}; else {rest}",
     ..UNREACHED
 };
+
+const MAY_LEAD_TO: &str =
+    "the {jump} on line {from} may lead here: let a task begin at {label}, as a target of task {returns}; or {rest}";
 
 const AFTER_CALL: &str =
     "let a task begin here, as a target of {coming}: the call on line {line} may come back to it";
@@ -100,8 +108,18 @@ const ONWARD_OR_ALL_OUT: &str =
 
 const NEVER_RUNS: Row = Row {
     says: "task {task} never runs: no other task has it as a target, and the program starts at {start}",
-    help: "write .start {task}, in place of another .start, or make it a target of another task",
+    help: "make it a target of another task; or write .start {task}, in place of another .start",
     fix: "",
+};
+
+const STARTS_ELSEWHERE: Row = Row {
+    help: "write .start {task}, in place of another .start, or make it a target of another task",
+    ..NEVER_RUNS
+};
+
+const MAY_LEAD: Row = Row {
+    help: "the {jump} on line {from} may lead here: list {task} in task {returns}; or make it a target of another task",
+    ..NEVER_RUNS
 };
 
 const RETURNED_TO: Row = Row {
@@ -192,7 +210,7 @@ fn span_of(subject: &Subject, remark: &Remark) -> Span
 }
 
 /// Whether the create mask of a task has a register.
-fn is_created(subject: &Subject, task: u32, number: u8) -> bool
+pub(crate) fn is_created(subject: &Subject, task: u32, number: u8) -> bool
     requires { number < 34 }
     ensures { result ≡ created_in (slice_get subject.now.program.tasks task) number }
 {
@@ -226,6 +244,10 @@ fn mask_advice(subject: &Subject, task: u32, gone: &[u8]) -> Made<(Words, Help)>
     let mut names = Names::of_task(subject, task)?;
     names.put("registers", registers_words(subject, gone)?)?;
     names.put("kept", registers_words(subject, &kept)?)?;
+    if let Some(index) = strayed(subject, task, gone) {
+        names.line("line", subject, index)?;
+        return Ok((names.filled(NEVER_PRODUCED.says)?, names.advice(STRAYED)?));
+    }
     names.fixed(NEVER_PRODUCED, subject.create_span(task))
 }
 
@@ -303,14 +325,8 @@ fn unreached_advice(subject: &Subject, index: u32) -> Made<(Words, Help)> {
                 changes = going.into_changes();
             }
         }
-        let coming = match seen.or(coming_back(subject, before)) {
-            Some(task) => {
-                let name = subject.task(task);
-                words!(in alloc; "task {name}")?
-            }
-            None => Words::of(alloc, "the task that comes back")?,
-        };
-        names.put("coming", coming)?;
+        let coming = seen.or(coming_back(subject, before));
+        names.put("coming", coming_words(subject, coming)?)?;
         AFTER_CALL
     } else if !subject.names_no_index() {
         ONWARD
@@ -320,9 +336,48 @@ fn unreached_advice(subject: &Subject, index: u32) -> Made<(Words, Help)> {
         ONWARD_OR_ALL_OUT
     };
     let rest = names.filled(rest)?;
-    names.put("rest", rest)?;
+    names.put("rest", led_or(subject, index, rest)?)?;
+    if is_alone && slot_is_lacked(subject, index)? {
+        return names.said(SLOT_UNREACHED, Vec::new(alloc));
+    }
     let row = if is_alone { SLOT_UNREACHED } else { UNREACHED };
+    let (meant, moved) = label_words(subject, index)?;
+    if !meant.as_str().is_empty() {
+        changes = Vec::new(alloc);
+    }
+    names.put("meant", meant)?;
+    names.put("moved", moved)?;
     names.said(row, changes)
+}
+
+/// The task that comes back, in words, if it is known.
+fn coming_words(subject: &Subject, task: Option<u32>) -> Made<Words> {
+    let alloc = subject.alloc();
+    match task {
+        Some(task) => {
+            let name = subject.task(task);
+            words!(in alloc; "task {name}")
+        }
+        None => Words::of(alloc, "the task that comes back"),
+    }
+}
+
+/// What to do about code with a label that no task reaches: first about a jump that may lead to it, which is no return.
+fn led_or(subject: &Subject, index: u32, rest: Words) -> Made<Words> {
+    if is_behind(subject, index) {
+        return Ok(rest);
+    }
+    let Some(label) = subject.label(index) else {
+        return Ok(rest);
+    };
+    let Some(jump) = leading_anywhere(subject) else {
+        return Ok(rest);
+    };
+    let mut names = Names::new(subject.alloc());
+    name_jump(subject, &mut names, jump)?;
+    names.add("label", label.as_str())?;
+    names.put("rest", rest)?;
+    names.filled(MAY_LEAD_TO)
 }
 
 /// What is said of a task that never runs: first of one that goes on into it without a stop, or returns to it.
@@ -350,13 +405,37 @@ fn never_running(subject: &Subject, task: u32) -> Made<(Words, Help)> {
     if is_returned {
         return names.said(MAY_RETURN, Vec::new(alloc));
     }
-    match leading_nowhere(subject) {
-        Some(jump) => {
-            name_jump(subject, &mut names, jump)?;
-            names.said(LISTS_NONE, Vec::new(alloc))
-        }
-        None => names.said(NEVER_RUNS, Vec::new(alloc)),
+    if let Some(jump) = leading_nowhere(subject) {
+        name_jump(subject, &mut names, jump)?;
+        return names.said(LISTS_NONE, Vec::new(alloc));
     }
+    never_led(subject, names, entry)
+}
+
+/// What is said of a task that never runs, where it is not seen what leads to it: the first of the text may be the program's
+/// start; to another a jump may lead, which is no return; and the start may not be said.
+fn never_led(subject: &Subject, mut names: Names, entry: u32) -> Made<(Words, Help)> {
+    let alloc = subject.alloc();
+    if entry == 0 {
+        return names.said(STARTS_ELSEWHERE, Vec::new(alloc));
+    }
+    if let Some(jump) = leading_anywhere(subject) {
+        name_jump(subject, &mut names, jump)?;
+        return names.said(MAY_LEAD, Vec::new(alloc));
+    }
+    let row = if says_start(subject) {
+        NEVER_RUNS
+    } else {
+        STARTS_ELSEWHERE
+    };
+    names.said(row, Vec::new(alloc))
+}
+
+/// Whether the text says where the program starts.
+fn says_start(subject: &Subject) -> bool {
+    subject.rows().iter().any(|row| {
+        row.windows(6).any(|bytes| matches!(bytes, [b'.', b's', b't', b'a', b'r', b't']))
+    })
 }
 
 /// Adds the words of a jump by which a task leaves.
@@ -391,28 +470,22 @@ fn step_out(subject: &Subject, task: u32) -> Option<(u32, u32)> {
 
 /// What is said of targets that no exit takes: first of a stop before one of them.
 fn targets_advice(subject: &Subject, task: u32) -> Made<(Words, Help)> {
-    let alloc = subject.alloc();
     let is_untaken = |place: u32| !is_taken(subject, task, place);
     let places = subject.targets(task).iter().map(|target| target.get());
-    let untaken: Vec<u32> = places.filter(|place| is_untaken(*place)).collect(alloc)?;
-    let mut names = Names::of_task(subject, task)?;
-    names.put("places", places_words(subject, &untaken)?)?;
+    let untaken: Vec<u32> = places
+        .filter(|place| is_untaken(*place))
+        .collect(subject.alloc())?;
     if let Some((index, into)) = step_out(subject, task) {
         if is_untaken(entry_of(subject, into)) {
+            let mut names = Names::of_task(subject, task)?;
+            names.put("places", places_words(subject, &untaken)?)?;
             return Ok((
                 names.filled(NOT_TAKEN.says)?,
                 end_help(subject, task, index, into)?,
             ));
         }
     }
-    let listed = entries_listed(subject, task)?;
-    let taken: Vec<u32> = listed
-        .iter()
-        .copied()
-        .filter(|place| !is_untaken(*place))
-        .collect(alloc)?;
-    names.put("targets", places_words(subject, &taken)?)?;
-    names.fixed(NOT_TAKEN, subject.targets_span(task))
+    targets_without(subject, task, NOT_TAKEN, &untaken)
 }
 
 /// What is said of a mark that costs speed, with the registers of all that it stands for, and what to do.
@@ -572,6 +645,16 @@ fn joined(mut first: Vec<Diagnostic>, mut second: Vec<Diagnostic>) -> Made<Vec<D
     Ok(first)
 }
 
+/// Whether there is nothing to warn of.
+fn is_silent(list: &[CostlyMark], stops: &[StopRemark], program: &Program) -> bool
+    ensures { result ≡ true → (list.now ≡ []) × (stops.now ≡ []) }
+{
+    match (list, stops) {
+        ([], []) => !has_indirect(program),
+        _ => false,
+    }
+}
+
 /// What could be better about the marks of the program that a text spells: where a stop or a way to a task may be
 /// forgotten, and which marks cost speed, of one create mask or one release all at once; of the first `MOST_SHOWN`,
 /// and how many more there are; before that, where jumps to addresses in registers lead that is not listed. `least` is the program's least certificate.
@@ -589,9 +672,15 @@ pub fn mark_warnings(
     requires least { IsLeast program.now least.now }
     ensures { IfOk result (λ said. AreMarkWarnings text.now program.now least.now said.items) }
 {
+    // The text has a source map, which is made only where there is something to warn of.
+    map_fits();
     let list = costly_marks(alloc, program, least)?;
+    let bare = Subject::without_text(alloc, program, least);
+    let stops = stop_remarks(&bare)?;
+    if is_silent(&list, &stops, program) {
+        return Ok(Vec::new(alloc));
+    }
     let subject = Subject::read(alloc, text, program, least)?;
-    let stops = stop_remarks(&subject)?;
     let remarks = all_remarks(alloc, &stops, &list)?;
     let shown = first_of(&remarks, MOST_SHOWN);
     let warned = warnings(&subject, shown)?;

@@ -8,9 +8,14 @@ use program_tokens::token::{Token, TokenFault};
 use std::alloc::{AllocError, Global};
 use task_descriptor::name::Name;
 
-/// The label at the front of the line of this number, or one that is all of it; a line that has a fault has none.
+/// The label at the front of the line of this number, or one that is all of it; a line that has a fault has none. Only a line
+/// with a colon can have one.
 fn label_in(alloc: Global, rows: &[&[u8]], number: u32, alone: bool) -> Made<Option<Name>> {
-    let tokens = match line_tokens(alloc, line_in(rows, number)) {
+    let line = line_in(rows, number);
+    if !line.contains(&b':') {
+        return Ok(None);
+    }
+    let tokens = match line_tokens(alloc, line) {
         Ok(tokens) => tokens,
         Err(TokenFault::OutOfMemory) => return Err(AllocError),
         Err(_) => return Ok(None),

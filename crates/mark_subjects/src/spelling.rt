@@ -17,7 +17,7 @@ pub struct RegisterSpelling {
     pub word: Words,
 }
 
-/// Adds the registers of a line; of one that has a fault none.
+/// Adds the registers of a line that are not there yet; of one that has a fault none.
 fn add_line(alloc: Global, list: &mut Vec<RegisterSpelling>, line: &[u8]) -> Made<()> {
     let tokens = match line_tokens(alloc, line) {
         Ok(tokens) => tokens,
@@ -28,6 +28,9 @@ fn add_line(alloc: Global, list: &mut Vec<RegisterSpelling>, line: &[u8]) -> Mad
     read_spans(&mut places, line)?;
     for (token, place) in tokens.iter().zip(places.iter()) {
         if let Token::Register(register) = token {
+            if list.iter().any(|known| known.register == *register) {
+                continue;
+            }
             let bytes = first_of(rest_after(line, place.column.saturating_sub(1)), place.len);
             let word = Words::of(alloc, str::from_utf8(bytes).unwrap_or(""))?;
             list.push(RegisterSpelling {
@@ -37,6 +40,21 @@ fn add_line(alloc: Global, list: &mut Vec<RegisterSpelling>, line: &[u8]) -> Mad
         }
     }
     Ok(())
+}
+
+/// Whether a text begins with the word of a register that is there.
+fn begins_known(list: &[RegisterSpelling], text: &[u8]) -> bool {
+    let digits = rest_after(text, 1);
+    let end = digits.iter().position(|byte| !byte.is_ascii_alphanumeric());
+    let word = first_of(text, end.unwrap_or(digits.len()).saturating_add(1));
+    list.iter()
+        .any(|known| known.word.as_str().as_bytes() == word)
+}
+
+/// Whether a line names no register that is not there.
+fn has_known(list: &[RegisterSpelling], line: &[u8]) -> bool {
+    line.iter().enumerate().all(|(place, byte)| *byte != b'$'
+        || begins_known(list, rest_after(line, place)))
 }
 
 /// A register by its number; HI and LO by their names.
@@ -52,7 +70,9 @@ fn numbered(alloc: Global, number: u8) -> Made<Words> {
 pub fn names_in(alloc: Global, rows: &[&[u8]]) -> Made<Vec<Words>> {
     let mut spelled = Vec::new(alloc);
     for row in rows {
-        add_line(alloc, &mut spelled, *row)?;
+        if !has_known(&spelled, *row) {
+            add_line(alloc, &mut spelled, *row)?;
+        }
     }
     let mut names = Vec::new(alloc);
     for number in 0..34u8 {

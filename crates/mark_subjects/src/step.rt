@@ -72,7 +72,7 @@ pub fn stop_note(subject: &Subject, task: u32, step: Option<(u32, u32)>) -> Made
         return Ok(notes);
     };
     let name = subject.task(task);
-    let word = stop_name(missing_stop(subject, from));
+    let word = end_word(subject, from);
     let into = subject.task(into);
     let message =
         words!(in subject.alloc(); "task {name} goes on into task {into} here, without a stop; was {word} meant?")?;
@@ -91,10 +91,35 @@ pub fn stop_name(stop: Stop) -> &'static str {
     }
 }
 
+/// Whether an edge, if there is one, leads to a place where a task begins.
+fn begins(subject: &Subject, edge: Option<u32>) -> bool {
+    match edge {
+        Some(place) => subject.is_entry(place),
+        None => false,
+    }
+}
+
+/// Whether a branch ends the task on this edge, where no task begins, and goes on into a task by the other.
+fn is_wrong_edge(subject: &Subject, index: u32, taken: bool) -> bool {
+    let exit = subject.exit(index, taken);
+    exit.is_some() && !begins(subject, exit) && begins(subject, subject.inner(index, !taken))
+}
+
+/// The stop that ends a task before another; in place of one on the wrong edge of a branch, that of the other edge.
+fn end_word(subject: &Subject, index: u32) -> &'static str {
+    if is_wrong_edge(subject, index, false) {
+        return "!st";
+    }
+    if is_wrong_edge(subject, index, true) {
+        return "!sn";
+    }
+    stop_name(missing_stop(subject, index))
+}
+
 /// Where a task is to end before another: which stop to write on a line, and which targets, in words and as changes.
 fn end_put(subject: &Subject, task: u32, index: u32, into: u32) -> Made<(Words, Vec<Replacement>)> {
     let alloc = subject.alloc();
-    let word = stop_name(missing_stop(subject, index));
+    let word = end_word(subject, index);
     let line = subject.span(index).line;
     let stop = match subject.stop(index) {
         Stop::None => words!(in alloc; "put {word} on line {line}")?,

@@ -94,6 +94,24 @@ impl<'a> Subject<'a> {
         })
     }
 
+    /// A program with its least certificate alone: no place in a text is known, and nothing is seen of its calls.
+    pub fn without_text(alloc: Global, program: &'a Program, least: &'a Cert) -> Subject<'a>
+        ensures program { result.program ≡ program.now }
+        ensures least { result.least ≡ least.now }
+    {
+        Subject {
+            alloc,
+            program,
+            rows: Vec::new(alloc),
+            places: no_places(alloc),
+            labels: Vec::new(alloc),
+            names: Vec::new(alloc),
+            no_index: true,
+            least,
+            returns: Returns::none(alloc),
+        }
+    }
+
     /// Where memory is taken from.
     pub fn alloc(&self) -> Global {
         self.alloc
@@ -425,6 +443,20 @@ fn lines_of(alloc: Global, text: &[u8]) -> Made<Vec<&[u8]>>
             Some(more) => rest = more,
             None => return Ok(list),
         }
+    }
+}
+
+/// No places yet.
+fn no_places(alloc: Global) -> SourceMap {
+    SourceMap {
+        code: Vec::new(alloc),
+        widths: Vec::new(alloc),
+        tasks: Vec::new(alloc),
+        lists: Vec::new(alloc),
+        targets: Vec::new(alloc),
+        labels: Vec::new(alloc),
+        pieces: Vec::new(alloc),
+        start: None,
     }
 }
 

@@ -16,6 +16,10 @@ pub written_behind-again-requires-clause-reaches : goal.written_behind-again-req
 written_behind-again-requires-clause-reaches c =
     mask_there c.args.program.now c.args.cert.now c.in-Some.task c.args.index c.requires.least (c.requires.table.reaches c.args.index c.in-Some.task c.in-Some.is)
 
+pub is_awaited-requires-clause-there : goal.is_awaited-requires-clause-there
+is_awaited-requires-clause-there c =
+    task_within c.args.program.now c.in-Some.task c.args.index (c.requires.table.reaches c.args.index c.in-Some.task c.in-Some.is)
+
 pub returns-in_default : goal.returns-in_default
 returns-in_default c = refused (λ n. let a = n.awaited in
     not_member c.args.program.now c.args.index c.args.reaching.now c.requires.table c.requires.there c.in_default.not-Some

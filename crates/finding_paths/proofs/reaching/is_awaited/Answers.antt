@@ -11,7 +11,7 @@ loop-task-preserved c t less l = elim (cases_lt t c.loop-task.task) [
   | inl earlier ↦ c.loop-task.invariant t earlier l
   | inr last ↦
       let same : t ≡ c.loop-task.task = omega arith in
-      both c.task_is_awaited.result (c.task_is_awaited.ensures.1 (subst (λ (k : ℕ). TaskIsAwaited c.args.program.now k c.args.index) same l)) c.if-task_is_awaited.false
+      both c.task_is_awaited-in-loop-task.result (c.task_is_awaited-in-loop-task.ensures.1 (subst (λ (k : ℕ). TaskIsAwaited c.args.program.now k c.args.index) same l)) c.if-task_is_awaited-2.false
 ]
 
 pub returns : goal.returns
