@@ -33,7 +33,6 @@ ALLOWED = {
     "parallel_check/src/checking.rt": 1,
     # A write to memory failed, which it does for want of it alone.
     "event_trace/src/streaming.rt": 1,
-    "program_edge/src/reports.rt": 1,
     # Noted when a call or a thread was refused.
     "threaded_runner/src/desk.rt": 1,
 }

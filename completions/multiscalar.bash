@@ -4,11 +4,11 @@ _multiscalar_options() {
     case $1 in
         # made: bash options
         seq) echo "--budget --output --help" ;;
-        print) echo "--output --help" ;;
+        print) echo "--listing --output --help" ;;
         annotate) echo "--emit --output --in-place --report --help" ;;
-        explain) echo "--certificate --script --no-warnings --format --color --fix --output --in-place --help" ;;
-        check) echo "--least --workers --output --help" ;;
-        replay) echo "--least --units --emit --until --strict --output --help" ;;
+        explain) echo "--certificate --script --no-warnings --werror --format --color --fix --output --in-place --help" ;;
+        check) echo "--format --least --workers --output --help" ;;
+        replay) echo "--least --units --emit --until --strict --complete --format --output --help" ;;
         run) echo "--least --schedule --units --workers --budget --predict --emit --axis --with-values --output --help" ;;
         curve) echo "--least --units --budget --predict --emit --progress --output --help" ;;
         demonstrate) echo "--units --steps --emit --output --help" ;;
@@ -20,6 +20,7 @@ _multiscalar_values() {
     case $1:$2 in
         # made: bash values
         explain:--format) echo "text sarif json" ;;
+        check:--format) echo "text json" ;;
         explain:--color) echo "auto always never" ;;
         run:--schedule) echo "threads steps" ;;
         replay:--units | run:--units) echo "1 2 4 8 16" ;;
@@ -37,6 +38,7 @@ _multiscalar_values() {
         curve:--emit) echo "table svg" ;;
         demonstrate:--emit) echo "events svg" ;;
         replay:--until) echo " " ;;
+        replay:--format) echo "text json" ;;
         run:--axis) echo "events steps" ;;
         # end of bash values
     esac

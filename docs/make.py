@@ -23,10 +23,10 @@ TOP = pathlib.Path(__file__).resolve().parent.parent
 CRATES = TOP / "crates"
 TEXT = r'"((?:[^"\\]|\\.)*)"'
 # The lists of values in job.rt; those of `annotate --emit`, `--axis` and `--predict` are matched there, not listed.
-LISTS = {("explain", "format"): "FORMATS", ("explain", "color"): "COLORS", ("run", "schedule"): "SCHEDULES",
+LISTS = {("explain", "format"): "FORMATS", ("check", "format"): "CHECK_FORMATS", ("explain", "color"): "COLORS", ("run", "schedule"): "SCHEDULES",
          ("replay", "emit"): "REPLAY_EMITS", ("run", "emit"): "RUN_EMITS", ("curve", "emit"): "CURVE_EMITS",
          ("demonstrate", "emit"): "DEMONSTRATE_EMITS"}
-VALUES = {("annotate", "emit"): "text cert keep marks", ("run", "axis"): "events steps", ("run curve", "predict"): "first last"}
+VALUES = {("annotate", "emit"): "text cert keep marks", ("run", "axis"): "events steps", ("replay", "format"): "text json", ("run curve", "predict"): "first last"}
 
 # What the instructions of each row of the instruction table do, in words.
 EFFECTS = {

@@ -151,7 +151,7 @@ def looks(draw, text):
     if text == "c":
         return draw.choice([["check", "--workers", str(draw.choice([1, 3])), "p", "c"], [*told, "--certificate", "c", "p"], ["run", "--schedule", "steps", *wide, "p", "c"], ["replay", "p", "c", "s"]])
     if text == "s":
-        return draw.choice([["replay", "--least", "--emit", draw.choice(CHOICES["replay"]), "p", "s"], ["replay", "--least", "--strict", "p", "s"], [*told, "--script", "s", "p"]])
+        return draw.choice([["replay", "--least", "--emit", draw.choice(CHOICES["replay"]), "p", "s"], ["replay", "--least", "--strict", *draw.choice(([], ["--complete"], ["--format", "json"])), "p", "s"], [*told, "--script", "s", "p"]])
     return draw.choice([["seq", "--budget", "60", "p"], ["print", "p"], ["annotate", "--emit", draw.choice(CHOICES["annotate"]), "p"], told + ["p"], ["explain", "p", "p"],
                         ["check", "--least", "p"], ["check", "--least", "p", "missing", "-"], ["run", "--least", "--schedule", "steps", *wide, "--emit", draw.choice(CHOICES["run"]), "p"],
                         ["curve", "--least", *wide, "p"], ["demonstrate", "--units", "2", "--steps", "100", "p"], ["replay", "--least", "p", "s"], ["annotate", "--report", "p"]])

@@ -55,9 +55,9 @@ FILES = {"seq": (1, 1), "print": (1, 1), "annotate": (1, 1), "explain": (1, 1), 
          "demonstrate": (1, 1)}
 NUMBERS = {"budget": 1000000, "units": 16, "workers": 16, "until": 1000000, "steps": 1000000}
 # Options that have no value.
-FLAGS = ("least", "no-warnings", "fix", "in-place", "report", "strict", "with-values", "progress")
+FLAGS = ("least", "no-warnings", "fix", "in-place", "report", "strict", "complete", "with-values", "progress")
 OPTIONS = {"seq": ("budget",), "print": (), "annotate": ("emit", "in-place", "report"), "explain": ("certificate", "script", "no-warnings", "format", "color", "fix", "in-place"),
-           "check": ("least", "workers"), "replay": ("least", "units", "emit", "until", "strict"), "demonstrate": ("units", "steps", "emit"),
+           "check": ("least", "workers"), "replay": ("least", "units", "emit", "until", "strict", "complete", "format"), "demonstrate": ("units", "steps", "emit"),
            "run": ("least", "schedule", "units", "workers", "budget", "predict", "emit", "axis", "with-values"),
            "curve": ("least", "units", "budget", "predict", "emit", "progress")}
 CHOICES = {"annotate": (*EMITS, "marks"), "replay": ("answers", "summary", "svg", "trace", "json", "perfetto", "state"),
@@ -200,6 +200,8 @@ def fit(name, options, files):
         return "output" not in options and files != ["-"] and emit in (None, "marks", "text")
     if "strict" in options:
         return emit in (None, "answers") and "until" not in options
+    if name == "replay" and {"complete", "format"} & {*options}:
+        return False
     return name != "run" or ((in_steps or emit not in ("waits", "vcd")) and ("with-values" not in options or emit == "script")
                              and ("axis" not in options or emit == "svg" and (in_steps or options["axis"] == "events")))
 
@@ -210,7 +212,7 @@ def is_value(name, key, value):
     if key == "emit":
         return value in CHOICES[name]
     if key in VALUES:
-        return value in VALUES[key]
+        return value in VALUES[key] and (name != "replay" or value != "sarif")
     if key != "predict":
         return True
     return value in ("first", "last") or bool(re.fullmatch(r"[0-9]{1,2}(,[0-9]{1,2}){0,63}", value)) and all(int(it) <= 15 for it in value.split(","))
@@ -482,12 +484,21 @@ def is_waveform(out, program, units, events):
     return len(wanted) == len(found) and all(values.get(name, ...) == right[name] for values, right in zip(found, wanted) for name in right)
 
 
+def is_verdict(out, said):
+    """Whether an object of JSON tells the verdict of a strict replay that these lines tell."""
+    verdict, first = json.loads(out), said.partition("\n")[0]
+    if verdict["verdict"] == "departs":
+        return first == f"line {verdict['line']}: {verdict['message']}"
+    return first.startswith(f"as expected: {verdict['events']} event") and (verdict["not_listed"] > 0) == ("not listed" in said)
+
+
 def wanted_replay(options, given, name):
     """What `replay` writes of a program of this name; a picture is that of the events that were allowed."""
     units, emit, until = int(options.get("units", 4)), options.get("emit", "answers"), int(options.get("until", 1000000))
     program, said = accepted_program(*given[:2])
     if program and "strict" in options:
-        return strict_text(program, given[2], units)
+        said, status = strict_text(program, given[2], units, "complete" in options, given[0])
+        return (lambda out, ended: ended == status and is_verdict(out, said)) if options.get("format") == "json" else (said, status)
     if emit not in ("svg", "perfetto") or not program:
         return replay_text(*given, units, emit, until, name)
     try:

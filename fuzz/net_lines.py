@@ -142,6 +142,8 @@ def add_suite(net):
     for _, script in sorted(it for it in net.texts if it[0] == "suite" and it[1].endswith(".script")):
         program, units = re.match(r"(.+)-(\d+)-", script).groups()
         net.add("suite", f"replay --least --strict --units {units}", f"{program}.s", script)
+        if units == "2":
+            net.add("suite", "replay --least --strict --complete --format json --units 2", f"{program}.s", script)
         if units == "4":
             net.add("suite", f"replay --least --units {units} --emit {next(choices)}", f"{program}.s", script)
             spoil_script(net, script, f"{program}.s", units)
@@ -157,7 +159,7 @@ def spoil_script(net, script, program, units):
     lines[at] = choose.choice([f"{lines[at][:number.start()]}{int(number[0]) ^ 1}"] if number else changes)
     name = f"wrong-{script}"
     net.put("suite", name, "\n".join(lines) + "\n")
-    net.add("suite", f"replay --least --strict --units {units}", program, name)
+    net.add_all("suite", (f"replay --least --strict{more} --units {units}" for more in ("", " --complete", " --format json")), program, name)
 
 
 def add_texts_of_repository(net):

@@ -1,7 +1,8 @@
 #!/usr/bin/env python3
 """Tries the suite, on the toy simulator and on PROGRAM, the built `multiscalar`.
 
-All scripts must be as expected in both and end the same, and so must the simulator's own logs by `replay --strict`.
+All scripts must be as expected in both and end the same, and so must the simulator's own logs by `replay --strict`. Each
+script of a run must be as expected with `--complete`, also with the events of each task where it retires.
 Each mistake of simulator.py's BUGS must be found both ways: by a script that the wrong simulator plays, and in a log
 that it writes. One that only allows too much is found by the scripts of refused events.
 """
@@ -40,6 +41,30 @@ def is_departure(said):
     return not said.startswith("as expected")
 
 
+def as_retired(lines):
+    """The script of a run with the events of each task where it retires, as a simulator writes it that speculates on memory."""
+    queue = []
+    for line in lines:
+        event, colon, did = line.partition(" : ")
+        kind, *words = event.split()
+        if kind == "assign":
+            queue.append([f"{event}\n"])
+        elif kind in ("exec", "drain"):
+            queue[int(words[0])].append(" ".join([kind, "0", *words[1:]]) + f"{colon}{did}\n")
+        elif kind in ("squash", "drop"):
+            del queue[int(words[0]) + (kind == "squash"):]
+        elif kind != "transfer":
+            yield from [*queue.pop(0), f"{line}\n"]
+        if kind == "fault":
+            return
+    yield from queue[0] if queue else []
+
+
+def with_events(said, count):
+    """That a script of so many events is as expected, and ends as is said."""
+    return f"as expected: {count} event{'s' * (count != 1)};{said.partition(';')[2]}"
+
+
 class Suite:
     def __init__(self, binary):
         self.binary, self.failed = binary, False
@@ -61,9 +86,9 @@ class Suite:
         name, units = units_of(script)
         return play(Watched(self.programs[name], units, bug), script.read_text())
 
-    def by_replay(self, name, units, script):
+    def by_replay(self, name, units, script, *options):
         """The first line that `replay --strict` says."""
-        words = ["replay", "--strict", "--least", "--units", str(units), HERE / "programs" / f"{name}.s", "-"]
+        words = ["replay", "--strict", *options, "--least", "--units", str(units), HERE / "programs" / f"{name}.s", "-"]
         run = subprocess.run([self.binary, *words], input=script, capture_output=True, text=True)
         return (run.stdout + run.stderr).partition("\n")[0]
 
@@ -85,6 +110,13 @@ class Suite:
                     for script, said in right.items()]
         self.told("scripts by replay --strict", replayed)
         self.told("logs of the simulator by replay --strict", list(self.logs()))
+        runs = [(script, *units_of(script)) for script in self.scripts if script.parent.name == "scripts"]
+        self.told("scripts of runs with --complete", [(script.name, self.by_replay(name, units, script.read_text(), "--complete"), right[script])
+                                                      for script, name, units in runs])
+        retired = {script: "".join(as_retired(script.read_text().splitlines())) for script, _, _ in runs}
+        self.told("logs of tasks as they retire with --complete", [
+            (script.name, self.by_replay(name, 1, retired[script], "--complete"), with_events(right[script], retired[script].count("\n")))
+            for script, name, _ in runs])
         for bug in BUGS:
             found = [script for script, said in right.items() if self.in_simulator(script, bug) != said]
             logged = next((f"the log of {name}" for name, said, _ in self.logs(bug) if is_departure(said)), None)

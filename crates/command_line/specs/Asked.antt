@@ -15,6 +15,8 @@ use Rattle.jobs.specs.declared.job.CertificateSource.{CertificateSource}
 use Rattle.jobs.specs.declared.job.CertificateSource.TheVariants.{Least}
 use Rattle.jobs.specs.declared.job.Emit.{Emit}
 use Rattle.jobs.specs.declared.job.Prediction.{Prediction}
+use Rattle.jobs.specs.declared.job.Warnings.{Warnings}
+use Rattle.jobs.specs.declared.job.Warnings.TheVariants.{Silent, Told, AsErrors}
 use Rattle.jobs.specs.declared.job.Job.{Job}
 use Rattle.jobs.specs.declared.job.Job.TheVariants.{Seq, Print, Annotate, Explain, Check, Replay, ReplayStrictly, Run, Curve, Demonstrate}
 use Rattle.jobs.specs.declared.job.Paths.{Paths}
@@ -53,6 +55,12 @@ abbrev pub emit_in : List Row → Option Emit
 emit_in values =
     emit_of (unwrap_or (first_of (codes "emit") values) (if is_given (codes "in-place") values then codes "marks" else codes "text"))
 
+-- what `explain` does about marks that cost speed
+abbrev pub warnings_in : List Row → Warnings
+warnings_in values =
+    if is_given (codes "no-warnings") values then Silent
+    else (if is_given (codes "werror") values then AsErrors else Told)
+
 -- the certificate is in a file exactly where `--least` is not given
 abbrev pub IsSource : List Row → CertificateSource → Type 0
 IsSource values source = is_in_file source ≡ not (is_given (codes "least") values)
@@ -60,21 +68,21 @@ IsSource values source = is_in_file source ≡ not (is_given (codes "least") val
 -- a subcommand of this name with these values gives the job: each number, file and flag is the value of its own name
 abbrev pub Gives : Text → List Row → Job → Type 0
 Gives name values (Seq budget) = (name ≡ codes "seq") × (number_at (codes "budget") values ≡ Some budget)
-Gives name values Print = name ≡ codes "print"
+Gives name values (Print listing) = (name ≡ codes "print") × (listing ≡ is_given (codes "listing") values)
 Gives name values (Annotate emit) = (name ≡ codes "annotate") × (emit_in values ≡ Some emit)
 Gives name values (Explain file certificate script warnings format colors) = (name ≡ codes "explain")
     × (first_of (codes "program") values ≡ Some (string_bytes file))
     × (first_of (codes "certificate") values ≡ option_map string_bytes certificate)
     × (first_of (codes "script") values ≡ option_map string_bytes script)
-    × (warnings ≡ not (is_given (codes "no-warnings") values))
-Gives name values (Check source workers) =
+    × (warnings ≡ warnings_in values)
+Gives name values (Check source workers format) =
     (name ≡ codes "check") × IsSource values source × (number_at (codes "workers") values ≡ Some workers)
 Gives name values (Replay source units emit until) = (name ≡ codes "replay") × IsSource values source
     × (number_at (codes "units") values ≡ Some units) × (number_at (codes "until") values ≡ until)
     × (is_given (codes "strict") values ≡ false)
-Gives name values (ReplayStrictly source units) = (name ≡ codes "replay") × IsSource values source
+Gives name values (ReplayStrictly source units complete format) = (name ≡ codes "replay") × IsSource values source
     × (number_at (codes "units") values ≡ Some units) × (number_at (codes "until") values ≡ None)
-    × (is_given (codes "strict") values ≡ true)
+    × (is_given (codes "strict") values ≡ true) × (is_given (codes "complete") values ≡ complete)
 Gives name values (Run source schedule units workers budget predict emit) = (name ≡ codes "run") × IsSource values source
     × (number_at (codes "units") values ≡ Some units) × (workers ≡ unwrap_or (number_at (codes "workers") values) units)
     × (number_at (codes "budget") values ≡ Some budget) × (predict_in values ≡ Some predict)
@@ -116,7 +124,7 @@ fixes_in values = if is_given (codes "fix") values then file_in values else None
 -- the programs after the first
 abbrev pub further_in : Job → List Row → List Text
 further_in (Explain file certificate script warnings format colors) values = values_at (codes "further") values
-further_in (Check Least workers) values = values_at (codes "certificate") values
+further_in (Check Least workers format) values = values_at (codes "certificate") values
 further_in _ values = []
 
 -- the request of a subcommand of this name with these values

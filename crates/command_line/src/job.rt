@@ -1,7 +1,7 @@
 //! The job that the values of a subcommand ask for, and its files.
 ghost use Rattle.std.specs.Prelude.{◌≡◌, IfOk, IfErr, Some, codes, is_some, map, not, option_map};
 ghost use Rattle.std.specs.String.{string_bytes};
-ghost use Rattle.command_line.specs.Asked.{Gives, IsRequested, Names, Refuses, destination_in, emit_in, fixes_in, further_in, is_given, number_at, predict_in, values_in};
+ghost use Rattle.command_line.specs.Asked.{Gives, IsRequested, Names, Refuses, destination_in, emit_in, fixes_in, further_in, is_given, number_at, predict_in, values_in, warnings_in};
 ghost use Rattle.command_line.specs.Words.{emit_of};
 ghost use Rattle.jobs.specs.Files.{HasFilesOf, is_in_file};
 
@@ -11,8 +11,8 @@ use crate::values::Values;
 use crate::words::UsageFault;
 use clap::error::ErrorKind;
 use jobs::job::{
-    CertificateSource, Colors, CurveEmit, DemonstrateEmit, Emit, Format, Job, Paths, Prediction,
-    ReplayEmit, RunEmit, Schedule,
+    CertificateSource, CheckFormat, Colors, CurveEmit, DemonstrateEmit, Emit, Format, Job, Paths,
+    Prediction, ReplayEmit, RunEmit, Schedule, VerdictFormat, Warnings,
 };
 use limits::ranges::{Budget, Units, Workers};
 use std::alloc::AllocError;
@@ -21,6 +21,11 @@ static FORMATS: [(&str, Format); 3] = [
     ("text", Format::Text),
     ("sarif", Format::Sarif),
     ("json", Format::Json),
+];
+
+static CHECK_FORMATS: [(&str, CheckFormat); 2] = [
+    ("text", CheckFormat::Text),
+    ("json", CheckFormat::Json),
 ];
 
 static COLORS: [(&str, Colors); 3] = [
@@ -100,7 +105,9 @@ fn job_in(values: &Values<'_, '_>) -> Result<Job, UsageFault>
         "seq" => Ok(Job::Seq {
             budget: budget_in(values, "budget")?,
         }),
-        "print" => Ok(Job::Print),
+        "print" => Ok(Job::Print {
+            listing: values.is_given("listing"),
+        }),
         "annotate" => match emit_in(values) {
             Some(emit) => Ok(Job::Annotate { emit }),
             None => Err(UsageFault::Emit),
@@ -109,6 +116,11 @@ fn job_in(values: &Values<'_, '_>) -> Result<Job, UsageFault>
         "check" => Ok(Job::Check {
             certificate: check_source_in(values)?,
             workers: values.there(values.number("workers").and_then(Workers::new))?,
+            format: values.word(
+                "format",
+                &CHECK_FORMATS,
+                "the value of --format is text or json",
+            )?,
         }),
         "replay" => replay_in(values),
         "run" => run_in(values),
@@ -159,7 +171,7 @@ fn explain_in(values: &Values<'_, '_>) -> Result<Job, UsageFault>
         name: values.path("program")?,
         certificate: values.free_path("certificate")?,
         script: values.free_path("script")?,
-        warnings: !values.is_given("no-warnings"),
+        warnings: warnings_in(values)?,
         format: values.word(
             "format",
             &FORMATS,
@@ -171,6 +183,22 @@ fn explain_in(values: &Values<'_, '_>) -> Result<Job, UsageFault>
             "the value of --color is auto, always or never",
         )?,
     })
+}
+
+// What is done about marks that cost speed. `--no-warnings` leaves no warning that could count.
+fn warnings_in(values: &Values<'_, '_>) -> Result<Warnings, UsageFault>
+    ensures value { IfOk result (λ warnings. warnings ≡ warnings_in (values_in values.now.matches.now)) }
+    ensures fault { IfErr result (Refuses values.now.name.now (values_in values.now.matches.now)) }
+{
+    match (values.is_given("no-warnings"), values.is_given("werror")) {
+        (true, true) => Err(values.fault(
+            ErrorKind::ArgumentConflict,
+            "with --no-warnings there is no --werror",
+        )),
+        (true, false) => Ok(Warnings::Silent),
+        (false, true) => Ok(Warnings::AsErrors),
+        (false, false) => Ok(Warnings::Told),
+    }
 }
 
 fn replay_in(values: &Values<'_, '_>) -> Result<Job, UsageFault>
@@ -189,7 +217,13 @@ fn replay_in(values: &Values<'_, '_>) -> Result<Job, UsageFault>
         Some(most) => Some(values.there(Budget::new(most))?),
         None => None,
     };
+    let is_complete = values.is_given("complete");
+    let format = verdict_format_in(values)?;
     if !values.is_given("strict") {
+        if is_complete || format.is_some() {
+            let why = "--complete and --format are for --strict";
+            return Err(values.fault(ErrorKind::ArgumentConflict, why));
+        }
         return Ok(Job::Replay {
             certificate,
             units,
@@ -202,9 +236,29 @@ fn replay_in(values: &Values<'_, '_>) -> Result<Job, UsageFault>
     } else if until.is_some() {
         "with --strict there is no --until"
     } else {
-        return Ok(Job::ReplayStrictly { certificate, units });
+        return Ok(Job::ReplayStrictly {
+            certificate,
+            units,
+            is_complete,
+            format: format.unwrap_or(VerdictFormat::Text),
+        });
     };
     Err(values.fault(ErrorKind::ArgumentConflict, why))
+}
+
+// How the verdict of a strict replay is written, where that is said.
+fn verdict_format_in(values: &Values<'_, '_>) -> Result<Option<VerdictFormat>, UsageFault>
+    ensures { IfErr result (Refuses values.now.name.now (values_in values.now.matches.now)) }
+{
+    match values.text("format") {
+        None => Ok(None),
+        Some("text") => Ok(Some(VerdictFormat::Text)),
+        Some("json") => Ok(Some(VerdictFormat::Json)),
+        Some(_) => Err(values.fault(
+            ErrorKind::InvalidValue,
+            "the value of --format is text or json",
+        )),
+    }
 }
 
 fn run_in(values: &Values<'_, '_>) -> Result<Job, UsageFault>
@@ -484,10 +538,6 @@ fn expect_alone(
                 script: Some(_),
                 ..
             } => "--script is for one program",
-            Job::Explain {
-                format: Format::Sarif | Format::Json,
-                ..
-            } => "--format sarif and --format json are for one program",
             _ => return Ok(()),
         }
     };

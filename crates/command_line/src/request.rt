@@ -16,7 +16,7 @@ pub struct Request {
     pub fixes: Option<String>,
     /// The names of further programs, in the order of the words, each of which gets the job, too: of
     /// `check --least` and of `explain`; of every other job none. Where there is one, the job has no certificate
-    /// in a file, no script and no log for machines, and `output` and `fixes` are `None`.
+    /// in a file and no script, and `output` and `fixes` are `None`.
     pub further: Vec<String>,
     /// Whether standard error is to report what `annotate` leaves to mend by hand; for every other job, no.
     pub report: bool,

@@ -74,8 +74,15 @@ For example:
 it writes the first fault and its line:
   program refused: K Name line N
 
+With `--listing` it writes a table instead, with a row for each instruction of each task:
+  index  address  line  task  mask
+`index` counts the program's instructions from 0, as a certificate and `check` do; `address` is what `la` and
+jump tables have; `mask` is the set of registers that the task may still write from there on, as in the least
+certificate. An instruction of no task has - for both.
+
 For example:
-  multiscalar print program.s",
+  multiscalar print program.s
+  multiscalar print --listing program.s",
     ),
     (
         "annotate",
@@ -128,18 +135,19 @@ status is that of `explain` for the new text:
 
 Several programs are explained one after another, and a last line counts them:
   4 programs: 2 right, 1 wrong, 1 not judged
-A file that cannot be read is not judged; the others are. `--certificate`, `--script`, `--format sarif`,
-`--format json`, `--output` and `--fix` work only with a single program.
+A file that cannot be read is not judged; the others are. `--certificate`, `--script`, `--output` and `--fix`
+work only with a single program. With `--format sarif` there is one log of all programs, and with
+`--format json` the objects of all; neither has the last line.
 
-The exit status is 0 if there is no error (warnings do not count), 1 if there is one, and 2 if a file cannot
-be read; the reason goes to standard error:
+The exit status is 0 if there is no error (warnings count only with `--werror`), 1 if there is one, and 2 if a
+file cannot be read; the reason goes to standard error:
   multiscalar: file FILE: no such file
 
 For example:
   multiscalar explain program.s
   multiscalar explain --fix -o fixed.s program.s
   multiscalar explain --certificate program.cert --script program.events program.s
-  multiscalar explain --format sarif program.s > findings.sarif
+  multiscalar explain --werror --format sarif one.s two.s > findings.sarif
   multiscalar explain --color always program.s | less -R",
     ),
     (
@@ -164,10 +172,13 @@ programs. Of several programs, each line begins with the program's name, and a l
 A file that cannot be read is not judged, and the reason goes to standard error; the others are checked.
 `--output` works only with a single program.
 
+With `--format json` it writes a JSON object on each line instead: one for each finding, and then one for the
+verdict. Of several programs each object names its file, and there is no last line that counts them.
+
 For example:
   multiscalar check program.s program.cert
   multiscalar check --least program.s
-  multiscalar check --least one.s two.s",
+  multiscalar check --least --format json one.s two.s",
     ),
     (
         "replay",
@@ -203,6 +214,9 @@ is sent with this value), `[0x10010000]=5` (this value is loaded from there or s
 Empty lines, comments from `#` on and lines such as `step 3` are skipped. With status 1 it writes the first
 line that departs from the machine, what the event did and how each unit then stands; with status 0
   as expected: N events; HOW THE RUN STANDS
+and, where the script leaves out effects of its events, how many:
+  not listed: N effects of these events
+With `--complete` such a line departs, and so does the end of a script whose run has not ended.
 
 For example:
   multiscalar replay --least --units 2 program.s program.events",
@@ -299,7 +313,7 @@ For example:
 ];
 
 /// The arguments, in the order of the help. Files stand in the places that this order gives them.
-pub(crate) static ARGUMENTS: [ArgumentRow; 36] = [
+pub(crate) static ARGUMENTS: [ArgumentRow; 41] = [
     (
         "seq print annotate explain check replay run curve demonstrate",
         "program",
@@ -356,10 +370,29 @@ pub(crate) static ARGUMENTS: [ArgumentRow; 36] = [
     ),
     (
         "explain",
+        "werror",
+        Kind::Flag,
+        "Lets a warning count as an error: the exit status is 1",
+    ),
+    (
+        "explain",
         "format",
         Kind::Word("HOW", "text"),
         "How the result is laid out: text (for people), sarif (a log in SARIF 2.1.0) or json (a JSON object on
 each line)",
+    ),
+    (
+        "check",
+        "format",
+        Kind::Word("HOW", "text"),
+        "How the result is laid out: text or json (a JSON object on each line: one for each finding, then one for
+the verdict)",
+    ),
+    (
+        "print",
+        "listing",
+        Kind::Flag,
+        "Writes a table of the program's instructions instead, with their addresses, lines, tasks and masks",
     ),
     (
         "explain",
@@ -498,6 +531,20 @@ which task waited where, and for what) or vcd (how each unit stands in each step
         "strict",
         Kind::Flag,
         "Judges a script that says what its events must have done",
+    ),
+    (
+        "replay",
+        "complete",
+        Kind::Flag,
+        "The script must list all that its events did, and end its run; goes with --strict",
+    ),
+    (
+        "replay",
+        "format",
+        Kind::FreeWord("HOW"),
+        "How the verdict of --strict is laid out: text (for people) or json (a JSON object)
+
+[default: text]",
     ),
     (
         "run",

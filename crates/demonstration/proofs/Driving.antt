@@ -1,20 +1,6 @@
 -- An event that is tried on a machine is the next of its run exactly where the machine allows it.
-use Rattle.std.specs.Prelude.{◌≡◌, ℕ, ◌+◌, ◌<◌, Bool, true, false, nat_lt, Option, Some, None, List, [], ◌∷◌, ◌++◌, length, take, get_or, Result, Ok, Err}
-use Rattle.std.specs.Option.{option_or}
-use Rattle.std.proofs.Common.{refl, sym, ap, ◌∙◌, subst, arith, inl, inr, length-append, ltb-true}
-use Rattle.std.proofs.lemmas.List.Sums.{fold_more, fold-append}
-use Rattle.task_descriptor.specs.Listing.{Listing}
-use Rattle.machine_model.specs.Machine.{State, opening}
-use Rattle.machine_model.specs.Refusals.{unless}
-use Rattle.machine_model.specs.Answer.{after, answer, is_running, most_events, ok_unless, refusal}
-use Rattle.machine_model.specs.Replay.{Replays}
-use Rattle.machine_model.specs.Laws.{ReplayCut}
-use Rattle.machine_model.specs.declared.event.Event.{Event}
-use Rattle.machine_model.specs.declared.event.Refused.{Refused}
+use Rattle.demonstration.proofs.Imports.{◌≡◌, ℕ, ◌+◌, ◌<◌, Bool, true, false, nat_lt, Option, Some, None, List, [], ◌∷◌, ◌++◌, length, take, get_or, Result, Ok, Err, option_or, refl, sym, ap, ◌∙◌, subst, arith, inl, inr, length-append, ltb-true, fold_more, fold-append, Listing, State, opening, unless, after, answer, is_running, most_events, ok_unless, refusal, Replays, ReplayCut, Event, Refused, OpenView, Applies, IsAnswered, answer_to, state, units_of, IsDriven, driven_of, answer_in, each_tried, state_after, tried, where_ok}
 use Rattle.machine_model.specs.declared.event.Refused.TheVariants as refused
-use Rattle.open_machine.specs.Machines.{OpenView, Applies, IsAnswered, answer_to, state, units_of}
-use Rattle.demonstration.specs.Driven.{IsDriven, driven_of}
-use Rattle.demonstration.specs.Rounds.{answer_in, each_tried, state_after, tried, where_ok}
 
 -- the state after no event, and after one more
 

@@ -1,17 +1,8 @@
 -- Where nothing is found the state shows no departure.
-use Rattle.std.specs.Prelude.{◌≡◌, ℕ, suc, ◌+◌, ◌<◌, Bool, true, false, nat_eq, if◌then◌else◌, Option, Some, None, List, length, slice_get}
-use Rattle.std.proofs.Common.{refl, sym, ap, ◌∙◌, subst, arith, inl, inr, eqb-true}
-use Rattle.std.proofs.lemmas.Bool.{eq-eqb, cases_lt, false≢true}
+use Rattle.demonstration.proofs.Imports.{◌≡◌, ℕ, suc, ◌+◌, ◌<◌, Bool, true, false, nat_eq, if◌then◌else◌, Option, Some, None, List, length, slice_get, refl, sym, ap, ◌∙◌, subst, arith, inl, inr, eqb-true, eq-eqb, cases_lt, false≢true, Read, Listing, Active, State, value, plain_of, Standing, wrong_word, AreRight, DoesNoHarm, HoldsWrong, IsCutAt, NamesItsPlace, ReadsRight, seen}
 use Rattle.mips_plain.specs.PlainMachine.{State as PlainState}
 use Rattle.mips_plain.specs.declared.outcome.Outcome.TheVariants as outcome
-use Rattle.mips_plain.specs.declared.outcome.Read.{Read}
-use Rattle.task_descriptor.specs.Listing.{Listing}
-use Rattle.machine_model.specs.Machine.{Active, State, value}
-use Rattle.machine_model.specs.Claims.{plain_of}
-use Rattle.machine_model.specs.declared.event.Standing.{Standing}
 use Rattle.machine_model.specs.declared.event.Standing.TheVariants as standing
-use Rattle.demonstration.specs.Judging.{wrong_word}
-use Rattle.demonstration.specs.Shown.{AreRight, DoesNoHarm, HoldsWrong, IsCutAt, NamesItsPlace, ReadsRight, seen}
 
 -- a word beside the right one
 

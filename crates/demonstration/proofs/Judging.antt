@@ -1,35 +1,11 @@
 -- What the judge finds at each event and at each read.
-use Rattle.std.specs.Prelude.{◌≡◌, ℕ, zero, suc, ◌+◌, ◌<◌, ◌≤◌, Bool, true, false, not, IsTrue, ◌&&◌, nat_eq, Option, Some, None, Ok, Err, map, List, [], ◌∷◌, ◌++◌, length, take, get_or, slice_get, slice_index_or, option_to_list}
-use Rattle.std.proofs.Common.{refl, sym, ap, ◌∙◌, subst, arith, inl, inr, add-one}
-use Rattle.std.proofs.lemmas.Bool.{cond-true, cond-false, eqb-true, eq-eqb, lt-ltb, le-ltb, cases_lt, false≢true}
-use Rattle.std.proofs.lemmas.List.{take_more, get_or_default, length-map}
-use Rattle.std.proofs.lemmas.Option.{slice_get_read}
-use Rattle.std.specs.Option.{option_and_then}
-use Rattle.mips_instructions.specs.Words.{index_of}
-use Rattle.mips_instructions.specs.declared.instruction.Op.{Op}
-use Rattle.mips_plain.specs.PlainMachine.{Input, State as PlainState, fetch, plain, read_at, reads_when}
-use Rattle.mips_plain.specs.declared.outcome.Outcome.{Outcome}
+use Rattle.demonstration.proofs.Imports.{◌≡◌, ℕ, zero, suc, ◌+◌, ◌<◌, ◌≤◌, Bool, true, false, not, IsTrue, ◌&&◌, nat_eq, Option, Some, None, Ok, Err, map, List, [], ◌∷◌, ◌++◌, length, take, get_or, slice_get, slice_index_or, option_to_list, refl, sym, ap, ◌∙◌, subst, arith, inl, inr, add-one, cond-true, cond-false, eq-eqb, lt-ltb, le-ltb, cases_lt, false≢true, take_more, get_or_default, length-map, slice_get_read, option_and_then, index_of, Op, Input, fetch, plain, read_at, reads_when, Outcome, Read, Listing, IsWellFormed, if_instruction, input, instruction_at, Marked, State, opening, Next, answer, Replays, reads_of, AnswerIsNext, NextIsAfter, ReplayCut, Event, Refused, OpenView, state, units_of, answer_to, IsAnswered, Evidence, Harm, WrongWord, DoesHarm, DoesNoHarm, IsShown, ReadsRight, Shows, harmed_task, plain_read, IsRefusedAt, IsRight, reads_agree}
+use Rattle.std.proofs.lemmas.Bool.{eqb-true}
+use Rattle.mips_plain.specs.PlainMachine.{State as PlainState}
 use Rattle.mips_plain.specs.declared.outcome.Outcome.TheVariants as outcome
-use Rattle.mips_plain.specs.declared.outcome.Read.{Read}
-use Rattle.task_descriptor.specs.Listing.{Listing, IsWellFormed, if_instruction, input, instruction_at}
-use Rattle.task_descriptor.specs.declared.descriptor.Marked.{Marked}
-use Rattle.machine_model.specs.Machine.{State, opening}
-use Rattle.machine_model.specs.Step.{Next}
-use Rattle.machine_model.specs.Answer.{answer}
-use Rattle.machine_model.specs.Replay.{Replays}
-use Rattle.machine_model.specs.Claims.{reads_of}
-use Rattle.machine_model.specs.Laws.{AnswerIsNext, NextIsAfter, ReplayCut}
-use Rattle.machine_model.specs.declared.event.Event.{Event}
-use Rattle.machine_model.specs.declared.event.Refused.{Refused}
 use Rattle.machine_model.specs.declared.event.Refused.TheVariants as refused
-use Rattle.open_machine.specs.Machines.{OpenView, state, units_of, answer_to, IsAnswered}
-use Rattle.demonstration.specs.declared.judge.Evidence.{Evidence}
-use Rattle.demonstration.specs.declared.judge.Harm.{Harm}
 use Rattle.demonstration.specs.declared.judge.Harm.TheVariants as harm
-use Rattle.demonstration.specs.declared.judge.WrongWord.{WrongWord}
 use Rattle.demonstration.specs.declared.judge.Judgement.TheVariants as judged
-use Rattle.demonstration.specs.Shown.{DoesHarm, DoesNoHarm, IsShown, ReadsRight, Shows, harmed_task, plain_read}
-use Rattle.demonstration.specs.Judging.{IsRefusedAt, IsRight, reads_agree}
 use Rattle.demonstration.proofs.PlainReads.{reads_next}
 
 pub one_more_event : ReplayCut → (p : Listing) (units : ℕ) (events : List Event) (index : ℕ) (e : Event) (s s' : State) → index < length events → e ≡ get_or events index e → Replays p units (take index events) s → Next p units s e s' → Replays p units (take (index + 1) events) s'

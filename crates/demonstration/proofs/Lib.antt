@@ -1,3 +1,4 @@
+mod Imports
 pub mod PlainReads
 pub mod SeenReads
 pub mod ShownReads

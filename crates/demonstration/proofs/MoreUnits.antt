@@ -1,18 +1,6 @@
 -- A run in which a unit was free each time that a task was to begin is the same on more units.
-use Rattle.std.specs.Prelude.{◌≡◌, ℕ, zero, suc, ◌+◌, ◌<◌, ◌≤◌, Bool, true, false, nat_lt, if◌then◌else◌, Option, Some, None, List, [], ◌∷◌, ◌++◌, flat_map, length, slice_get, Result}
-use Rattle.std.specs.List.{range_with_len, last_or}
-use Rattle.std.specs.Option.{option_or}
-use Rattle.std.proofs.Common.{refl, sym, ap, ◌∙◌, subst, arith}
-use Rattle.std.proofs.lemmas.Bool.{lt-ltb, le-ltb}
-use Rattle.task_descriptor.specs.Listing.{Listing}
-use Rattle.machine_model.specs.Answer.{is_running, most_events, ok_unless}
-use Rattle.machine_model.specs.Refusals.{unless}
-use Rattle.machine_model.specs.Step.{follows}
-use Rattle.machine_model.specs.declared.event.Event.{Event}
-use Rattle.machine_model.specs.declared.event.Event.TheVariants.{Assign, Exec, Transfer, Drain, Squash, Retire, Fault, Drop}
-use Rattle.machine_model.specs.declared.event.Refused.{Refused}
+use Rattle.demonstration.proofs.Imports.{◌≡◌, ℕ, zero, suc, ◌+◌, ◌<◌, ◌≤◌, Bool, true, false, nat_lt, if◌then◌else◌, Option, Some, None, List, [], ◌∷◌, ◌++◌, flat_map, length, slice_get, Result, range_with_len, last_or, option_or, refl, sym, ap, ◌∙◌, subst, arith, lt-ltb, le-ltb, Listing, is_running, most_events, ok_unless, unless, follows, Event, Assign, Exec, Transfer, Drain, Squash, Retire, Fault, Drop, Refused, answer_in, begun, each_tried, first_begins, guess_tried, has_open_tail, head_tried, next_place, of_register, of_unit, of_units, registers, round, rounds, run_of, state_after, tried, units_tried, where_ok}
 use Rattle.machine_model.specs.declared.event.Refused.TheVariants as refused
-use Rattle.demonstration.specs.Rounds.{answer_in, begun, each_tried, first_begins, guess_tried, has_open_tail, head_tried, next_place, of_register, of_unit, of_units, registers, round, rounds, run_of, state_after, tried, units_tried, where_ok}
 use Rattle.demonstration.proofs.Rounding.{ends_full, ends_still, goes_on_by}
 
 -- an event that assigns no task

@@ -1,10 +1,6 @@
 -- The reads of a plain run's first steps begin those of more steps.
-use Rattle.std.specs.Prelude.{◌≡◌, ℕ, zero, suc, ◌+◌, ◌-◌, ◌<◌, ◌≤◌, Some, List, [], ◌∷◌, ◌++◌, length, slice_get}
-use Rattle.std.proofs.Common.{refl, sym, ap, ◌∙◌, arith, append_assoc, append-nil, length-append}
-use Rattle.mips_plain.specs.PlainMachine.{Input, State, plain, reads, reads_when}
-use Rattle.mips_plain.specs.declared.outcome.Outcome.{Outcome}
-use Rattle.mips_plain.specs.declared.outcome.Outcome.TheVariants.{Running, Halted, Trapped}
-use Rattle.mips_plain.specs.declared.outcome.Read.{Read}
+use Rattle.demonstration.proofs.Imports.{◌≡◌, ℕ, zero, suc, ◌+◌, ◌-◌, ◌<◌, ◌≤◌, Some, List, [], ◌∷◌, ◌++◌, length, slice_get, refl, sym, ap, ◌∙◌, arith, append_assoc, append-nil, length-append, Input, plain, reads, reads_when, Outcome, Running, Halted, Trapped, Read}
+use Rattle.mips_plain.specs.PlainMachine.{State}
 
 pub reads_zero : (i : Input) → reads i 0 ≡ []
 unfolding reads

@@ -1,16 +1,6 @@
 -- What a round tries, one event after another. A run that it leaves as long as it was is left as it was, and so by each
 -- further round.
-use Rattle.std.specs.Prelude.{◌≡◌, ℕ, zero, suc, ◌+◌, ◌-◌, ◌<◌, ◌≤◌, ◌⊎◌, Bool, true, false, if◌then◌else◌, Option, Some, None, List, [], ◌∷◌, ◌++◌, flat_map, length, slice_get, Result, Ok, Err}
-use Rattle.std.specs.List.{range_with_len}
-use Rattle.std.proofs.Common.{refl, sym, ap, ◌∙◌, subst, arith, inl, inr, length-append, add-one, append_assoc, append-nil}
-use Rattle.std.proofs.lemmas.Bool.{cond-true, cond-false, lt-ltb, le-ltb}
-use Rattle.std.proofs.lemmas.List.Sums.{fold-append}
-use Rattle.task_descriptor.specs.Listing.{Listing}
-use Rattle.machine_model.specs.declared.event.Event.{Event}
-use Rattle.machine_model.specs.declared.event.Event.TheVariants.{Assign, Exec, Transfer, Drain, Squash, Retire, Fault}
-use Rattle.machine_model.specs.declared.event.Refused.{Refused}
-use Rattle.demonstration.specs.Driven.{DrivenView}
-use Rattle.demonstration.specs.Rounds.{answer_in, begun, each_tried, first_begins, guess_tried, has_open_tail, head_tried, next_place, of_register, of_unit, of_units, registers, round, round_within, rounds, run_of, state_after, tried, units_tried, where_ok}
+use Rattle.demonstration.proofs.Imports.{◌≡◌, ℕ, zero, suc, ◌+◌, ◌-◌, ◌<◌, ◌≤◌, ◌⊎◌, Bool, true, false, if◌then◌else◌, Option, Some, None, List, [], ◌∷◌, ◌++◌, flat_map, length, slice_get, Result, Ok, Err, range_with_len, refl, sym, ap, ◌∙◌, subst, arith, inl, inr, length-append, add-one, append_assoc, append-nil, cond-true, cond-false, lt-ltb, le-ltb, fold-append, Listing, Event, Assign, Exec, Transfer, Drain, Squash, Retire, Fault, Refused, DrivenView, answer_in, begun, each_tried, first_begins, guess_tried, has_open_tail, head_tried, next_place, of_register, of_unit, of_units, registers, round, round_within, rounds, run_of, state_after, tried, units_tried, where_ok}
 
 -- the events of each register and of each unit
 

@@ -1,21 +1,7 @@
 -- What the search finds, and what it has seen where it finds nothing.
-use Rattle.std.specs.Prelude.{◌≡◌, ℕ, ◌+◌, ◌^◌, ◌<◌, ◌≤◌, min, true, false, is_some, Option, Some, None, List, [], length, take, Result, Ok, Err, IfOk, IfSome, IfNone}
-use Rattle.std.proofs.Common.{refl, sym, ap, ◌∙◌, subst, arith, inl, inr}
-use Rattle.std.proofs.lemmas.Bool.{cases_lt}
-use Rattle.mips_plain.specs.PlainMachine.{Input, State as PlainState}
-use Rattle.mips_plain.specs.PlainView.{PlainView, IsAfter, Makes}
+use Rattle.demonstration.proofs.Imports.{◌≡◌, ℕ, ◌+◌, ◌^◌, ◌<◌, ◌≤◌, min, true, false, is_some, Option, Some, None, List, [], length, take, Result, Ok, Err, IfOk, IfSome, IfNone, refl, sym, ap, ◌∙◌, subst, arith, inl, inr, cases_lt, Input, PlainView, IsAfter, Makes, Listing, State, opening, plain_of, Replays, Event, DrivenView, IsDemonstration, IsRightAlone, IsSearched, each_tried, known_tasks, run_of, state_after, HasWrongWord, HoldsWrong, IsShown, ReadsRight, Shows, WordsRight, seen, Evidence, WrongWord}
+use Rattle.mips_plain.specs.PlainMachine.{State as PlainState}
 use Rattle.mips_plain.specs.declared.outcome.OutOfMemory.{OutOfMemory}
-use Rattle.task_descriptor.specs.Listing.{Listing}
-use Rattle.machine_model.specs.Machine.{State, opening}
-use Rattle.machine_model.specs.Claims.{plain_of}
-use Rattle.machine_model.specs.Replay.{Replays}
-use Rattle.machine_model.specs.declared.event.Event.{Event}
-use Rattle.demonstration.specs.Driven.{DrivenView}
-use Rattle.demonstration.specs.Found.{IsDemonstration, IsRightAlone, IsSearched}
-use Rattle.demonstration.specs.Rounds.{each_tried, known_tasks, run_of, state_after}
-use Rattle.demonstration.specs.Shown.{HasWrongWord, HoldsWrong, IsShown, ReadsRight, Shows, WordsRight, seen}
-use Rattle.demonstration.specs.declared.judge.Evidence.{Evidence}
-use Rattle.demonstration.specs.declared.judge.WrongWord.{WrongWord}
 use Rattle.demonstration.specs.declared.search.Demonstration.{Demonstration}
 use Rattle.demonstration.proofs.Driving.{after_none}
 use Rattle.demonstration.proofs.Harmless.{no_head}

@@ -1,37 +1,14 @@
 -- What is seen of a sound program's machine is what the plain machine reads, and no direct exit is unlisted: by the
 -- invariant of the headline where the run goes on, and by the last event where it has ended.
-use Rattle.std.proofs.Common.{◌≡◌, ℕ, zero, suc, ◌+◌, ◌<◌, ◌≤◌, Bool, true, false, ◌⊎◌, inl, inr, List, [], ◌∷◌, ◌++◌, length, Some, refl, sym, ap, ◌∙◌, subst, arith, append-nil, append_assoc, add-zero, length-append, true≢false, eqb-true}
-use Rattle.std.specs.Prelude.{slice_get, slice_set, nat_eq}
-use Rattle.std.specs.List.{list_any}
-use Rattle.std.proofs.lemmas.Bool.{eq-eqb, or_cases, or_left, or_right}
-use Rattle.std.proofs.lemmas.Option.{slice_get_within}
-use Rattle.mips_instructions.specs.Words.{address}
-use Rattle.mips_instructions.specs.Instruction.{taken, turn}
-use Rattle.mips_plain.specs.Effect.{outcome_after, may_run_ahead}
-use Rattle.mips_plain.specs.PlainMachine.{fetch, pc_after}
-use Rattle.mips_plain.specs.declared.outcome.Outcome.{Outcome}
-use Rattle.mips_plain.specs.declared.outcome.Outcome.TheVariants.{Running, Halted, Trapped}
-use Rattle.mips_plain.specs.declared.outcome.Read.{Read}
-use Rattle.task_descriptor.specs.Listing.{Listing, input}
-use Rattle.task_descriptor.specs.declared.descriptor.Marked.{Marked}
-use Rattle.task_graph.specs.Edges.{Path, stay, onward, is_indirect}
-use Rattle.task_graph.specs.Soundness.{Sound, is_target}
-use Rattle.machine_model.specs.Machine.{Active, State, opening, task_at}
+use Rattle.demonstration.proofs.Imports.{inl, inr, refl, sym, ap, ◌∙◌, subst, arith, append-nil, append_assoc, add-zero, length-append, true≢false, eqb-true, slice_get, slice_set, nat_eq, list_any, eq-eqb, or_cases, or_left, or_right, slice_get_within, address, taken, turn, outcome_after, may_run_ahead, fetch, pc_after, Outcome, Running, Halted, Trapped, Read, Listing, input, Marked, Path, stay, onward, is_indirect, Sound, is_target, Active, State, opening, task_at, Next, Faults, is_listed, stands, exec_leaves, ReplaysFrom, Replays, plain_of, reads_of, by_head, count_c, count_h, Event, Assign, Exec, Transfer, Drain, Squash, Retire, Fault, Drop, Standing, InvAt, Good, step_good, opening_good, NamesItsPlace, read_by_head, seen}
+use Rattle.std.proofs.Common.{◌≡◌, ℕ, zero, suc, ◌+◌, ◌<◌, ◌≤◌, Bool, true, false, ◌⊎◌, List, [], ◌∷◌, ◌++◌, length, Some}
 use Rattle.machine_model.specs.Unit.{IsNext, after_exec}
-use Rattle.machine_model.specs.Step.{Next, Faults, is_listed, stands, exec_leaves}
-use Rattle.machine_model.specs.Replay.{ReplaysFrom, Replays}
-use Rattle.machine_model.specs.Claims.{plain_of, reads_of, by_head, count_c, count_h}
-use Rattle.machine_model.specs.declared.event.Event.{Event}
-use Rattle.machine_model.specs.declared.event.Event.TheVariants.{Assign, Exec, Transfer, Drain, Squash, Retire, Fault, Drop}
 use Rattle.machine_model.specs.declared.event.Spot.TheVariants.{Stopped}
-use Rattle.machine_model.specs.declared.event.Standing.{Standing}
 use Rattle.machine_model.specs.declared.event.Standing.TheVariants as standing
 use Rattle.machine_model.proofs.Instructions.{ahead_runs, address_back, fetch_marked, leads_on, Leads}
 use Rattle.machine_model.proofs.PlainRuns.{Leaves, Steps, Ends, exits, goes, step_leaves, sound_at, leads_inside}
 use Rattle.machine_model.proofs.Invariant.{UnitRight, PlaceRight}
 use Rattle.machine_model.proofs.Events.{QueueRight, head_at, head_right, head_leaves, grown}
-use Rattle.machine_model.proofs.Headline.{InvAt, Good, step_good, opening_good}
-use Rattle.demonstration.specs.Shown.{NamesItsPlace, read_by_head, seen}
 
 -- the last of these reads is not of an instruction that names the place to which it goes
 abbrev pub EndsIndirect : Listing → List Read → Type 0

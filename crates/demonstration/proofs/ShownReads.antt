@@ -1,17 +1,8 @@
 -- What is seen is what the plain machine reads, by the invariant of the headline, and the head has its registers, by
 -- the headline; so nothing is shown.
-use Rattle.std.specs.Prelude.{◌≡◌, ◌<◌, ◌≤◌, ℕ, suc, ◌+◌, List, [], ◌∷◌, length, slice_get, Some}
-use Rattle.std.proofs.Common.{refl, sym, ap, ◌∙◌, subst, length-append}
-use Rattle.mips_plain.specs.declared.outcome.Read.{Read}
-use Rattle.task_descriptor.specs.Listing.{Listing, input}
-use Rattle.task_graph.specs.Soundness.{Sound}
-use Rattle.machine_model.specs.Claims.{Claims, by_head, count_h, plain_of, reads_of}
-use Rattle.machine_model.specs.Machine.{Active, State, value}
-use Rattle.machine_model.proofs.Headline.{every_replay_good}
-use Rattle.demonstration.specs.declared.judge.Harm.{Harm}
+use Rattle.demonstration.proofs.Imports.{◌≡◌, ◌<◌, ◌≤◌, ℕ, suc, ◌+◌, List, [], ◌∷◌, length, slice_get, Some, refl, sym, ap, ◌∙◌, subst, length-append, Read, Listing, input, Sound, Claims, by_head, count_h, plain_of, reads_of, Active, State, value, every_replay_good, Harm, DoesHarm, NamesItsPlace, read_by_head, seen}
 use Rattle.demonstration.specs.declared.judge.Harm.TheVariants as harm
 use Rattle.demonstration.specs.Laws.{ShowsNothing}
-use Rattle.demonstration.specs.Shown.{DoesHarm, NamesItsPlace, read_by_head, seen}
 use Rattle.demonstration.proofs.PlainReads.{get_below, read_early}
 use Rattle.demonstration.proofs.SeenReads.{SeenRight, every_replay_seen}
 

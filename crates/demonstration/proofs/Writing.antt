@@ -1,19 +1,9 @@
 -- Who wrote a register last after one more step, and that its word is of this writer.
-use Rattle.std.specs.Prelude.{◌≡◌, ◌<◌, ℕ, suc, Bool, true, false, not, ◌&&◌, if◌then◌else◌, unwrap_or, Option, Some, None}
-use Rattle.std.proofs.Common.{refl, ap, ◌∙◌, inl, inr, arith}
-use Rattle.std.proofs.lemmas.Bool.{cases_lt}
+use Rattle.demonstration.proofs.Imports.{◌≡◌, ◌<◌, ℕ, suc, Bool, true, false, not, ◌&&◌, if◌then◌else◌, unwrap_or, Option, Some, None, refl, ap, ◌∙◌, inl, inr, arith, cases_lt, computed, dests, does_nothing, reg_a, reg_b, Op, loaded, outcome_by, outcome_of_load, word_by, written, Input, fetch, fetched, plain, step_when, Outcome, Running, Halted, Trapped, Listing, input, plain_of, HasWordFrom, is_trapped, is_written_by, writes_in_step}
 use Rattle.mips_instructions.specs.InstructionTable.{Action, NoAction, Loads, Stores, Outputs, Halts, load_size, row}
-use Rattle.mips_instructions.specs.Instruction.{computed, dests, does_nothing, reg_a, reg_b}
 use Rattle.mips_instructions.specs.declared.instruction.LoadKind.{LoadKind}
-use Rattle.mips_instructions.specs.declared.instruction.Op.{Op}
-use Rattle.mips_plain.specs.Effect.{loaded, outcome_by, outcome_of_load, word_by, written}
 use Rattle.mips_plain.specs.MemoryMap.{Region, Fixed, Ordinary, Nowhere, byte_of, effective, region}
-use Rattle.mips_plain.specs.PlainMachine.{Input, State, fetch, fetched, plain, step_when}
-use Rattle.mips_plain.specs.declared.outcome.Outcome.{Outcome}
-use Rattle.mips_plain.specs.declared.outcome.Outcome.TheVariants.{Running, Halted, Trapped}
-use Rattle.task_descriptor.specs.Listing.{Listing, input}
-use Rattle.machine_model.specs.Claims.{plain_of}
-use Rattle.demonstration.specs.LastWriter.{HasWordFrom, is_trapped, is_written_by, writes_in_step}
+use Rattle.mips_plain.specs.PlainMachine.{State}
 
 -- an instruction that is no writer leaves the word
 

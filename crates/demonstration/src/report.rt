@@ -20,6 +20,7 @@ use jobs::job::DemonstrateEmit;
 use limits::ranges::{Budget, Units};
 use mips_plain::outcome::OutOfMemory;
 use report_texts::report::{JobReport, refused_program};
+use report_texts::unlisted::unlisted_exit;
 use std::alloc::{AllocError, Global};
 use task_descriptor::program::Program;
 
@@ -43,7 +44,7 @@ pub fn demonstrate(
     match assemble(alloc, text) {
         Ok(program) => {
             let places = places(alloc, text)?;
-            demonstrate_program(alloc, units, steps, emit, &places, &program)
+            demonstrate_program(alloc, units, steps, emit, text, &places, &program)
         }
         Err(AsmFault::OutOfMemory) => Err(AllocError),
         Err(fault) => refused_program(alloc, fault),
@@ -56,14 +57,14 @@ fn demonstrate_program(
     units: Units,
     steps: Budget,
     emit: DemonstrateEmit,
+    text: &[u8],
     places: &[Position],
     program: &Program,
 ) -> Result<JobReport, AllocError>
     ensures { IfOk result (IsDemonstrated units steps program.now) }
 {
     if is_sound(alloc, program)? {
-        let text = String::from_str(alloc, "the annotations are right: no run shows anything\n")?;
-        return Ok(JobReport::new(text.into_bytes(), 0));
+        return Ok(JobReport::new(nothing_wrong(alloc, text)?, 0));
     }
     let found = search::demonstrate(alloc, program, units.get(), steps.get()).map_err(
         |_: OutOfMemory| AllocError,
@@ -72,6 +73,15 @@ fn demonstrate_program(
         Some(found) => tell_of_run(alloc, units, emit, places, program, &found),
         None => nothing_found(alloc, units, steps, places, program),
     }
+}
+
+/// What is written of a text whose marks are right; where its run ends as unlisted, that it does, too.
+fn nothing_wrong(alloc: Global, text: &[u8]) -> Result<Vec<u8>, AllocError> {
+    let mut said = String::from_str(alloc, "the annotations are right: no run shows anything\n")?;
+    if let Some(exit) = unlisted_exit(alloc, text)? {
+        writeln!(said, "but the run ends as unlisted: {exit}")?;
+    }
+    Ok(said.into_bytes())
 }
 
 /// What is written where no run is found.

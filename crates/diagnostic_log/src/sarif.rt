@@ -10,15 +10,25 @@ use diagnostics::files::Files;
 use json_text::{JsonText, Written};
 use std::alloc::{AllocError, Global};
 
-/// The rules of some diagnostics, each once.
-fn rules_of(alloc: Global, diagnostics: &[Diagnostic]) -> Result<Vec<Code>, AllocError> {
-    let mut rules: Vec<Code> = Vec::new(alloc);
+/// A program of a log.
+#[derive(Clone, Copy)]
+pub struct Logged<'a> {
+    /// Its texts.
+    pub files: Files<'a>,
+    /// What is reported about them.
+    pub diagnostics: &'a [Diagnostic],
+    /// Whether all that helps say to write makes its marks right.
+    pub mends: bool,
+}
+
+/// Adds the rules of some diagnostics, each once.
+fn add_rules(rules: &mut Vec<Code>, diagnostics: &[Diagnostic]) -> Written {
     for said in diagnostics {
         if !rules.iter().any(|rule| *rule == said.code) {
             rules.push(said.code)?;
         }
     }
-    Ok(rules)
+    Ok(())
 }
 
 /// Adds a rule, and where it is explained.
@@ -52,15 +62,12 @@ fn write_tool(alloc: Global, out: &mut JsonText, rules: &[Code]) -> Written {
     out.end()
 }
 
-/// Adds the one run of the program: its exit code, and standard input, if it is read.
-fn write_invocation(out: &mut JsonText, diagnostics: &[Diagnostic], reads_input: bool) -> Written {
-    let is_wrong = diagnostics
-        .iter()
-        .any(|said| said.severity == Severity::Error);
+/// Adds the one run of the tool: its exit code, and standard input, if it is read.
+fn write_invocation(out: &mut JsonText, status: u8, reads_input: bool) -> Written {
     out.list("invocations")?;
     out.begin()?;
-    out.boolean("executionSuccessful", true)?;
-    out.number("exitCode", if is_wrong { 1 } else { 0 })?;
+    out.boolean("executionSuccessful", status < 2)?;
+    out.number("exitCode", status as usize)?;
     if reads_input {
         out.key("stdin")?;
         write_artifact(out, &Artifact::StandardInput)?;
@@ -97,30 +104,28 @@ fn count_alike(diagnostics: &[Diagnostic], count: usize, said: &Diagnostic) -> u
         .count()
 }
 
-/// Adds a result for each diagnostic.
+/// Adds a result for each diagnostic of a program.
 fn write_results(
     alloc: Global,
     out: &mut JsonText,
-    files: &Files<'_>,
+    program: &Logged<'_>,
     artifacts: &Artifacts,
     rules: &[Code],
-    diagnostics: &[Diagnostic],
 ) -> Written {
-    out.list("results")?;
     let mut results = Results {
         alloc,
         out,
-        files,
+        files: &program.files,
         artifacts,
         rules,
         columns: Columns::new(alloc),
         source: Source::Program,
     };
-    for (index, said) in diagnostics.iter().enumerate() {
-        let before = count_alike(diagnostics, index, said);
+    for (index, said) in program.diagnostics.iter().enumerate() {
+        let before = count_alike(program.diagnostics, index, said);
         results.add(said, before.saturating_add(1))?;
     }
-    results.out.end_list()
+    Ok(())
 }
 
 /// Adds that all that is to be written makes the marks right.
@@ -130,21 +135,31 @@ fn write_properties(out: &mut JsonText) -> Written {
     out.end()
 }
 
-/// The text of a log of what is reported about these texts: one line of JSON. `mends` where all that helps say to write
-/// makes the marks right.
+/// Whether all that helps say to write makes the marks of all programs right.
+fn are_mended(programs: &[Logged<'_>]) -> bool {
+    programs.iter().any(|one| one.mends)
+        && programs.iter().all(|one| {
+            one.mends
+                || one
+                    .diagnostics
+                    .iter()
+                    .all(|said| said.severity != Severity::Error)
+        })
+}
+
+/// The text of a log of what is reported about these programs, with this exit status: one line of JSON, with one run.
 ///
 /// # Errors
 ///
 /// `AllocError` where memory was refused.
-pub fn log_text(
-    alloc: Global,
-    files: &Files<'_>,
-    diagnostics: &[Diagnostic],
-    mends: bool,
-) -> Result<Vec<u8>, AllocError> {
-    let rules = rules_of(alloc, diagnostics)?;
-    let artifacts = Artifacts::new(alloc, files)?;
-    let reads_input = artifacts.read_standard_input();
+pub fn log_text(alloc: Global, programs: &[Logged<'_>], status: u8) -> Result<Vec<u8>, AllocError> {
+    let mut rules = Vec::new(alloc);
+    let mut places = Vec::new(alloc);
+    for program in programs {
+        add_rules(&mut rules, program.diagnostics)?;
+        places.push(Artifacts::new(alloc, &program.files)?)?;
+    }
+    let reads_input = places.iter().any(|place| place.read_standard_input());
     let mut out = JsonText::new(alloc);
     out.begin()?;
     out.text("$schema", "https://json.schemastore.org/sarif-2.1.0.json")?;
@@ -152,10 +167,14 @@ pub fn log_text(
     out.list("runs")?;
     out.begin()?;
     write_tool(alloc, &mut out, &rules)?;
-    write_invocation(&mut out, diagnostics, reads_input)?;
+    write_invocation(&mut out, status, reads_input)?;
     write_places(&mut out, reads_input)?;
-    write_results(alloc, &mut out, files, &artifacts, &rules, diagnostics)?;
-    if mends {
+    out.list("results")?;
+    for (program, artifacts) in programs.iter().zip(places.iter()) {
+        write_results(alloc, &mut out, program, artifacts, &rules)?;
+    }
+    out.end_list()?;
+    if are_mended(programs) {
         write_properties(&mut out)?;
     }
     out.end()?;

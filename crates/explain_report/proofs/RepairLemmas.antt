@@ -12,7 +12,8 @@ use Rattle.judged_fixes.specs.Right.{IsRight, IsUnread}
 use Rattle.judged_fixes.proofs.Judging.{right_of, unread_of, right_where_refused, unread_where_refused}
 use Rattle.explain_report.specs.declared.explanation.Explanation.{Explanation}
 use Rattle.explain_report.specs.declared.repaired.Repaired.{Repaired}
-use Rattle.explain_report.specs.Explained.{IsExplained, IsReadExplained}
+use Rattle.explain_report.specs.Explained.{IsExplained, IsReadExplained, are_told}
+use Rattle.jobs.specs.declared.job.Warnings.{Warnings}
 use Rattle.explain_report.specs.Repairs.{IsAuthorsBut, IsRepaired, text_with}
 
 right_read : (cert_file script_file : Option (List ℕ)) (warnings : Bool) (text certificate script : List ℕ) (e : Explanation) (r : Result Listing AsmFault)
@@ -48,14 +49,14 @@ with_fixes cert_file script_file warnings text certificate script e (Err fault) 
     let fixed : IsFixed text h.errors f = further.fixed in
     inr (record { errors = h.errors; told = inr (fault, parsed, h.wrong); edits = fixed.edits; proposed = fixed.proposed; written = fixed.written })
 
-pub authors : (cert_file script_file : Option (List ℕ)) (warnings : Bool) (text certificate script : List ℕ) (r : Repaired)
+pub authors : (cert_file script_file : Option (List ℕ)) (warnings : Warnings) (text certificate script : List ℕ) (r : Repaired)
     → IsRepaired cert_file script_file warnings text certificate script r → IsAuthorsBut text r.text
 authors cert_file script_file warnings text certificate script r h =
     subst (λ (new : List ℕ). IsAuthorsBut text new) (sym h.written)
-    (with_fixes cert_file script_file warnings text certificate script h.before (parse text) h.before.fixed refl refl h.judged)
+    (with_fixes cert_file script_file (are_told warnings) text certificate script h.before (parse text) h.before.fixed refl refl h.judged)
 
-pub right_repaired : (cert_file script_file : Option (List ℕ)) (warnings : Bool) (text certificate script : List ℕ) (r : Repaired)
+pub right_repaired : (cert_file script_file : Option (List ℕ)) (warnings : Warnings) (text certificate script : List ℕ) (r : Repaired)
     → IsRepaired cert_file script_file warnings text certificate script r → (r.marks ≡ Right) ↔ IsRight r.text
 right_repaired cert_file script_file warnings text certificate script r h =
     subst (λ (m : Marks). (m ≡ Right) ↔ IsRight r.text) (sym h.marks)
-    (right_told cert_file script_file warnings r.text certificate script h.after h.left)
+    (right_told cert_file script_file (are_told warnings) r.text certificate script h.after h.left)

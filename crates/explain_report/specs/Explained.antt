@@ -21,6 +21,11 @@ use Rattle.judged_fixes.specs.declared.judge.Marks.TheVariants.{Unread}
 use Rattle.explain_report.specs.declared.explanation.Explanation.{Explanation}
 use Rattle.explain_report.specs.Beside.{IsCertificateSaid, is_silent}
 use Rattle.explain_report.specs.Order.{in_order}
+use Rattle.explain_report.specs.declared.given.Given.{Given}
+use Rattle.jobs.specs.declared.job.Warnings.{Warnings}
+use Rattle.jobs.specs.declared.job.Warnings.TheVariants.{Silent, AsErrors}
+use Rattle.std.specs.Option.{option_map}
+use Rattle.std.specs.String.{string_bytes}
 
 -- 0 where nothing is wrong
 abbrev pub said_status : List Diagnostic → ℕ
@@ -86,3 +91,18 @@ IsReadExplained cert_file script_file warnings text certificate script (Err faul
 abbrev pub IsExplained : (cert_file script_file : Option (List ℕ)) → (warnings : Bool) → (text certificate script : List ℕ) → Explanation → Type 0
 IsExplained cert_file script_file warnings text certificate script e =
     IsReadExplained cert_file script_file warnings text certificate script (parse text) e
+
+-- there are warnings
+abbrev pub are_told : Warnings → Bool
+are_told Silent = false
+are_told _ = true
+
+-- the status: that of errors, or where warnings count, that of all that is said
+abbrev pub final_status : Warnings → Explanation → ℕ
+final_status AsErrors e = said_status e.said
+final_status _ e = e.status
+
+-- the diagnostics for what is given
+abbrev pub IsGivenExplained : Given → Explanation → Type 0
+IsGivenExplained g e =
+    IsExplained (option_map string_bytes g.cert_file.now) (option_map string_bytes g.script_file.now) (are_told g.warnings) g.text.now g.certificate.now g.script.now e

@@ -1,4 +1,3 @@
-pub mod Inputs
 pub mod Beside
 pub mod Order
 pub mod Explained

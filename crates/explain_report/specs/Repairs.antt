@@ -1,5 +1,6 @@
 -- What `explain --fix` writes: the author's text with the fixes that were judged, and what is left.
-use Rattle.std.specs.Prelude.{◌≡◌, ◌⊎◌, ℕ, Bool, List, Option, Some, None, Err}
+use Rattle.jobs.specs.declared.job.Warnings.{Warnings}
+use Rattle.std.specs.Prelude.{◌≡◌, ◌⊎◌, ℕ, List, Option, Some, None, Err}
 use Rattle.std.specs.List.{All}
 use Rattle.annotated_asm.specs.declared.fault.AsmFault.{AsmFault}
 use Rattle.annotated_asm.specs.ProgramText.{parse}
@@ -12,7 +13,7 @@ use Rattle.judged_fixes.specs.Mended.{IsMended}
 use Rattle.judged_fixes.specs.Proposed.{IsProposed}
 use Rattle.explain_report.specs.declared.explanation.Explanation.{Explanation}
 use Rattle.explain_report.specs.declared.repaired.Repaired.{Repaired}
-use Rattle.explain_report.specs.Explained.{IsExplained, IsRefusedBy}
+use Rattle.explain_report.specs.Explained.{IsExplained, IsRefusedBy, are_told, final_status}
 
 -- a text with fixes; as it is where there is none to make
 abbrev pub text_with : Option Fixed → (text : List ℕ) → List ℕ
@@ -21,14 +22,14 @@ text_with (Some fixed) text = fixed.text
 
 -- What is written is the text with the fixes that `explain` judged. Its marks are told, and its status is that of `explain`
 -- of it.
-pub record IsRepaired (cert_file script_file : Option (List ℕ)) (warnings : Bool) (text certificate script : List ℕ) (r : Repaired) : Type 0 where
+pub record IsRepaired (cert_file script_file : Option (List ℕ)) (warnings : Warnings) (text certificate script : List ℕ) (r : Repaired) : Type 0 where
   pub before : Explanation
-  pub judged : IsExplained cert_file script_file warnings text certificate script before
+  pub judged : IsExplained cert_file script_file (are_told warnings) text certificate script before
   pub written : r.text ≡ text_with before.fixed text
   pub after : Explanation
-  pub left : IsExplained cert_file script_file warnings r.text certificate script after
+  pub left : IsExplained cert_file script_file (are_told warnings) r.text certificate script after
   pub marks : r.marks ≡ after.marks
-  pub status : r.status ≡ after.status
+  pub status : r.status ≡ final_status warnings after
 
 -- what is wrong with a text: with its marks, or where it is refused
 abbrev pub AreErrorsOf : (text : List ℕ) → List Diagnostic → Type 0

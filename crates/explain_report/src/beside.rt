@@ -2,14 +2,14 @@
 ghost use Rattle.std.specs.Prelude.{◌≡◌, ◌↔◌, ◌≤◌, ◌++◌, [], length, Ok, IfOk};
 ghost use Rattle.std.specs.Option.{option_map};
 ghost use Rattle.std.specs.String.{string_bytes};
-ghost use Rattle.annotated_asm.specs.ProgramText.{parse};
 ghost use Rattle.mask_certificate.specs.CertificateReading.{cert_parse, names_of};
 ghost use Rattle.mark_checker.specs.Rules.{all_rules};
 ghost use Rattle.annotator.specs.Least.{IsLeast};
 ghost use Rattle.input_diagnostics.specs.CertificateErrors.{AreCertificateErrors};
 ghost use Rattle.explain_report.specs.Beside.{IsCertificateSaid, IsFileSaid, IsFitSaid, IsFurtherSaid, is_silent};
 
-use crate::inputs::{lines_of, spans_in};
+use crate::given::Given;
+use crate::inputs::spans_in;
 use diagnostics::diagnostic::Diagnostic;
 use input_diagnostics::certificate::{ProgramLines, certificate_errors};
 use input_diagnostics::unfit::unfit_error;
@@ -18,25 +18,23 @@ use mark_checker::finding::Finding;
 use mask_certificate::certificate::Cert;
 use mask_certificate::fault::CertFault;
 use mask_certificate::reading::read;
+use operand_forms::rows::lines_of;
 use std::alloc::{AllocError, Global};
 use task_descriptor::program::Program;
 
 /// The diagnostics for a certificate, if a file of one is named.
 pub(crate) fn certificate_said(
     alloc: Global,
-    file: &Option<String>,
-    text: &[u8],
+    given: &Given<'_>,
     program: &Program,
     least: &Cert,
-    certificate: &[u8],
 ) -> Result<Vec<Diagnostic>, AllocError>
-    requires spelled { parse text.now ≡ Ok program.now }
-    requires least { IsLeast program.now least.now }
-    ensures { IfOk result (λ list. IsCertificateSaid (option_map string_bytes file.now)
-        program.now certificate.now list.items) }
+    requires { IsLeast program.now least.now }
+    ensures { IfOk result (λ list. IsCertificateSaid (option_map string_bytes given.now.cert_file.now)
+        program.now given.now.certificate.now list.items) }
 {
-    match file {
-        Some(_) => file_said(alloc, text, program, least, certificate),
+    match given.cert_file {
+        Some(_) => file_said(alloc, given.text, program, least, given.certificate),
         None => Ok(Vec::new(alloc)),
     }
 }
@@ -70,11 +68,10 @@ fn file_said(
     least: &Cert,
     certificate: &[u8],
 ) -> Result<Vec<Diagnostic>, AllocError>
-    requires spelled { parse text.now ≡ Ok program.now }
-    requires least { IsLeast program.now least.now }
+    requires { IsLeast program.now least.now }
     ensures { IfOk result (λ list. IsFileSaid program.now certificate.now list.items) }
 {
-    let code = spans_in(alloc, text, program)?;
+    let code = spans_in(alloc, text)?;
     let rows = lines_of(alloc, text)?;
     let lines = ProgramLines {
         rows: &rows,
@@ -135,19 +132,11 @@ fn compared(
     ensures { IfOk result (λ list. IsFitSaid program.now (Ok cert.now) list.items) }
 {
     // Counted first, so that the two lists of findings never take memory together.
-    let wanted = count(alloc, program, least)?;
+    let wanted = verdict(alloc, program, least)?.findings.as_slice().len();
     let found = verdict(alloc, program, cert)?;
     let findings = found.findings.as_slice();
     let list = unfit_errors(alloc, program, text, cert, least, findings, wanted)?;
     Ok(list)
-}
-
-// How many findings the checker has.
-fn count(alloc: Global, program: &Program, cert: &Cert) -> Result<usize, AllocError>
-    ensures { IfOk result (λ count. count ≡ length (all_rules program.now cert.now)) }
-{
-    let found = verdict(alloc, program, cert)?;
-    Ok(found.findings.as_slice().len())
 }
 
 // That the checker has more findings with a certificate, these, than with the least one, if it does.

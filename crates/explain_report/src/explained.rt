@@ -7,11 +7,12 @@ ghost use Rattle.annotator.specs.Least.{IsLeast};
 ghost use Rattle.input_diagnostics.specs.MistakenTexts.{mistaken_kind};
 ghost use Rattle.judged_fixes.specs.declared.judge.Marks.TheVariants.{Right, Unread};
 ghost use Rattle.explain_report.specs.Beside.{IsCertificateSaid, is_silent};
-ghost use Rattle.explain_report.specs.Explained.{AreWarned, IsExplained, IsProgramExplained, IsRefusedBy, IsRefusedSaid, IsScriptSaid, said_status};
+ghost use Rattle.explain_report.specs.Explained.{AreWarned, IsGivenExplained, IsProgramExplained, IsRefusedBy, IsRefusedSaid, IsScriptSaid, are_told, said_status};
 ghost use Rattle.explain_report.specs.Order.{in_order};
 
 use crate::beside::{both, certificate_said, is_silent};
 use crate::explanation::Explanation;
+use crate::given::{Given, are_told};
 use crate::order::in_order;
 use annotated_asm::assembler::assemble;
 use annotated_asm::fault::AsmFault;
@@ -31,39 +32,18 @@ use std::alloc::{AllocError, Global};
 use task_descriptor::program::Program;
 use text_diagnostics::refusal::refusal;
 
-/// The diagnostics for a program text, with warnings or without, and for the texts of a certificate and of an event
-/// script, if a file of one is named.
+/// The diagnostics for what is given.
 ///
 /// # Errors
 ///
 /// `AllocError` where memory was refused.
-pub fn explained(
-    alloc: Global,
-    cert_file: &Option<String>,
-    script_file: &Option<String>,
-    warnings: bool,
-    text: &[u8],
-    certificate: &[u8],
-    script: &[u8],
-) -> Result<Explanation, AllocError>
-    ensures { IfOk result (λ explained. IsExplained (option_map string_bytes cert_file.now)
-        (option_map string_bytes script_file.now) warnings text.now certificate.now script.now explained) }
+pub fn explained(alloc: Global, given: &Given<'_>) -> Result<Explanation, AllocError>
+    ensures { IfOk result (IsGivenExplained given.now) }
 {
-    match assemble(alloc, text) {
-        Ok(program) => {
-            program_explained(
-                alloc,
-                cert_file,
-                script_file,
-                warnings,
-                text,
-                certificate,
-                script,
-                &program,
-            )
-        }
+    match assemble(alloc, given.text) {
+        Ok(program) => program_explained(alloc, given, &program),
         Err(AsmFault::OutOfMemory) => Err(AllocError),
-        Err(fault) => refusal_explained(alloc, text, fault),
+        Err(fault) => refusal_explained(alloc, given.text, fault),
     }
 }
 
@@ -107,27 +87,23 @@ fn refusal_explained(alloc: Global, text: &[u8], fault: AsmFault) -> Result<Expl
     })
 }
 
-// The diagnostics for the program that a text spells: for its marks, the certificate, and the script.
+// The diagnostics for the program that the text spells: for its marks, the certificate, and the script.
 fn program_explained(
     alloc: Global,
-    cert_file: &Option<String>,
-    script_file: &Option<String>,
-    warnings: bool,
-    text: &[u8],
-    certificate: &[u8],
-    script: &[u8],
+    given: &Given<'_>,
     program: &Program,
 ) -> Result<Explanation, AllocError>
-    requires { parse text.now ≡ Ok program.now }
-    ensures { IfOk result (λ explained. IsProgramExplained (option_map string_bytes cert_file.now)
-        (option_map string_bytes script_file.now) warnings text.now certificate.now script.now program.now explained) }
+    requires { parse given.now.text.now ≡ Ok program.now }
+    ensures { IfOk result (λ explained. IsProgramExplained (option_map string_bytes given.now.cert_file.now)
+        (option_map string_bytes given.now.script_file.now) (are_told given.now.warnings) given.now.text.now given.now.certificate.now given.now.script.now program.now explained) }
 {
+    let text = given.text;
     let least = certify(alloc, program)?;
     let errors = mark_errors(alloc, text, program, &least)?;
-    let asked = is_asked(warnings, &errors);
+    let asked = is_asked(are_told(given.warnings), &errors);
     let warned = warned(alloc, text, program, &least, asked)?;
-    let certified = certificate_said(alloc, cert_file, text, program, &least, certificate)?;
-    let scripted = script_said(alloc, script_file, program, script)?;
+    let certified = certificate_said(alloc, given, program, &least)?;
+    let scripted = script_said(alloc, given.script_file, program, given.script)?;
     let beside = both(certified, scripted)?;
     let status = status_of(&errors, &beside);
     let marks = marks_by(errors.as_slice());
@@ -221,8 +197,8 @@ fn status_of(errors: &[Diagnostic], beside: &[Diagnostic]) -> u8
     }
 }
 
-// The status of what is wrong: 0 where it is nothing.
-fn status_alone(list: &[Diagnostic]) -> u8
+/// The status of what is wrong: 0 where it is nothing.
+pub(crate) fn status_alone(list: &[Diagnostic]) -> u8
     ensures { result ≡ said_status list.now }
 {
     match list {

@@ -1,29 +1,31 @@
 //! The job `explain`: what is said, rendered as text, as a log in SARIF, or as lines of JSON.
-ghost use Rattle.std.specs.Prelude.{◌≡◌, IfOk};
+ghost use Rattle.std.specs.Prelude.{◌≡◌, ◌×◌, IfOk};
 ghost use Rattle.std.specs.Option.{option_map};
 ghost use Rattle.std.specs.String.{string_bytes};
 ghost use Rattle.explain_report.specs.ExplainText.{IsExplainReport};
-ghost use Rattle.explain_report.specs.Explained.{IsExplained};
+ghost use Rattle.explain_report.specs.Explained.{IsGivenExplained};
 
 use crate::explained::explained;
 use crate::explanation::Explanation;
-use crate::inputs::{file_lines, file_name, joined, lines_of};
+use crate::given::{Given, final_status};
+use crate::inputs::{file_lines, file_name, joined};
 use diagnostic_log::json_lines::lines_text;
-use diagnostic_log::sarif::log_text;
+use diagnostic_log::sarif::{Logged, log_text};
 use diagnostics::colour::Colour;
 use diagnostics::diagnostic::{Diagnostic, Severity, Source};
 use diagnostics::files::{Files, TextFile};
 use diagnostics::text::text_of;
-use jobs::job::{Colors, Format, Texts};
+use jobs::job::{Colors, Format, Texts, Warnings};
 use judged_fixes::judge::Marks;
 use judged_fixes::proposal::has_fix;
+use operand_forms::rows::lines_of;
 use report_texts::report::JobReport;
 use shown_names::shell::shell_word;
 use std::alloc::{AllocError, Global};
 
-/// What `explain` writes in a format of a program text, whose file has this name, with warnings or without, and of the
-/// texts of a certificate and of an event script, if a file of one is named. Text has colours only where it is to have
-/// them always: who knows the terminal settles `Auto` before.
+/// What `explain` writes in a format of a program text, whose file has this name, and of the texts of a certificate and
+/// of an event script, if a file of one is named. Text has colours only where it is to have them always: who knows the
+/// terminal settles `Auto` before.
 ///
 /// # Errors
 ///
@@ -34,105 +36,73 @@ pub fn explain(
     name: &str,
     cert_file: &Option<String>,
     script_file: &Option<String>,
-    warnings: bool,
+    warnings: Warnings,
     asked: Colors,
     texts: &Texts,
 ) -> Result<JobReport, AllocError>
     ensures { IfOk result (λ report. IsExplainReport (option_map string_bytes cert_file.now) (option_map string_bytes script_file.now) warnings
         texts.now.program.items texts.now.certificate texts.now.script.items report) }
 {
-    let text = texts.program.as_slice();
-    let script = texts.script.as_slice();
     let certificate = joined(alloc, &texts.certificate)?;
-    let told = told(
-        alloc,
-        format,
+    let given = Given {
         name,
         cert_file,
         script_file,
         warnings,
-        asked,
-        text,
-        &certificate,
-        script,
-    )?;
-    Ok(JobReport::new(told.1, told.0.status))
+        text: &texts.program,
+        certificate: &certificate,
+        script: &texts.script,
+    };
+    let explained = explained(alloc, &given)?;
+    let bytes = written(alloc, format, asked, &given, &explained)?;
+    Ok(JobReport::new(bytes, final_status(warnings, &explained)))
 }
 
-/// What is said of these texts, and how it is written in a format.
-pub(crate) fn told(
-    alloc: Global,
-    format: Format,
-    name: &str,
-    cert_file: &Option<String>,
-    script_file: &Option<String>,
-    warnings: bool,
-    asked: Colors,
-    text: &[u8],
-    certificate: &[u8],
-    script: &[u8],
-) -> Result<(Explanation, Vec<u8>), AllocError>
-    ensures { IfOk result (λ told. IsExplained (option_map string_bytes cert_file.now)
-        (option_map string_bytes script_file.now) warnings text.now certificate.now script.now told.0) }
-{
-    let explained = explained(
-        alloc,
-        cert_file,
-        script_file,
-        warnings,
-        text,
-        certificate,
-        script,
-    )?;
-    let written = written(
-        alloc,
-        format,
-        asked,
-        name,
-        cert_file,
-        script_file,
-        text,
-        certificate,
-        script,
-        &explained,
-    )?;
-    Ok((explained, written))
-}
-
-// What is said of these texts, in a format.
-fn written(
+/// What is said of what is given, in a format.
+pub(crate) fn written(
     alloc: Global,
     format: Format,
     asked: Colors,
-    name: &str,
-    cert_file: &Option<String>,
-    script_file: &Option<String>,
-    text: &[u8],
-    certificate: &[u8],
-    script: &[u8],
+    given: &Given<'_>,
     explained: &Explanation,
 ) -> Result<Vec<u8>, AllocError> {
-    let rows = lines_of(alloc, text)?;
-    let beside = file_lines(alloc, cert_file, certificate)?;
-    let events = file_lines(alloc, script_file, script)?;
+    let rows = lines_of(alloc, given.text)?;
+    let beside = file_lines(alloc, given.cert_file, given.certificate)?;
+    let events = file_lines(alloc, given.script_file, given.script)?;
     let files = Files {
-        program: TextFile { name, rows: &rows },
+        program: TextFile {
+            name: given.name,
+            rows: &rows,
+        },
         certificate: TextFile {
-            name: file_name(cert_file),
+            name: file_name(given.cert_file),
             rows: &beside,
         },
         script: TextFile {
-            name: file_name(script_file),
+            name: file_name(given.script_file),
             rows: &events,
         },
     };
-    said_in(alloc, format, asked, &files, explained)
+    let diagnostics = explained.said.as_slice();
+    let mends = mends(explained);
+    match format {
+        Format::Sarif => {
+            let logged = Logged {
+                files,
+                diagnostics,
+                mends,
+            };
+            let status = final_status(given.warnings, explained);
+            log_text(alloc, &[logged], status)
+        }
+        Format::Json => lines_text(alloc, &files, diagnostics, mends),
+        Format::Text => text_for(alloc, asked, &files, explained),
+    }
 }
 
-// What is said of the texts in these files, in a format.
-fn said_in(
+// What is said, for a person.
+fn text_for(
     alloc: Global,
-    format: Format,
     asked: Colors,
     files: &Files<'_>,
     explained: &Explanation,
@@ -142,12 +112,6 @@ fn said_in(
         Colors::Always => Colour::Always,
         Colors::Auto | Colors::Never => Colour::Never,
     };
-    let are_right = mends(explained);
-    match format {
-        Format::Sarif => return log_text(alloc, files, said, are_right),
-        Format::Json => return lines_text(alloc, files, said, are_right),
-        Format::Text => {}
-    }
     let mut text = text_of(alloc, files, said, colour)?;
     if explained.marks == Marks::Wrong {
         let name = shell_word(alloc, files.program.name)?;
@@ -156,14 +120,14 @@ fn said_in(
             "to look for a run that goes wrong: multiscalar demonstrate {name}"
         )?;
     }
-    if are_right {
+    if mends(explained) {
         write_right(alloc, &mut text, said)?;
     }
     Ok(text.into_bytes())
 }
 
-// Whether what is told to write makes wrong marks right.
-fn mends(explained: &Explanation) -> bool {
+/// Whether what is told to write makes wrong marks right.
+pub(crate) fn mends(explained: &Explanation) -> bool {
     match &explained.fixed {
         Some(fixed) => fixed.is_right && explained.marks == Marks::Wrong,
         None => false,

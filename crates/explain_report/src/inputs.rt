@@ -1,34 +1,25 @@
 //! The texts of `explain` as diagnostics see them: lines, and where instructions stand.
-ghost use Rattle.std.specs.Prelude.{◌≡◌, map as each, Ok, IfOk};
-ghost use Rattle.annotated_asm.specs.ProgramText.{parse};
-ghost use Rattle.program_tokens.specs.Lines.{lines};
-ghost use Rattle.annotated_asm.specs.Sources.{sources_in, sources_of};
+ghost use Rattle.std.specs.Prelude.{◌≡◌, map as each, IfOk};
 ghost use Rattle.text_pieces.specs.Pieces.{joined};
-ghost use Rattle.explain_report.specs.Inputs.{ArePlaces, code_spans, span_of};
 
 use annotated_asm::fault::AsmFault;
-use annotated_asm::laws::map_fits;
-use annotated_asm::position::{Position, SourceMap};
 use annotated_asm::reading::source_map;
 use diagnostics::diagnostic::Span;
-use program_tokens::line::first_line;
+use diagnostics::files::{Files, TextFile};
+use operand_forms::rows::lines_of;
 use std::alloc::{AllocError, Global};
-use task_descriptor::program::Program;
 use text_pieces::text::Text;
 
-/// The lines of a text.
-pub(crate) fn lines_of(alloc: Global, text: &[u8]) -> Result<Vec<&[u8]>, AllocError>
-    ensures { IfOk result (λ list. each (λ line. line.now) list.items ≡ lines text.now) }
-{
-    let mut list = Vec::new(alloc);
-    let mut rest = text;
-    'lines: loop {
-        let (line, behind) = first_line(rest);
-        list.push(line)?;
-        match behind {
-            Some(more) => rest = more,
-            None => return Ok(list),
-        }
+/// A program text in a file of this name, with these lines, alone.
+pub(crate) fn program_alone<'a>(name: &'a str, rows: &'a [&'a [u8]]) -> Files<'a> {
+    let none = TextFile {
+        name: "",
+        rows: &[],
+    };
+    Files {
+        program: TextFile { name, rows },
+        certificate: none,
+        script: none,
     }
 }
 
@@ -72,41 +63,20 @@ fn bytes_of(alloc: Global, pieces: &[&[u8]]) -> Result<Vec<u8>, AllocError>
     Ok(bytes)
 }
 
-/// Where an instruction stands that begins here and has `width` bytes.
-fn span_of(at: Position, width: usize) -> Span
-    ensures { result ≡ span_of (at, width) }
-{
-    Span {
-        line: at.line,
-        column: at.column,
-        width,
-    }
-}
-
-/// Where the instructions of a map stand.
-fn code_spans(alloc: Global, map: &SourceMap) -> Result<Vec<Span>, AllocError>
-    ensures { IfOk result (λ spans. spans.items ≡ code_spans (sources_in map.now)) }
-{
+/// Where the instructions of a program text stand; nowhere in another text.
+pub(crate) fn spans_in(alloc: Global, text: &[u8]) -> Result<Vec<Span>, AllocError> {
+    let map = match source_map(alloc, text) {
+        Ok(map) => map,
+        Err(AsmFault::OutOfMemory) => return Err(AllocError),
+        Err(_) => return Ok(Vec::new(alloc)),
+    };
     map.code
         .iter()
         .zip(map.widths.iter())
-        .map(|(at, width)| span_of(*at, *width))
+        .map(|(at, width)| Span {
+            line: at.line,
+            column: at.column,
+            width: *width,
+        })
         .collect(alloc)
-}
-
-/// Where the instructions of a text that spells a program stand.
-pub(crate) fn spans_in(
-    alloc: Global,
-    text: &[u8],
-    program: &Program,
-) -> Result<Vec<Span>, AllocError>
-    requires { parse text.now ≡ Ok program.now }
-    ensures { IfOk result (λ spans. ArePlaces text.now spans.items) }
-{
-    map_fits();
-    match source_map(alloc, text) {
-        Ok(map) => code_spans(alloc, &map),
-        Err(AsmFault::OutOfMemory) => Err(AllocError),
-        Err(_) => unreachable!(),
-    }
 }

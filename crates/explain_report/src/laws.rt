@@ -5,6 +5,7 @@ ghost use Rattle.task_graph.specs.Soundness.{Sound};
 ghost use Rattle.annotated_asm.specs.ProgramText.{parse};
 ghost use Rattle.explain_report.specs.declared.explanation.Explanation.{Explanation};
 ghost use Rattle.explain_report.specs.declared.repaired.Repaired.{Repaired};
+ghost use Rattle.jobs.specs.declared.job.Warnings.{Warnings};
 ghost use Rattle.judged_fixes.specs.Right.{IsRight, IsUnread};
 ghost use Rattle.judged_fixes.specs.declared.judge.Marks.TheVariants.{Right, Unread};
 ghost use Rattle.explain_report.specs.Explained.{IsExplained};
@@ -31,8 +32,8 @@ pub fn marks_are_told()
 /// What `explain --fix` writes is the author's text but for edits that the helps of its errors propose at their places, and
 /// its marks are said to be right exactly where they are.
 pub fn repairs_are_proposed()
-    ensures authors { (cert_file script_file : Option (List ℕ)) (warnings : Bool) (text certificate script : List ℕ) (r : Repaired)
+    ensures authors { (cert_file script_file : Option (List ℕ)) (warnings : Warnings) (text certificate script : List ℕ) (r : Repaired)
         → IsRepaired cert_file script_file warnings text certificate script r → IsAuthorsBut text r.text }
-    ensures right { (cert_file script_file : Option (List ℕ)) (warnings : Bool) (text certificate script : List ℕ) (r : Repaired)
+    ensures right { (cert_file script_file : Option (List ℕ)) (warnings : Warnings) (text certificate script : List ℕ) (r : Repaired)
         → IsRepaired cert_file script_file warnings text certificate script r → (r.marks ≡ Right) ↔ IsRight r.text }
 {}

@@ -2,9 +2,9 @@
 ghost use Rattle.std.specs.Prelude.{◌≡◌, Ok, IfOk};
 ghost use Rattle.annotated_asm.specs.ProgramText.{parse};
 ghost use Rattle.annotator.specs.Least.{IsLeast};
-ghost use Rattle.explain_report.specs.LeftOvers.{IsFindingCount, IsLeftEmitted, IsLeftIn, IsLeftOf, IsLeftOver};
+ghost use Rattle.explain_report.specs.LeftOvers.{IsFindingCount, IsLeftIn, IsLeftOf, IsLeftOver};
 
-use crate::inputs::lines_of;
+use crate::inputs::program_alone;
 use crate::left::LeftOver;
 use crate::order::in_order;
 use annotated_asm::assembler::assemble;
@@ -12,12 +12,12 @@ use annotated_asm::fault::AsmFault;
 use annotator::certify::certify;
 use diagnostics::colour::Colour;
 use diagnostics::diagnostic::Diagnostic;
-use diagnostics::files::{Files, TextFile};
 use diagnostics::text::text_of;
 use finding_paths::shown::shown_findings;
 use jobs::job::{Emit, Job};
 use mark_diagnostics::error::mark_errors;
 use mask_certificate::certificate::Cert;
+use operand_forms::rows::lines_of;
 use report_texts::annotating::annotate;
 use shown_names::name::shown_name;
 use std::alloc::{AllocError, Global};
@@ -43,29 +43,16 @@ pub fn left_over(
         record { bytes = written.now; status = status } left) }
 {
     match job {
-        Job::Annotate { emit } => left_emitted(alloc, *emit, program, name, status, written),
-        _ => Ok(None),
-    }
-}
-
-// What is left in what `annotate` proposes.
-fn left_emitted(
-    alloc: Global,
-    emit: Emit,
-    program: &[u8],
-    name: &str,
-    status: u8,
-    written: &[u8],
-) -> Result<Option<LeftOver>, AllocError>
-    ensures { IfOk result (λ left. IsLeftEmitted emit program.now name.now
-        record { bytes = written.now; status = status } left) }
-{
-    match emit {
-        Emit::Text | Emit::Marks => left_of(alloc, name, status, written),
-        Emit::Cert | Emit::Keep => {
+        Job::Annotate {
+            emit: Emit::Text | Emit::Marks,
+        } => left_of(alloc, name, status, written),
+        Job::Annotate {
+            emit: Emit::Cert | Emit::Keep,
+        } => {
             let marked = annotate(alloc, Emit::Marks, program)?;
             left_of(alloc, name, marked.status(), marked.bytes())
         }
+        _ => Ok(None),
     }
 }
 
@@ -114,15 +101,7 @@ fn said_of(
     errors: &[Diagnostic],
     count: usize,
 ) -> Result<Vec<u8>, AllocError> {
-    let none = TextFile {
-        name: "",
-        rows: &[],
-    };
-    let files = Files {
-        program: TextFile { name, rows },
-        certificate: none,
-        script: none,
-    };
+    let files = program_alone(name, rows);
     let mut said = text_of(alloc, &files, errors, Colour::Never)?;
     let name = shown_name(alloc, name)?;
     if count == 0 {

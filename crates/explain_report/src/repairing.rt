@@ -2,16 +2,18 @@
 ghost use Rattle.std.specs.Prelude.{◌≡◌, IfOk};
 ghost use Rattle.std.specs.Option.{option_map};
 ghost use Rattle.std.specs.String.{string_bytes};
+ghost use Rattle.explain_report.specs.Explained.{final_status};
 ghost use Rattle.explain_report.specs.Repairs.{IsRepaired};
 
 use crate::explained::explained;
-use crate::explaining::told;
+use crate::explaining::written;
 use crate::explanation::Explanation;
+use crate::given::{Given, final_status};
 use crate::inputs::joined;
 use crate::repaired::Repaired;
 use diagnostics::diagnostic::{Diagnostic, Severity, Source};
 use diagnostics::listed::Listed;
-use jobs::job::{Colors, Format, Texts};
+use jobs::job::{Colors, Format, Texts, Warnings};
 use judged_fixes::judge::Marks;
 use shown_names::name::shown_name;
 use std::alloc::{AllocError, Global};
@@ -27,65 +29,56 @@ pub fn repair(
     name: &str,
     cert_file: &Option<String>,
     script_file: &Option<String>,
-    warnings: bool,
+    warnings: Warnings,
     asked: Colors,
     texts: &Texts,
 ) -> Result<Repaired, AllocError>
     ensures { IfOk result (IsRepaired (option_map string_bytes cert_file.now) (option_map string_bytes script_file.now) warnings
         texts.now.program.items texts.now.certificate texts.now.script.items) }
 {
-    let text = texts.program.as_slice();
-    let script = texts.script.as_slice();
     let certificate = joined(alloc, &texts.certificate)?;
-    let (before, said) = told(
-        alloc,
-        Format::Text,
+    let given = Given {
         name,
         cert_file,
         script_file,
         warnings,
-        asked,
-        text,
-        &certificate,
-        script,
-    )?;
+        text: &texts.program,
+        certificate: &certificate,
+        script: &texts.script,
+    };
+    let before = explained(alloc, &given)?;
+    let said = written(alloc, Format::Text, asked, &given, &before)?;
     match &before.fixed {
         Some(fixed) => {
-            let new = fixed.text.as_slice();
-            let after = explained(
-                alloc,
-                cert_file,
-                script_file,
-                warnings,
-                new,
-                &certificate,
-                script,
-            )?;
-            repaired_as(alloc, name, said, new, fixed.fixes, &after)
+            let new = Given {
+                text: fixed.text.as_slice(),
+                ..given
+            };
+            let after = explained(alloc, &new)?;
+            repaired_as(alloc, &new, said, fixed.fixes, &after)
         }
-        None => repaired_as(alloc, name, said, text, 0, &before),
+        None => repaired_as(alloc, &given, said, 0, &before),
     }
 }
 
 // What is written, where this is said of the text as it was, and then of the text with so many fixes.
 fn repaired_as(
     alloc: Global,
-    name: &str,
+    given: &Given<'_>,
     said: Vec<u8>,
-    text: &[u8],
     fixes: usize,
     after: &Explanation,
 ) -> Result<Repaired, AllocError>
-    ensures text { IfOk result (λ r. r.text ≡ text.now) }
+    ensures text { IfOk result (λ r. r.text ≡ given.now.text.now) }
     ensures marks { IfOk result (λ r. r.marks ≡ after.now.marks) }
-    ensures status { IfOk result (λ r. r.status ≡ after.now.status) }
+    ensures status { IfOk result (λ r. r.status ≡ final_status given.now.warnings after.now) }
 {
-    let line = line_of(alloc, name, fixes, after)?;
+    let line = line_of(alloc, given.name, fixes, after)?;
     Ok(Repaired {
         said,
-        text: Listed::new(text.to_vec(alloc)?),
+        text: Listed::new(given.text.to_vec(alloc)?),
         marks: after.marks,
-        status: after.status,
+        status: final_status(given.warnings, after),
         line,
     })
 }

@@ -23,20 +23,30 @@ pub(crate) struct Row {
     pub(crate) says: &'static str,
     /// What to do.
     pub(crate) help: &'static str,
-    /// What to write in the marked place, where that mends it.
+    /// What to write, where that mends it.
     pub(crate) fix: Option<&'static str>,
+    /// Where to write it, if not in the marked place.
+    pub(crate) mended: Option<Span>,
 }
 
 /// A row whose help is words alone.
 pub(crate) fn advice(says: &'static str, help: &'static str) -> Row {
-    let fix = None;
-    Row { says, help, fix }
+    Row {
+        says,
+        help,
+        fix: None,
+        mended: None,
+    }
 }
 
 /// A row that says what to write.
 pub(crate) fn mend(says: &'static str, help: &'static str, fix: &'static str) -> Row {
-    let fix = Some(fix);
-    Row { says, help, fix }
+    Row {
+        says,
+        help,
+        fix: Some(fix),
+        mended: None,
+    }
 }
 
 /// A template with each `{name}` replaced by its word; `{fix}` by `fix`.
@@ -61,37 +71,12 @@ fn filled(
 }
 
 impl Row {
-    /// The error that this row is about, at a place, which mends another place.
-    pub(crate) fn beside(
-        self,
-        alloc: Global,
-        source: Source,
-        code: Code,
-        span: Span,
-        mended: Span,
-        words: &[(&str, Words)],
-    ) -> Result<Diagnostic, AllocError>
-        ensures { IfOk result (IsErrorAt source code span) }
-    {
-        let mut replacements = Vec::new(alloc);
-        let text = filled(alloc, self.fix.unwrap_or(""), words, "")?;
-        let help = filled(alloc, self.help, words, text.as_str())?;
-        let message = filled(alloc, self.says, words, "")?;
-        if self.fix.is_some() {
-            replacements.push(Replacement { span: mended, text })?;
+    /// The row where what it writes mends this place.
+    pub(crate) fn mending(self, place: Span) -> Row {
+        Row {
+            mended: Some(place),
+            ..self
         }
-        Ok(Diagnostic {
-            severity: Severity::Error,
-            code,
-            source,
-            span: Some(span),
-            message,
-            notes: Listed::new(Vec::new(alloc)),
-            help: Some(Help {
-                message: help,
-                replacements: Listed::new(replacements),
-            }),
-        })
     }
 
     /// The error that this row is about, at a place.
@@ -105,8 +90,26 @@ impl Row {
     ) -> Result<Diagnostic, AllocError>
         ensures { IfOk result (IsErrorAt source code span) }
     {
-        let said = self.beside(alloc, source, code, span, span, words)?;
-        Ok(said)
+        let mut replacements = Vec::new(alloc);
+        let text = filled(alloc, self.fix.unwrap_or(""), words, "")?;
+        let help = filled(alloc, self.help, words, text.as_str())?;
+        let message = filled(alloc, self.says, words, "")?;
+        if self.fix.is_some() {
+            let span = self.mended.unwrap_or(span);
+            replacements.push(Replacement { span, text })?;
+        }
+        Ok(Diagnostic {
+            severity: Severity::Error,
+            code,
+            source,
+            span: Some(span),
+            message,
+            notes: Listed::new(Vec::new(alloc)),
+            help: Some(Help {
+                message: help,
+                replacements: Listed::new(replacements),
+            }),
+        })
     }
 }
 

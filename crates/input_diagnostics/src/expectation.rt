@@ -1,6 +1,6 @@
 //! What is wrong with the expectations of a line, which `replay --strict` reads.
 
-use crate::advice::{Row, Slip, marked};
+use crate::advice::{Row, Slip, advice, marked, mend};
 use crate::meant::register_meant;
 use diagnostics::quotation::quoted;
 use diagnostics::words;
@@ -9,63 +9,10 @@ use mips_instructions::places::address_of;
 use std::alloc::{AllocError, Global};
 use task_descriptor::program::Program;
 
-const FORM: Row = Row {
-    says: "{expected} is no expectation",
-    help: "write $R=W, sends $R=W, [A]=W, out=W, stops A, ends halted, ends trapped K NAME or ends unlisted A",
-    fix: None,
-};
+const FORM: &str =
+    "write $R=W, sends $R=W, [A]=W, out=W, stops A, ends halted, ends trapped K NAME or ends unlisted A";
 
-const NONE_HERE: Row = Row {
-    says: "an expectation is missing",
-    ..FORM
-};
-
-const TWICE: Row = Row {
-    says: "an expectation has one =",
-    help: "write {fix}",
-    fix: Some("="),
-};
-
-const CAPITAL: Row = Row {
-    says: "hexadecimal digits stand behind 0x, with a small x",
-    help: "write {fix}",
-    fix: Some("0x"),
-};
-
-const NEGATIVE: Row = Row {
-    says: "a word is a number of 32 bits without a sign",
-    help: "write {fix}",
-    fix: Some("{expected}"),
-};
-
-const REGISTER: Row = Row {
-    says: "an expectation names a register by its number",
-    help: "write {fix}",
-    fix: Some("{expected}"),
-};
-
-const LABEL: Row = Row {
-    says: "a task exits to an address",
-    help: "write {fix}",
-    fix: Some("{expected}"),
-};
-
-const NO_WORD: Row = Row {
-    says: "{expected} is no word",
-    help: "write a number below 2^32, in decimal or as 0x and hexadecimal digits",
-    fix: None,
-};
-
-const NO_WORD_HERE: Row = Row {
-    says: "a word is missing",
-    ..NO_WORD
-};
-
-const NO_ADDRESS: Row = Row {
-    says: "{expected} is no address",
-    help: "write the address of an instruction, as in stops 0x00400008",
-    fix: None,
-};
+const WORD: &str = "write a number below 2^32, in decimal or as 0x and hexadecimal digits";
 
 /// A part of a line.
 #[derive(Clone, Copy)]
@@ -159,8 +106,19 @@ fn number_of(text: &[u8]) -> Option<u32> {
 type Said = Result<Option<(Slip, Words)>, AllocError>;
 
 /// What is said, with the bytes that are meant.
-fn quoting(alloc: Global, part: Part<'_>, row: Row) -> Said {
+fn quoting(alloc: Global, part: Part<'_>, says: &'static str, help: &'static str) -> Said {
     let text = quoted(alloc, part.text)?;
+    Ok(Some((part.slip(advice(says, help)), text)))
+}
+
+/// What is said, with nothing that is meant.
+fn plain(alloc: Global, part: Part<'_>, row: Row) -> Said {
+    Ok(Some((part.slip(row), Words::of(alloc, "")?)))
+}
+
+/// What is said, with what to write.
+fn writing(part: Part<'_>, says: &'static str, text: Words) -> Said {
+    let row = mend(says, "write {fix}", "{expected}");
     Ok(Some((part.slip(row), text)))
 }
 
@@ -170,16 +128,20 @@ fn word_said(alloc: Global, part: Part<'_>) -> Said {
         return Ok(None);
     }
     match part.text {
-        [] => Ok(Some((part.slip(NO_WORD_HERE), Words::of(alloc, "")?))),
-        [b'0', b'X', ..] => Ok(Some((part.within(0, 2).slip(CAPITAL), Words::of(alloc, "")?))),
+        [] => plain(alloc, part, advice("a word is missing", WORD)),
+        [b'0', b'X', ..] => {
+            let says = "hexadecimal digits stand behind 0x, with a small x";
+            plain(alloc, part.within(0, 2), mend(says, "write {fix}", "0x"))
+        }
         [b'-', digits @ ..] => match number_of(digits) {
             Some(number) => {
                 let number = 0u32.wrapping_sub(number);
-                Ok(Some((part.slip(NEGATIVE), words!(in alloc; "0x{number:08x}")?)))
+                let says = "a word is a number of 32 bits without a sign";
+                writing(part, says, words!(in alloc; "0x{number:08x}")?)
             }
-            None => quoting(alloc, part, NO_WORD),
+            None => quoting(alloc, part, "{expected} is no word", WORD),
         },
-        _ => quoting(alloc, part, NO_WORD),
+        _ => quoting(alloc, part, "{expected} is no word", WORD),
     }
 }
 
@@ -206,9 +168,10 @@ fn name_said(alloc: Global, name: Part<'_>) -> Said {
     match register_meant(alloc, register.text)? {
         Some(number) => {
             let number = number.get();
-            Ok(Some((register.slip(REGISTER), words!(in alloc; "${number}")?)))
+            let says = "an expectation names a register by its number";
+            writing(register, says, words!(in alloc; "${number}")?)
         }
-        None => quoting(alloc, name, FORM),
+        None => quoting(alloc, name, "{expected} is no expectation", FORM),
     }
 }
 
@@ -224,16 +187,22 @@ fn address_said(alloc: Global, program: &Program, part: Part<'_>) -> Said {
     match task {
         Some(task) => {
             let address = address_of(task.entry.get());
-            Ok(Some((part.slip(LABEL), words!(in alloc; "0x{address:08x}")?)))
+            let says = "a task exits to an address";
+            writing(part, says, words!(in alloc; "0x{address:08x}")?)
         }
-        None => quoting(alloc, part, NO_ADDRESS),
+        None => quoting(
+            alloc,
+            part,
+            "{expected} is no address",
+            "write the address of an instruction, as in stops 0x00400008",
+        ),
     }
 }
 
 /// What is said of an expectation, if it is none.
 fn part_said(alloc: Global, program: &Program, part: Part<'_>) -> Said {
     if part.text.is_empty() {
-        return Ok(Some((part.slip(NONE_HERE), Words::of(alloc, "")?)));
+        return plain(alloc, part, advice("an expectation is missing", FORM));
     }
     if part.text.starts_with(b"stops ") {
         return address_said(alloc, program, part.behind(6).trimmed());
@@ -242,12 +211,13 @@ fn part_said(alloc: Global, program: &Program, part: Part<'_>) -> Said {
         return Ok(None);
     }
     let Some(equals) = part.text.iter().position(|byte| *byte == b'=') else {
-        return quoting(alloc, part, FORM);
+        return quoting(alloc, part, "{expected} is no expectation", FORM);
     };
     let behind = equals.saturating_add(1);
     if matches!(part.text.get(behind), Some(b'=')) {
         let both = part.within(equals, behind.saturating_add(1));
-        return Ok(Some((both.slip(TWICE), Words::of(alloc, "")?)));
+        let row = mend("an expectation has one =", "write {fix}", "=");
+        return plain(alloc, both, row);
     }
     match name_said(alloc, part.within(0, equals).trimmed())? {
         Some(said) => Ok(Some(said)),

@@ -251,7 +251,8 @@ impl<'a> Compared<'a> {
         ];
         let (code, row) = row_of(finding.rule, idle.is_some(), has_fix);
         let at = self.span_of(finding);
-        let mut said = row.beside(alloc, Source::Certificate, code, at, mended, &words)?;
+        let row = row.mending(mended);
+        let mut said = row.at(alloc, Source::Certificate, code, at, &words)?;
         said.notes = Listed::new(notes_of(alloc, self.lines, index)?);
         Ok(said)
     }

@@ -15,9 +15,9 @@ is_in_file Least = false
 -- the job has a file with a certificate beside its program
 abbrev pub has_certificate : Job → Bool
 has_certificate (Explain name certificate script warnings format colors) = is_some certificate
-has_certificate (Check source workers) = is_in_file source
+has_certificate (Check source workers format) = is_in_file source
 has_certificate (Replay source units emit until) = is_in_file source
-has_certificate (ReplayStrictly source units) = is_in_file source
+has_certificate (ReplayStrictly source units complete format) = is_in_file source
 has_certificate (Run source schedule units workers budget predict emit) = is_in_file source
 has_certificate (Curve source units budget predict emit) = is_in_file source
 has_certificate _ = false
@@ -26,7 +26,7 @@ has_certificate _ = false
 abbrev pub has_script : Job → Bool
 has_script (Explain name certificate script warnings format colors) = is_some script
 has_script (Replay source units emit until) = true
-has_script (ReplayStrictly source units) = true
+has_script (ReplayStrictly source units complete format) = true
 has_script _ = false
 
 -- a file that the job does not have has no name

@@ -37,6 +37,26 @@ pub enum Format {
     Json,
 }
 
+/// What `explain` does about marks that are right but cost speed.
+#[derive(Clone, Copy, Debug, PartialEq, Eq)]
+pub enum Warnings {
+    /// Nothing.
+    Silent,
+    /// It warns of them; the status stays 0.
+    Told,
+    /// It warns of them, and then the status is 1.
+    AsErrors,
+}
+
+/// How `check` lays out its report.
+#[derive(Clone, Copy, Debug, PartialEq, Eq)]
+pub enum CheckFormat {
+    /// A line for each finding, and one for the verdict.
+    Text,
+    /// An object in JSON on each line, for machines.
+    Json,
+}
+
 /// Whether the lines that `explain` writes for a person have colours.
 #[derive(Clone, Copy, Debug, PartialEq, Eq)]
 pub enum Colors {
@@ -46,6 +66,15 @@ pub enum Colors {
     Always,
     /// Nowhere.
     Never,
+}
+
+/// How the verdict of a strict replay is written.
+#[derive(Clone, Copy, Debug, PartialEq, Eq)]
+pub enum VerdictFormat {
+    /// Lines for a person.
+    Text,
+    /// An object in JSON.
+    Json,
 }
 
 /// What `run` writes for a run.
@@ -140,7 +169,10 @@ pub enum Job {
         budget: Budget,
     },
     /// Writes the canonical text of the program.
-    Print,
+    Print {
+        /// Whether its instructions are listed instead, each with its address and mask.
+        listing: bool,
+    },
     /// Proposes annotations, or certifies those that stand.
     Annotate {
         emit: Emit,
@@ -153,8 +185,8 @@ pub enum Job {
         certificate: Option<String>,
         /// The event script's file as the command line names it, where one is to be explained, too.
         script: Option<String>,
-        /// Whether marks that are right but cost speed are reported, too.
-        warnings: bool,
+        /// What is done about marks that are right but cost speed.
+        warnings: Warnings,
         /// How the report is laid out.
         format: Format,
         /// Whether the lines for a person have colours.
@@ -164,6 +196,8 @@ pub enum Job {
     Check {
         certificate: CertificateSource,
         workers: Workers,
+        /// How the report is laid out.
+        format: CheckFormat,
     },
     /// Applies the events of a script to a machine of this many units: all, or the first `until`.
     Replay {
@@ -173,10 +207,12 @@ pub enum Job {
         until: Option<Budget>,
     },
     /// Applies the events of a script with expectations to a machine of this many units, up to the first that is not
-    /// allowed or does not do what is expected.
+    /// allowed or does not do what is expected; or, if the script must be complete, does what its line does not list.
     ReplayStrictly {
         certificate: CertificateSource,
         units: Units,
+        is_complete: bool,
+        format: VerdictFormat,
     },
     /// Runs the program on a machine of this many units, which this many threads serve, up to this many
     /// events. More threads than units count as one for each unit; a run in steps has one thread.

@@ -7,6 +7,8 @@ use Rattle.jobs.specs.declared.job.Emit.{Emit}
 use Rattle.jobs.specs.declared.job.Emit.TheVariants as emit
 use Rattle.jobs.specs.declared.job.Format.{Format}
 use Rattle.jobs.specs.declared.job.Format.TheVariants as format
+use Rattle.jobs.specs.declared.job.Warnings.{Warnings}
+use Rattle.jobs.specs.declared.job.Warnings.TheVariants.{Told, Silent}
 use Rattle.jobs.specs.declared.job.RunEmit.{RunEmit}
 use Rattle.jobs.specs.declared.job.RunEmit.TheVariants as run
 use Rattle.jobs.specs.declared.job.ReplayEmit.{ReplayEmit}
@@ -20,6 +22,11 @@ use Rattle.jobs.specs.declared.job.Prediction.TheVariants as predict
 abbrev pub source_of : (is_least : Bool) → CertificateSource
 source_of false = File
 source_of true = Least
+
+-- what `explain` does about marks that cost speed
+abbrev pub warnings_of : (is_told : Bool) → Warnings
+warnings_of false = Silent
+warnings_of true = Told
 
 -- what `annotate` writes, from 0 on
 abbrev pub emits : List Emit

@@ -1,5 +1,5 @@
 -- What each call takes, and what it hands out.
-use Rattle.std.specs.Prelude.{◌≡◌, ℕ, Bool, List, [], Option, Some, None, IsSome, IfSome, slice_get, if◌then◌else◌}
+use Rattle.std.specs.Prelude.{◌≡◌, ℕ, Bool, false, List, [], Option, Some, None, IsSome, IfSome, slice_get, if◌then◌else◌}
 use Rattle.std.specs.Str.{IsUtf8}
 use Rattle.jobs.specs.declared.job.Schedule.TheVariants.{Steps}
 use Rattle.limits.specs.Limits.{IsBudget, IsUnits}
@@ -12,7 +12,7 @@ use Rattle.verdict_report.specs.CurveText.{IsCurveText}
 use Rattle.strict_replay.specs.StrictReplay.{IsStrictReport}
 use Rattle.verdict_report.specs.ReplayText.{IsReplayText}
 use Rattle.verdict_report.specs.RunText.{IsRunText}
-use Rattle.multiscalar_c.specs.Codes.{curve_emits, emits, formats, prediction_of, replay_emits, run_emits, source_of}
+use Rattle.multiscalar_c.specs.Codes.{curve_emits, emits, formats, prediction_of, replay_emits, run_emits, source_of, warnings_of}
 
 -- what `annotate` writes
 abbrev pub IsAnnotated : (emit : ℕ) → (program : List ℕ) → Report → Type 0
@@ -36,7 +36,7 @@ pub record ExplainTakes (format : ℕ) (name : List ℕ) (file : Option (List �
 -- what `explain` writes, without colours and of no event script
 abbrev pub IsExplained : (format : ℕ) → (warnings : Bool) → (name : List ℕ) → (file : Option (List ℕ)) → (program certificate : List ℕ) → Report → Type 0
 IsExplained format warnings name file program certificate report =
-    IfSome (slice_get formats format) (λ _. IsExplainReport file None warnings program certificate [] report)
+    IfSome (slice_get formats format) (λ _. IsExplainReport file None (warnings_of warnings) program certificate [] report)
 
 -- what `replay` takes
 pub record ReplayTakes (units emit : ℕ) : Type 0 where
@@ -52,7 +52,7 @@ IsReplayed is_least units emit program certificate script report =
 -- what `replay --strict` writes
 abbrev pub IsReplayedStrictly : (is_least : Bool) → (units : ℕ) → (program certificate script : List ℕ) → Report → Type 0
 IsReplayedStrictly is_least units program certificate script report =
-    OfCertificate (source_of is_least) program certificate (λ certificate. IsStrictReport units program certificate script report)
+    OfCertificate (source_of is_least) program certificate (λ certificate. IsStrictReport false units program certificate script report)
 
 -- what a run takes that may write one of these
 pub record RunTakes {Emit : Type 0} (emits : List Emit) (units budget predict : ℕ) (list : List ℕ) (emit : ℕ) : Type 0 where

@@ -1,10 +1,12 @@
 //! What the numbers stand for that a caller passes.
 ghost use Rattle.std.specs.Prelude.{◌≡◌, MatchResult, None, Some, slice_get, ◌⊎◌};
-ghost use Rattle.multiscalar_c.specs.Codes.{curve_emits, emits, formats, prediction_of, replay_emits, run_emits, source_of};
+ghost use Rattle.multiscalar_c.specs.Codes.{curve_emits, emits, formats, prediction_of, replay_emits, run_emits, source_of, warnings_of};
 ghost use Rattle.multiscalar_c.specs.declared.answer.Fault.TheVariants.{Memory, Range};
 
 use crate::answer::Fault;
-use jobs::job::{CertificateSource, CurveEmit, Emit, Format, Prediction, ReplayEmit, RunEmit};
+use jobs::job::{
+    CertificateSource, CurveEmit, Emit, Format, Prediction, ReplayEmit, RunEmit, Warnings,
+};
 use jobs::ranges::PredictionList;
 use std::alloc::Global;
 
@@ -41,6 +43,17 @@ pub(crate) fn format(code: u32) -> Option<Format>
         1 => Some(Format::Sarif),
         2 => Some(Format::Json),
         _ => None,
+    }
+}
+
+/// What `explain` does about marks that cost speed.
+pub(crate) fn warnings(is_told: bool) -> Warnings
+    ensures { result ≡ warnings_of is_told }
+{
+    if is_told {
+        Warnings::Told
+    } else {
+        Warnings::Silent
     }
 }
 

@@ -13,7 +13,7 @@ use crate::codes;
 use crate::texts::{name, texts};
 use demonstration::report::demonstrate;
 use explain_report::explaining::explain;
-use jobs::job::{Colors, DemonstrateEmit};
+use jobs::job::{Colors, DemonstrateEmit, VerdictFormat};
 use limits::ranges::{Budget, Units};
 use report_texts::annotating::annotate;
 use report_texts::printing::print;
@@ -170,6 +170,7 @@ fn explain_of(
     let texts = texts(alloc, program, certificate, b"")?;
     let none: Option<String> = None;
     let never = Colors::Never;
+    let warnings = codes::warnings(warnings);
     Ok(explain(alloc, format, title, &file, &none, warnings, never, &texts)?)
 }
 
@@ -241,7 +242,8 @@ fn replay_strictly_of(
 {
     let units = Units::new(units).ok_or(Fault::Range)?;
     let texts = texts(alloc, program, certificate, script)?;
-    Ok(replay_strictly(alloc, codes::source(is_least), units, &texts)?)
+    let source = codes::source(is_least);
+    Ok(replay_strictly(alloc, source, units, false, VerdictFormat::Text, &texts)?)
 }
 
 /// `run --schedule steps`: runs the program in steps on this many units, 1..=16, until it ends or `budget` events,

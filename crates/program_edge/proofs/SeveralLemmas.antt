@@ -1,24 +1,21 @@
 -- One program more: its part stands after the others, and the tally counts it.
-use Rattle.std.proofs.Common.{◌≡◌, ◌∙◌, ◌+◌, ◌<◌, ◌≤◌, ap, subst, sym, refl, inl, inr, ℕ, Bool, true, List, [], ◌∷◌, ◌++◌, length, get_or, take, drop, map, suc, zero-add, append-nil, take-append-drop, add-zero, add-one, arith, Option, None, Some, Result, Ok, Err}
+use Rattle.std.proofs.Common.{◌≡◌, ◌∙◌, ◌+◌, ◌<◌, ◌≤◌, ap, subst, sym, refl, inr, ℕ, Bool, List, [], ◌∷◌, ◌++◌, length, get_or, take, drop, map, suc, zero-add, append-nil, take-append-drop, add-zero, add-one, arith, Option, Result, Ok, Err}
 use Rattle.std.proofs.KnownBytes.{Appends-nil, Appends-trans}
 use Rattle.std.proofs.Math.Seq.{drop-cons}
 use Rattle.std.proofs.lemmas.List.{flat_map_more, map-append, take_all, take_more}
 use Rattle.std.proofs.lemmas.List.Sums.{sum_by-append}
-use Rattle.std.specs.Io.KnownBytes.{Appends, Keeps}
+use Rattle.std.specs.Io.KnownBytes.{Appends}
 use Rattle.std.specs.Prelude.{flat_map, if◌then◌else◌}
 use Rattle.std.specs.List.{count_by}
 use Rattle.std.specs.String.{string_bytes}
 use Rattle.std.specs.declared.alloc.Global.{Global}
 use Rattle.std.specs.declared.string.String.{String}
 use Rattle.jobs.specs.declared.job.Job.{Job}
-use Rattle.result_files.specs.Writing.{Begins}
-use Rattle.verdict_report.proofs.BeginsLemmas.{whole}
 use Rattle.program_edge.specs.declared.summary.ProgramVerdict.{ProgramVerdict}
 use Rattle.program_edge.specs.declared.summary.ProgramVerdict.TheVariants.{Right, Wrong, Unjudged}
 use Rattle.program_edge.specs.declared.summary.ProgramTally.{ProgramTally}
 use Rattle.program_edge.specs.declared.told.Answered.{Answered}
 use Rattle.program_edge.specs.FileTexts.{Known}
-use Rattle.program_edge.specs.Hints.{IsSaid}
 use Rattle.result_files.specs.Files.{Same}
 use Rattle.verdict_report.specs.declared.fault.ServeFault.{ServeFault}
 use Rattle.verdict_report.specs.declared.fault.ServeFault.TheVariants as serve
@@ -26,7 +23,7 @@ use Rattle.program_edge.specs.declared.fault.Fault.TheVariants.{Serve}
 use Rattle.program_edge.specs.Telling.{IsTold}
 use Rattle.program_edge.specs.Several.{ArePartsOf, EndsAt, IsEach, IsOutOfMemory, IsPartOf, Part, Sums, errors_of, outputs_of, tally_of_parts}
 use Rattle.program_edge.specs.Streams.{IsCut, IsWritten, World}
-use Rattle.program_edge.specs.Summaries.{all_of, counted, is_right, is_unjudged, is_wrong, summary_line, tally_of, worst_status}
+use Rattle.program_edge.specs.Summaries.{all_of, counted, is_right, is_unjudged, is_wrong, tally_of}
 
 pub parts_more : (t : Bool) (known : List ℕ → Known) (job : Job) (names : List (String Global)) (parts : List Part) (name : String Global) (part : Part)
     → ArePartsOf t known job names parts → IsPartOf t known job (string_bytes name) part
@@ -94,7 +91,7 @@ ends_at t known job names i name parts ending old between new h is each written 
 -- no program is left
 pub sums_up : (t : Bool) (known : List ℕ → Known) (job : Job) (names : List (String Global)) (i : ℕ) (parts : List Part) (tally : ProgramTally) (ending : Answered) (old between new : World)
     → length names ≤ i → ArePartsOf t known job (take i names) parts → tally ≡ tally_of_parts parts
-    → IsWritten (outputs_of parts) (errors_of parts) old between → Sums tally ending between new
+    → IsWritten (outputs_of parts) (errors_of parts) old between → Sums job tally ending between new
     → IsEach t known job names ending old new
 sums_up t known job names i parts tally ending old between new h each is written sums = record {
   done = names;
@@ -104,7 +101,7 @@ sums_up t known job names i parts tally ending old between new h each is written
   each = subst (λ l. ArePartsOf t known job l parts) (take_all i names h) each;
   between = between;
   written = written;
-  ends = subst (λ x. Sums x ending between new) is sums;
+  ends = subst (λ x. Sums job x ending between new) is sums;
 }
 
 -- memory ran out before the first
@@ -141,13 +138,6 @@ turn t known job names i name bytes tally after judged a b c e f g parts part lt
   added_more (λ p. p.output) a b c parts part out out',
   added_more (λ p. p.errors) e f g parts part err err',
 )
-
--- the sum was written
-pub summed : (tally : ProgramTally) (status : ℕ) (line : List ℕ) (old new : World) → status ≡ worst_status tally → line ≡ summary_line tally
-    → IsWritten line [] old new → Sums tally (record { status = status; is_told = true }) old new
-summed tally status line old new is same written =
-    let ended : ℕ → Answered = λ s. record { status = s; is_told = true } in
-    inl (ap ended is, subst (λ (l : List ℕ). IsWritten l [] old new) same written)
 
 abbrev fault_in : {A : Type 0} → Result A ServeFault → ServeFault
 fault_in (Ok x) = serve.OutOfMemory

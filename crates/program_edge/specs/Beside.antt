@@ -1,5 +1,5 @@
 -- What standard error gets beside a report: its hint, and what `annotate` leaves to mend by hand.
-use Rattle.std.specs.Prelude.{◌≡◌, ◌==◌, ◌&&◌, ◌||◌, ◌++◌, ℕ, Bool, true, false, not, List, [], Option, Some, None, if◌then◌else◌}
+use Rattle.std.specs.Prelude.{◌≡◌, ◌==◌, ◌||◌, ◌++◌, ℕ, Bool, true, false, List, [], Option, Some, None, if◌then◌else◌}
 use Rattle.jobs.specs.declared.job.Job.{Job}
 use Rattle.jobs.specs.declared.job.Job.TheVariants.{Replay}
 use Rattle.jobs.specs.declared.job.ReplayEmit.TheVariants.{Json, Trace}
@@ -36,12 +36,8 @@ pub record IsBeside (audience : Audience) (job : Job) (program : List ℕ) (writ
   pub left : IsRest (audience.is_terminal || audience.wants_rest) audience.wants_rest job program audience.name written rest
   pub both : said ≡ hint ++ rest
 
--- what is told of each event is written while the events are played, and not kept
+-- what is told of each event is written while the events are played, unless a file is to take it
 abbrev pub is_played : Job → Bool
 is_played (Replay source units Trace until) = true
 is_played (Replay source units Json until) = true
 is_played _ = false
-
--- somebody is to hear of a report that is kept
-abbrev pub is_kept : Audience → Job → Bool
-is_kept audience job = (audience.is_terminal || audience.wants_rest) && not (is_played job)

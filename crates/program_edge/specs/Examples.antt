@@ -1,29 +1,24 @@
--- Worked examples, computed by the checker: names of standard input, the lines that report a fault, what is no result
--- for a file, and what standard error gets beside a result.
-use Rattle.std.specs.Prelude.{◌≡◌, ℕ, List, Bool, Option, true, false, [], ◌∷◌, ◌++◌, codes, Some}
-use Rattle.std.specs.String.{string_bytes}
-use Rattle.std.specs.declared.io.ErrorKind.TheVariants as kind
+-- Worked examples, computed by the checker: names of standard input, what is no result for a file, and what standard
+-- error gets beside a result.
+use Rattle.std.specs.Prelude.{◌≡◌, ℕ, Bool, Option, true, false, [], ◌∷◌, ◌++◌, codes, Some}
 use Rattle.std.proofs.Common.{refl}
-use Rattle.program_edge.specs.declared.fault.Fault.TheVariants.{InputTwice, Explained, NotWritten}
-use Rattle.program_edge.specs.declared.unread.UnreadReason.TheVariants.{NoSuchFile, Other}
-use Rattle.program_edge.specs.declared.unread.Unread.{Unread}
+use Rattle.program_edge.specs.declared.fault.Fault.TheVariants.{InputTwice}
 use Rattle.jobs.specs.declared.job.CertificateSource.TheVariants.{Least}
+use Rattle.jobs.specs.declared.job.CheckFormat.{CheckFormat}
 use Rattle.jobs.specs.declared.job.Colors.{Colors}
-use Rattle.jobs.specs.declared.job.Colors.TheVariants.{Always, Auto, Never}
 use Rattle.jobs.specs.declared.job.Format.{Format}
 use Rattle.jobs.specs.declared.job.Job.{Job}
 use Rattle.jobs.specs.declared.job.Job.TheVariants.{Check, Explain, Print, Seq}
+use Rattle.jobs.specs.declared.job.Warnings.{Warnings}
 use Rattle.std.specs.declared.string.String.{String}
 use Rattle.std.specs.declared.alloc.Global.{Global}
-use Rattle.result_files.specs.declared.unwritten.Unwritten.TheVariants.{NoSuchFolder}
 use Rattle.explain_report.specs.declared.left.LeftOver.{LeftOver}
 use Rattle.program_edge.specs.Asking.{input_of}
 use Rattle.program_edge.specs.Beside.{rest_said}
-use Rattle.program_edge.specs.Colouring.{colors_for}
-use Rattle.program_edge.specs.FileTexts.{but_there, opening_reason, program_name}
+use Rattle.program_edge.specs.FileTexts.{program_name}
 use Rattle.program_edge.specs.Hints.{is_heard}
 use Rattle.program_edge.specs.Refusals.{is_refusal}
-use Rattle.program_edge.specs.Telling.{said_of, unread_fault}
+use Rattle.program_edge.specs.Telling.{said_of}
 
 -- `-` is standard input, `./-` is not
 pub input : input_of (codes "-") ≡ 1
@@ -49,37 +44,18 @@ pub dash_named : program_name (codes "./-") ≡ codes "-"
 dash_named = refl
 
 -- two files that are `-`
-pub input_twice : said_of InputTwice ≡ codes "multiscalar: 5 InputTwice: only one file can be - (standard input)" ++ 10 ∷ []
+pub input_twice : said_of InputTwice ≡ Some (codes "multiscalar: 5 InputTwice: only one file can be - (standard input)" ++ 10 ∷ [])
 input_twice = refl
 
--- `explain a.s`, where there is no such file
-pub missing : (unread : Unread) → string_bytes unread.path ≡ codes "a.s" → unread.reason ≡ NoSuchFile
-    → said_of (Explained unread) ≡ codes "multiscalar: file a.s: no such file" ++ 10 ∷ []
-missing unread path reason = rw (path, reason) refl
-
--- `check --least a.s`, where there is no such file
-pub missing_of_check : (workers : ℕ) (unread : Unread) → string_bytes unread.path ≡ codes "a.s" → unread.reason ≡ NoSuchFile
-    → said_of (unread_fault (Check Least workers) unread) ≡ codes "multiscalar: file a.s: no such file" ++ 10 ∷ []
-missing_of_check workers unread path reason = rw (path, reason) refl
-
--- an open file is there, whatever a read of it says
-pub there : but_there (opening_reason kind.NotFound) ≡ Other
-there = refl
-
--- `print -o out/a.s a.s`, where there is no folder `out`
-pub no_folder : (path : String Global) → string_bytes path ≡ codes "out/a.s"
-    → said_of (NotWritten path NoSuchFolder) ≡ codes "multiscalar: file out/a.s: no such folder" ++ 10 ∷ []
-no_folder path is = rw (is) refl
-
 -- a refused program gives `print` no result, and `check` one
-pub refused : is_refusal Print 1 (codes "program refused: 4 Mnemonic line 1" ++ 10 ∷ []) ≡ true
+pub refused : is_refusal (Print false) 1 (codes "program refused: 4 Mnemonic line 1" ++ 10 ∷ []) ≡ true
 refused = refl
 
-pub judged : (workers : ℕ) → is_refusal (Check Least workers) 1 (codes "program refused: 4 Mnemonic line 1" ++ 10 ∷ []) ≡ false
-judged workers = refl
+pub judged : (workers : ℕ) (format : CheckFormat) → is_refusal (Check Least workers format) 1 (codes "program refused: 4 Mnemonic line 1" ++ 10 ∷ []) ≡ false
+judged workers format = refl
 
 -- the number of findings stands in the last line
-pub findings : is_refusal Print 1 (codes "A 0 rule 5 $8" ++ (10 ∷ (codes "refused 1" ++ 10 ∷ []))) ≡ true
+pub findings : is_refusal (Print false) 1 (codes "A 0 rule 5 $8" ++ (10 ∷ (codes "refused 1" ++ 10 ∷ []))) ≡ true
 findings = refl
 
 -- a run that trapped is a result
@@ -87,7 +63,7 @@ pub trapped : (budget : ℕ) → is_refusal (Seq budget) 1 (codes "10" ++ (10 �
 trapped budget = refl
 
 -- only a terminal hears of a refused program, and of none that halts
-pub heard : is_heard true Print 1 ≡ true
+pub heard : is_heard true (Print false) 1 ≡ true
 heard = refl
 
 pub no_terminal : (job : Job) (status : ℕ) → is_heard false job status ≡ false
@@ -97,7 +73,7 @@ pub halted : (budget : ℕ) → is_heard true (Seq budget) 0 ≡ false
 halted budget = refl
 
 -- `explain` says all itself
-pub explained : (name : String Global) (certificate script : Option (String Global)) (warnings : Bool) (format : Format) (colors : Colors)
+pub explained : (name : String Global) (certificate script : Option (String Global)) (warnings : Warnings) (format : Format) (colors : Colors)
     → is_heard true (Explain name certificate script warnings format colors) 1 ≡ false
 explained name certificate script warnings format colors = refl
 
@@ -107,15 +83,3 @@ asked left = refl
 
 pub unasked : (left : LeftOver) → left.count ≡ 0 → rest_said false (Some left) ≡ []
 unasked left none = rw (none) refl
-
--- a terminal shows colours unless they are unwanted; a file gets them only from who asks for them
-pub shown_in_colours : colors_for true false Auto ≡ Always
-shown_in_colours = refl
-
-pub none_in_a_file : colors_for true true Auto ≡ Never
-none_in_a_file = refl
-
-pub asked_for : (sees is_kept : Bool) → colors_for sees is_kept Always ≡ Always
-asked_for true true = refl
-asked_for true false = refl
-asked_for false is_kept = refl

@@ -10,12 +10,9 @@ use Rattle.std.specs.declared.io.ErrorKind.TheVariants as kind
 use Rattle.std.specs.declared.string.String.{String}
 use Rattle.std.specs.declared.alloc.Global.{Global}
 use Rattle.jobs.specs.declared.job.Job.{Job}
-use Rattle.jobs.specs.declared.job.Job.TheVariants.{Check}
 use Rattle.jobs.specs.declared.job.Paths.{Paths}
 use Rattle.jobs.specs.declared.job.Texts.{Texts}
 use Rattle.jobs.specs.Files.{has_certificate, has_script}
-use Rattle.text_pieces.specs.declared.serial.FetchFault.{FetchFault}
-use Rattle.text_pieces.specs.declared.serial.FetchFault.TheVariants as fetch
 use Rattle.program_edge.specs.declared.unread.UnreadReason.{UnreadReason}
 use Rattle.program_edge.specs.declared.unread.UnreadReason.TheVariants.{NoSuchFile, IsDirectory, NotPermitted, TooLong, OutOfMemory, Other}
 use Rattle.program_edge.specs.declared.unread.Unread.{Unread}
@@ -43,21 +40,6 @@ OpensAs remaining (Refuses kind) (Ok file) = ⊥
 OpensAs remaining (Refuses kind) (Err error) = error_kind error ≡ kind
 OpensAs remaining (Holds bytes) (Ok file) = remaining file ≡ Some bytes
 OpensAs remaining (Holds bytes) (Err error) = error_kind error ≡ kind.OutOfMemory
-
--- an open file is there
-abbrev pub but_there : UnreadReason → UnreadReason
-but_there NoSuchFile = Other
-but_there reason = reason
-
--- why an open file is not read
-abbrev pub reading_reason : FetchFault → UnreadReason
-reading_reason fetch.OutOfMemory = OutOfMemory
-reading_reason (fetch.Read kind) = but_there (opening_reason kind)
-
--- how many threads fetch a certificate
-abbrev pub fetchers_of : Job → ℕ
-fetchers_of (Check source workers) = workers
-fetchers_of _ = 1
 
 -- the most bytes of a program text, and of any other file
 abbrev pub most_program : ℕ

@@ -1,5 +1,4 @@
 pub mod FileTexts
-pub mod Usage
 pub mod Refusals
 pub mod Hints
 pub mod Telling

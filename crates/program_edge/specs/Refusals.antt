@@ -28,7 +28,7 @@ refuses line = starts_with nat_eq line (codes "program refused: ")
 -- what `check` and `explain` say of a refused text is what they were asked for
 abbrev pub judges : Job → Bool
 judges (Explain name certificate script warnings format colors) = true
-judges (Check source workers) = true
+judges (Check source workers format) = true
 judges _ = false
 
 -- there is no result

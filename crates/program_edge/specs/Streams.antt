@@ -1,7 +1,6 @@
 -- What the two streams and the files hold, and what changes there.
 use Rattle.std.specs.Prelude.{◌≡◌, ◌⊎◌, ℕ, List, Option, false}
 use Rattle.std.specs.Io.KnownBytes.{Appends}
-use Rattle.report_texts.specs.OutputTexts.{Report}
 use Rattle.verdict_report.specs.declared.fault.ServeFault.TheVariants as serve
 use Rattle.result_files.specs.Writing.{Begins}
 use Rattle.result_files.specs.Files.{Files, Same}
@@ -21,12 +20,11 @@ abbrev pub IsToldAlone : Fault → Answered → World → World → Type 0
 IsToldAlone fault ending old new =
     IsTold fault ending.status ending.is_told old.output new.output old.errors new.errors × Same old.files new.files
 
--- standard output took a beginning of a report, and then failed, which is reported
-pub record IsBroken (report : Report) (ending : Answered) (old new : World) : Type 0 where
+-- standard output took a beginning of a text, and then failed, which is reported
+pub record IsBroken (said : List ℕ) (ending : Answered) (old new : World) : Type 0 where
   pub output : Option (List ℕ)
-  pub begun : Begins old.output output report.bytes
+  pub begun : Begins old.output output said
   pub told : IsTold (Serve serve.Write) ending.status ending.is_told output new.output old.errors new.errors
-  pub files : Same old.files new.files
 
 -- both streams took these texts, and no file changed
 pub record IsWritten (output errors : List ℕ) (old new : World) : Type 0 where
@@ -38,10 +36,9 @@ pub record IsWritten (output errors : List ℕ) (old new : World) : Type 0 where
 pub record IsUnsaid (output errors : List ℕ) (ending : Answered) (old new : World) : Type 0 where
   pub written : Appends old.output new.output output
   pub begun : Begins old.errors new.errors errors
-  pub files : Same old.files new.files
   pub ended : ending ≡ record { status = 2; is_told = false }
 
 -- one of the streams failed
 abbrev pub IsCut : (output errors : List ℕ) → Answered → World → World → Type 0
 IsCut output errors ending old new =
-    IsBroken (record { bytes = output; status = 2 }) ending old new ⊎ IsUnsaid output errors ending old new
+    (IsBroken output ending old new ⊎ IsUnsaid output errors ending old new) × Same old.files new.files

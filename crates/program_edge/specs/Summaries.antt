@@ -1,6 +1,5 @@
--- The tally of several programs, and the line that shows it.
-use Rattle.std.specs.Prelude.{ℕ, ◌+◌, ◌==◌, Bool, true, false, List, [], ◌∷◌, ◌++◌, codes, count_by, if◌then◌else◌}
-use Rattle.std.specs.Fmt.{decimal}
+-- The tally of several programs, and the worst of them.
+use Rattle.std.specs.Prelude.{ℕ, ◌+◌, ◌==◌, Bool, true, false, List, count_by, if◌then◌else◌}
 use Rattle.program_edge.specs.declared.summary.ProgramVerdict.{ProgramVerdict}
 use Rattle.program_edge.specs.declared.summary.ProgramVerdict.TheVariants.{Right, Wrong, Unjudged}
 use Rattle.program_edge.specs.declared.summary.ProgramTally.{ProgramTally}
@@ -42,11 +41,6 @@ tally_of programs = record {
 -- how many programs there are
 abbrev pub all_of : ProgramTally → ℕ
 all_of tally = tally.right + tally.wrong + tally.unjudged
-
--- the line, as in `4 programs: 2 right, 1 wrong, 1 not judged`
-abbrev pub summary_line : ProgramTally → List ℕ
-summary_line tally = decimal (all_of tally) ++ (codes " programs: " ++ (decimal tally.right ++ (codes " right, "
-    ++ (decimal tally.wrong ++ (codes " wrong, " ++ (decimal tally.unjudged ++ (codes " not judged" ++ 10 ∷ [])))))))
 
 -- the worst status of the programs: 2 of one that is not judged, 1 of a wrong one, 0 of a right one
 abbrev pub worst_status : ProgramTally → ℕ

@@ -1,27 +1,26 @@
 //! From what was asked and its files to what is written and the status.
-ghost use Rattle.std.specs.Prelude.{◌≡◌, ◌⊎◌, ◌∷◌, IfOk, false};
+ghost use Rattle.std.specs.Prelude.{◌≡◌, ◌⊎◌, ◌∷◌, Bool, true, None, IfErr, IfOk, OnOk};
 ghost use Rattle.result_files.specs.Files.{Files};
-ghost use Rattle.program_edge.specs.Answering.{IsAnswered, IsAnsweredFor, IsDelivered, IsDeliveredFixed, IsDeliveredIf, IsDeliveredOf, IsDeliveredTold, IsJobDone, IsKeptFixed, IsNotDone, IsNotKept, IsPut, IsRead, IsShown, IsTaken, ending_after, is_whole};
-ghost use Rattle.program_edge.specs.Refusals.{is_refusal};
+ghost use Rattle.program_edge.specs.Answering.{IsAnswered, IsDelivered, IsDelivery, IsFiled, IsFixed, IsNotDone, IsRead, IsServed, IsUnfiled, is_whole, place_of, said_at};
+ghost use Rattle.program_edge.specs.Beside.{is_played};
 ghost use Rattle.program_edge.specs.Several.{IsEach};
-ghost use Rattle.program_edge.specs.Streams.{IsBroken};
-ghost use Rattle.program_edge.specs.Telling.{unread_fault};
+ghost use Rattle.program_edge.specs.Telling.{told_as, unread_fault};
 ghost use Rattle.verdict_report.specs.JobTexts.{IsReportOf};
 
 use crate::each::answer_each;
 use crate::fault::Fault;
 use crate::named_files::NamedFiles;
-use crate::reader::{Reader, hint_unkept, hinted, told_report};
+use crate::reader::{Reader, hint_unkept, is_played, told_beside};
 use crate::refusal::is_refusal;
-use crate::reports::{Written, written_told};
+use crate::reports::report_heard;
 use crate::streams::{say, write_whole};
 use crate::texts::{MOST_PROGRAM, NamedTexts, read_texts};
 use crate::told::{Answered, tell};
 use crate::unread::Unread;
 use command_line::request::Request;
-use explain_report::repaired::Repaired;
 use explain_report::repairing::repair;
 use jobs::job::{CertificateSource, Job, Texts};
+use report_texts::report::JobReport;
 use result_files::folder::Folder;
 use result_files::replacing::replace;
 use std::alloc::{AllocError, Global};
@@ -30,24 +29,6 @@ use std::sync::Wait;
 use std::thread::Threads;
 use verdict_report::fault::ServeFault;
 use verdict_report::serve::serve;
-
-/// Does the job that was asked for where `errors` is no terminal, as `answer_reader` does it: only a fault is
-/// reported there.
-pub fn answer<F: NamedFiles, D: Folder, O: Write, E: Write, R: Threads + Wait + Sync>(
-    rt: &R,
-    alloc: Global,
-    asked: Result<Request, Fault>,
-    files: &F,
-    folder: &mut D,
-    output: &mut O,
-    errors: &mut E,
-) -> Answered
-    ensures { IsAnswered D.is_watched false (F.known files.now) asked result
-        record { output = O.contents output.old; errors = E.contents errors.old; files = D.known folder.old }
-        record { output = O.contents output.new; errors = E.contents errors.new; files = D.known folder.new } }
-{
-    answer_reader(rt, alloc, asked, files, folder, output, errors, false)
-}
 
 /// Does the job that was asked for, with the texts of its files: its report goes to `output`, or to the file of
 /// `folder` that was asked for, and the status is the report's. A text that is refused gives no result, and so
@@ -71,7 +52,7 @@ pub fn answer_reader<F: NamedFiles, D: Folder, O: Write, E: Write, R: Threads + 
         record { output = O.contents output.new; errors = E.contents errors.new; files = D.known folder.new } }
 {
     match asked {
-        Ok(request) => answer_programs(
+        Ok(request) if request.further.as_slice().is_empty() => answer_request(
             rt,
             alloc,
             request,
@@ -81,39 +62,23 @@ pub fn answer_reader<F: NamedFiles, D: Folder, O: Write, E: Write, R: Threads + 
             errors,
             is_terminal,
         ),
-        Err(fault) => tell(&fault, output, errors),
+        Ok(request) => answer_several(rt, alloc, request, files, output, errors, is_terminal),
+        Err(fault) => tell(&told_as(is_terminal, fault), output, errors),
     }
 }
 
-// Does the job of a request: for its program, or for each of several.
-fn answer_programs<F: NamedFiles, D: Folder, O: Write, E: Write, R: Threads + Wait + Sync>(
-    rt: &R,
-    alloc: Global,
-    request: Request,
-    files: &F,
-    folder: &mut D,
-    output: &mut O,
-    errors: &mut E,
-    is_terminal: bool,
-) -> Answered
-    ensures { IsAnsweredFor D.is_watched is_terminal (F.known files.now) request request.further.items result
-        record { output = O.contents output.old; errors = E.contents errors.old; files = D.known folder.old }
-        record { output = O.contents output.new; errors = E.contents errors.new; files = D.known folder.new } }
+// The fault that is told: a terminal hears which values there are.
+fn told_as(is_terminal: bool, fault: Fault) -> Fault
+    ensures { result ≡ told_as is_terminal fault }
 {
-    let is_alone = request.further.as_slice().is_empty();
-    if is_alone {
-        return answer_request(
-            rt,
-            alloc,
-            request,
-            files,
-            folder,
-            output,
-            errors,
-            is_terminal,
-        );
+    if !is_terminal {
+        return fault;
     }
-    answer_several(rt, alloc, request, files, output, errors, is_terminal)
+    match fault {
+        Fault::Predict => Fault::PredictValues,
+        Fault::Emit => Fault::EmitValues,
+        other => other,
+    }
 }
 
 // Does a job with its files.
@@ -147,9 +112,14 @@ fn answer_request<F: NamedFiles, D: Folder, O: Write, E: Write, R: Threads + Wai
                 wants_rest,
                 name,
             };
-            deliver_of(
-                fixes, progress, rt, alloc, &job, &texts, place, &reader, folder, output, errors,
-            )
+            match fixes {
+                Some(path) => fix(
+                    progress, rt, alloc, &job, &texts, path, &reader, folder, output, errors,
+                ),
+                None => deliver(
+                    progress, rt, alloc, &job, &texts, place, &reader, folder, output, errors,
+                ),
+            }
         }
         Err(unread) => tell(&fault_of_file(&job, unread), output, errors),
     }
@@ -219,35 +189,10 @@ fn fault_of_file(job: &Job, unread: Unread) -> Fault
     }
 }
 
-// Does a job with its texts; a file may take the program's text with fixes.
-fn deliver_of<D: Folder, O: Write, E: Write, R: Threads + Wait + Sync>(
-    fixes: Option<String>,
-    progress: bool,
-    rt: &R,
-    alloc: Global,
-    job: &Job,
-    texts: &Texts,
-    place: Option<String>,
-    reader: &Reader,
-    folder: &mut D,
-    output: &mut O,
-    errors: &mut E,
-) -> Answered
-    ensures { IsDeliveredOf fixes progress D.is_watched reader.now place job.now texts.now result
-        record { output = O.contents output.old; errors = E.contents errors.old; files = D.known folder.old }
-        record { output = O.contents output.new; errors = E.contents errors.new; files = D.known folder.new } }
-{
-    match fixes {
-        Some(path) => deliver_fixed(rt, alloc, job, texts, path, reader, folder, output, errors),
-        None => deliver_if(
-            progress, rt, alloc, job, texts, place, reader, folder, output, errors,
-        ),
-    }
-}
-
 // Explains a program, and a file takes its text with fixes. A text that was cut when it was read is explained alone, and so
 // would be another job's.
-fn deliver_fixed<D: Folder, O: Write, E: Write, R: Threads + Wait + Sync>(
+fn fix<D: Folder, O: Write, E: Write, R: Threads + Wait + Sync>(
+    progress: bool,
     rt: &R,
     alloc: Global,
     job: &Job,
@@ -258,12 +203,14 @@ fn deliver_fixed<D: Folder, O: Write, E: Write, R: Threads + Wait + Sync>(
     output: &mut O,
     errors: &mut E,
 ) -> Answered
-    ensures { IsDeliveredFixed (is_whole texts.now) D.is_watched reader.now path job.now texts.now result
+    ensures { IsFixed (is_whole texts.now) progress D.is_watched reader.now path job.now texts.now result
         record { output = O.contents output.old; errors = E.contents errors.old; files = D.known folder.old }
         record { output = O.contents output.new; errors = E.contents errors.new; files = D.known folder.new } }
 {
     if !is_whole(texts) {
-        return deliver(rt, alloc, job, texts, None, reader, folder, output, errors);
+        return deliver(
+            progress, rt, alloc, job, texts, None, reader, folder, output, errors,
+        );
     }
     match job {
         Job::Explain {
@@ -275,11 +222,23 @@ fn deliver_fixed<D: Folder, O: Write, E: Write, R: Threads + Wait + Sync>(
         } => {
             let name = reader.name.as_str();
             match repair(alloc, name, certificate, script, *warnings, *colors, texts) {
-                Ok(repaired) => keep_fixed(alloc, repaired, path, folder, output, errors),
+                Ok(repaired) => hand_over(
+                    alloc,
+                    Some(path),
+                    repaired.text.as_slice(),
+                    repaired.said.as_slice(),
+                    repaired.line.as_slice(),
+                    repaired.status,
+                    folder,
+                    output,
+                    errors,
+                ),
                 Err(AllocError) => tell(&Fault::Serve(ServeFault::OutOfMemory), output, errors),
             }
         }
-        _ => deliver(rt, alloc, job, texts, None, reader, folder, output, errors),
+        _ => deliver(
+            progress, rt, alloc, job, texts, None, reader, folder, output, errors,
+        ),
     }
 }
 
@@ -290,36 +249,10 @@ fn is_whole(texts: &Texts) -> bool
     texts.program.len() as u64 <= MOST_PROGRAM
 }
 
-// What becomes of a text with fixes that a file is to take, and of what is said.
-fn keep_fixed<D: Folder, O: Write, E: Write>(
-    alloc: Global,
-    repaired: Repaired,
-    path: String,
-    folder: &mut D,
-    output: &mut O,
-    errors: &mut E,
-) -> Answered
-    ensures { IsKeptFixed D.is_watched path repaired result
-        record { output = O.contents output.old; errors = E.contents errors.old; files = D.known folder.old }
-        record { output = O.contents output.new; errors = E.contents errors.new; files = D.known folder.new }
-        ⊎ IsNotKept path result
-        record { output = O.contents output.old; errors = E.contents errors.old; files = D.known folder.old }
-        record { output = O.contents output.new; errors = E.contents errors.new; files = D.known folder.new } }
-{
-    match replace(alloc, folder, path.as_str(), repaired.text.as_slice()) {
-        Ok(()) => {
-            let report = Written {
-                bytes: repaired.said,
-                status: repaired.status,
-            };
-            show(&report, repaired.line.as_slice(), output, errors)
-        }
-        Err(reason) => tell(&Fault::NotWritten(path, reason), output, errors),
-    }
-}
-
-// Does a job with its texts; on the way `errors` hears how far it is, if that is asked for.
-fn deliver_if<D: Folder, O: Write, E: Write, R: Threads + Wait + Sync>(
+// Does a job with its texts; its report goes to a file, if there is one. What is told of events goes to standard output
+// while they are played; any other report is made whole first, and if `progress` says so, `errors` hears on the way how
+// far it is.
+fn deliver<D: Folder, O: Write, E: Write, R: Threads + Wait + Sync>(
     progress: bool,
     rt: &R,
     alloc: Global,
@@ -331,159 +264,26 @@ fn deliver_if<D: Folder, O: Write, E: Write, R: Threads + Wait + Sync>(
     output: &mut O,
     errors: &mut E,
 ) -> Answered
-    ensures { IsDeliveredIf progress D.is_watched reader.now place job.now texts.now result
-        record { output = O.contents output.old; errors = E.contents errors.old; files = D.known folder.old }
-        record { output = O.contents output.new; errors = E.contents errors.new; files = D.known folder.new } }
-{
-    if progress {
-        return deliver_told(rt, alloc, job, texts, place, reader, folder, output, errors);
-    }
-    deliver(rt, alloc, job, texts, place, reader, folder, output, errors)
-}
-
-// Does a job with its texts; its report goes to a file, if there is one.
-fn deliver<D: Folder, O: Write, E: Write, R: Threads + Wait + Sync>(
-    rt: &R,
-    alloc: Global,
-    job: &Job,
-    texts: &Texts,
-    place: Option<String>,
-    reader: &Reader,
-    folder: &mut D,
-    output: &mut O,
-    errors: &mut E,
-) -> Answered
-    ensures { IsDelivered D.is_watched reader.now place job.now texts.now result
-        record { output = O.contents output.old; errors = E.contents errors.old; files = D.known folder.old }
-        record { output = O.contents output.new; errors = E.contents errors.new; files = D.known folder.new }
-        ⊎ IsNotDone job.now texts.now result
+    ensures { IsServed progress D.is_watched reader.now place job.now texts.now result
         record { output = O.contents output.old; errors = E.contents errors.old; files = D.known folder.old }
         record { output = O.contents output.new; errors = E.contents errors.new; files = D.known folder.new } }
 {
     match place {
-        Some(path) => put(rt, alloc, job, texts, path, reader, folder, output, errors),
-        None => write_out(rt, alloc, job, texts, reader, output, errors),
-    }
-}
-
-// Does a job as `deliver` does; on the way `errors` hears how far it is.
-fn deliver_told<D: Folder, O: Write, E: Write, R: Threads + Wait + Sync>(
-    rt: &R,
-    alloc: Global,
-    job: &Job,
-    texts: &Texts,
-    place: Option<String>,
-    reader: &Reader,
-    folder: &mut D,
-    output: &mut O,
-    errors: &mut E,
-) -> Answered
-    ensures { IsDeliveredTold D.is_watched reader.now place job.now texts.now result
-        record { output = O.contents output.old; errors = E.contents errors.old; files = D.known folder.old }
-        record { output = O.contents output.new; errors = E.contents errors.new; files = D.known folder.new } }
-{
-    match written_told(rt, alloc, job, texts, reader.name.as_str(), errors) {
-        Ok(told) => {
-            let report = told.written;
-            let own = hand_over(
-                alloc, job, texts, report, place, reader, folder, output, errors,
-            );
-            ending_after(told.is_told, own)
-        }
-        Err(lack) => tell(&Fault::Serve(lack), output, errors),
-    }
-}
-
-// How the program ends, where something was to be written before that.
-fn ending_after(is_told: bool, own: Answered) -> Answered
-    ensures { result ≡ ending_after is_told own }
-{
-    Answered {
-        status: own.status,
-        is_told: is_told && own.is_told,
-    }
-}
-
-// What becomes of the report of a job: it goes to a file, if there is one.
-fn hand_over<D: Folder, O: Write, E: Write>(
-    alloc: Global,
-    job: &Job,
-    texts: &Texts,
-    report: Written,
-    place: Option<String>,
-    reader: &Reader,
-    folder: &mut D,
-    output: &mut O,
-    errors: &mut E,
-) -> Answered
-    requires { IsReportOf job.now texts.now record { bytes = report.bytes.items; status = report.status } }
-    ensures { IsDelivered D.is_watched reader.now place job.now texts.now result
-        record { output = O.contents output.old; errors = E.contents errors.old; files = D.known folder.old }
-        record { output = O.contents output.new; errors = E.contents errors.new; files = D.known folder.new }
-        ⊎ IsNotDone job.now texts.now result
-        record { output = O.contents output.old; errors = E.contents errors.old; files = D.known folder.old }
-        record { output = O.contents output.new; errors = E.contents errors.new; files = D.known folder.new } }
-{
-    match hinted(alloc, job, texts, reader, report) {
-        Ok(hinted) => {
-            let hint = hinted.hint.as_slice();
-            match place {
-                Some(path) => take(
-                    alloc,
-                    job,
-                    &hinted.report,
-                    hint,
-                    path,
-                    folder,
-                    output,
-                    errors,
+        None if is_played(job) => stream(rt, alloc, job, texts, reader, output, errors),
+        place => {
+            let name = reader.name.as_str();
+            match report_heard(progress, rt, alloc, job, texts, name, errors) {
+                Ok(report) => give(
+                    alloc, job, texts, &report, place, reader, folder, output, errors,
                 ),
-                None => show(&hinted.report, hint, output, errors),
+                Err(lack) => tell(&Fault::Serve(lack), output, errors),
             }
         }
-        Err(AllocError) => tell(&Fault::Serve(ServeFault::OutOfMemory), output, errors),
     }
 }
 
-// Does a job of which a file is to take the report.
-fn put<D: Folder, O: Write, E: Write, R: Threads + Wait + Sync>(
-    rt: &R,
-    alloc: Global,
-    job: &Job,
-    texts: &Texts,
-    path: String,
-    reader: &Reader,
-    folder: &mut D,
-    output: &mut O,
-    errors: &mut E,
-) -> Answered
-    ensures { IsPut D.is_watched reader.now job.now path texts.now result
-        record { output = O.contents output.old; errors = E.contents errors.old; files = D.known folder.old }
-        record { output = O.contents output.new; errors = E.contents errors.new; files = D.known folder.new }
-        ⊎ IsNotDone job.now texts.now result
-        record { output = O.contents output.old; errors = E.contents errors.old; files = D.known folder.old }
-        record { output = O.contents output.new; errors = E.contents errors.new; files = D.known folder.new } }
-{
-    match told_report(rt, alloc, job, texts, reader) {
-        Ok(hinted) => {
-            let hint = hinted.hint.as_slice();
-            take(
-                alloc,
-                job,
-                &hinted.report,
-                hint,
-                path,
-                folder,
-                output,
-                errors,
-            )
-        }
-        Err(lack) => tell(&Fault::Serve(lack), output, errors),
-    }
-}
-
-// Does a job of which standard output takes the report. Where nothing beside it needs the report, it is not kept.
-fn write_out<O: Write, E: Write, R: Threads + Wait + Sync>(
+// Does a job whose report is written while it is made.
+fn stream<O: Write, E: Write, R: Threads + Wait + Sync>(
     rt: &R,
     alloc: Global,
     job: &Job,
@@ -492,16 +292,14 @@ fn write_out<O: Write, E: Write, R: Threads + Wait + Sync>(
     output: &mut O,
     errors: &mut E,
 ) -> Answered
-    ensures { (files : Files) → IsJobDone reader.now job.now texts.now result
-        record { output = O.contents output.old; errors = E.contents errors.old; files = files }
-        record { output = O.contents output.new; errors = E.contents errors.new; files = files }
+    requires { is_played job.now ≡ true }
+    ensures { (watched : Bool) (known : Files) → IsDelivered watched reader.now None job.now texts.now result
+        record { output = O.contents output.old; errors = E.contents errors.old; files = known }
+        record { output = O.contents output.new; errors = E.contents errors.new; files = known }
         ⊎ IsNotDone job.now texts.now result
-        record { output = O.contents output.old; errors = E.contents errors.old; files = files }
-        record { output = O.contents output.new; errors = E.contents errors.new; files = files } }
+        record { output = O.contents output.old; errors = E.contents errors.old; files = known }
+        record { output = O.contents output.new; errors = E.contents errors.new; files = known } }
 {
-    if reader.keeps(job) {
-        return show_hinted(rt, alloc, job, texts, reader, output, errors);
-    }
     match serve(rt, alloc, job, texts, output) {
         Ok(status) => {
             let hint = hint_unkept(rt, alloc, job, texts, reader, status);
@@ -514,77 +312,103 @@ fn write_out<O: Write, E: Write, R: Threads + Wait + Sync>(
     }
 }
 
-// Does a job of which standard output takes the report, and standard error the hint.
-fn show_hinted<O: Write, E: Write, R: Threads + Wait + Sync>(
-    rt: &R,
+// Delivers the report of a job, and what is told beside it. That of a refusal goes to no file.
+fn give<D: Folder, O: Write, E: Write>(
     alloc: Global,
     job: &Job,
     texts: &Texts,
+    report: &JobReport,
+    place: Option<String>,
     reader: &Reader,
-    output: &mut O,
-    errors: &mut E,
-) -> Answered
-    ensures { (files : Files) → IsJobDone reader.now job.now texts.now result
-        record { output = O.contents output.old; errors = E.contents errors.old; files = files }
-        record { output = O.contents output.new; errors = E.contents errors.new; files = files }
-        ⊎ IsNotDone job.now texts.now result
-        record { output = O.contents output.old; errors = E.contents errors.old; files = files }
-        record { output = O.contents output.new; errors = E.contents errors.new; files = files } }
-{
-    match told_report(rt, alloc, job, texts, reader) {
-        Ok(hinted) => show(&hinted.report, hinted.hint.as_slice(), output, errors),
-        Err(lack) => tell(&Fault::Serve(lack), output, errors),
-    }
-}
-
-// What becomes of a report that a file is to take.
-fn take<D: Folder, O: Write, E: Write>(
-    alloc: Global,
-    job: &Job,
-    report: &Written,
-    hint: &[u8],
-    path: String,
     folder: &mut D,
     output: &mut O,
     errors: &mut E,
 ) -> Answered
-    ensures { IsTaken D.is_watched (is_refusal job.now report.now.status report.now.bytes.items) hint.now path
-        record { bytes = report.now.bytes.items; status = report.now.status } result
+    requires { IsReportOf job.now texts.now report.now }
+    ensures { IsDelivered D.is_watched reader.now place job.now texts.now result
+        record { output = O.contents output.old; errors = E.contents errors.old; files = D.known folder.old }
+        record { output = O.contents output.new; errors = E.contents errors.new; files = D.known folder.new }
+        ⊎ IsNotDone job.now texts.now result
         record { output = O.contents output.old; errors = E.contents errors.old; files = D.known folder.old }
         record { output = O.contents output.new; errors = E.contents errors.new; files = D.known folder.new } }
 {
-    let bytes = report.bytes.as_slice();
-    if is_refusal(job, report.status, bytes) {
-        return show(report, hint, output, errors);
-    }
-    match replace(alloc, folder, path.as_str(), bytes) {
-        Ok(()) => Answered {
-            is_told: say(hint, errors),
-            status: report.status,
-        },
-        Err(reason) => tell(&Fault::NotWritten(path, reason), output, errors),
+    let (bytes, status) = (report.bytes(), report.status());
+    match told_beside(alloc, job, texts, reader, report) {
+        Ok(beside) => {
+            let place = place_of(place, is_refusal(job, status, bytes));
+            let said = said_at(&place, bytes);
+            let beside = beside.as_slice();
+            hand_over(
+                alloc, place, bytes, said, beside, status, folder, output, errors,
+            )
+        }
+        Err(AllocError) => tell(&Fault::Serve(ServeFault::OutOfMemory), output, errors),
     }
 }
 
-// Writes a report to standard output, and then the hint to standard error.
-fn show<O: Write, E: Write>(
-    report: &Written,
-    hint: &[u8],
+// The file that takes a report: none takes a refusal.
+fn place_of(place: Option<String>, is_refusal: bool) -> Option<String>
+    ensures { result ≡ place_of place is_refusal }
+{
+    match place {
+        Some(path) if !is_refusal => Some(path),
+        _ => None,
+    }
+}
+
+// What standard output gets of a report that this file takes.
+fn said_at<'a>(place: &Option<String>, bytes: &'a [u8]) -> &'a [u8]
+    ensures { result.now ≡ said_at place.now bytes.now }
+{
+    match place {
+        Some(_) => &[],
+        None => bytes,
+    }
+}
+
+// A file takes `kept`, if there is one; then standard output takes `said`, and standard error `beside`.
+fn hand_over<D: Folder, O: Write, E: Write>(
+    alloc: Global,
+    place: Option<String>,
+    kept: &[u8],
+    said: &[u8],
+    beside: &[u8],
+    status: u8,
+    folder: &mut D,
     output: &mut O,
     errors: &mut E,
 ) -> Answered
-    ensures { (files : Files) → IsShown hint.now record { bytes = report.now.bytes.items; status = report.now.status } result
-        record { output = O.contents output.old; errors = E.contents errors.old; files = files }
-        record { output = O.contents output.new; errors = E.contents errors.new; files = files }
-        ⊎ IsBroken record { bytes = report.now.bytes.items; status = report.now.status } result
-        record { output = O.contents output.old; errors = E.contents errors.old; files = files }
-        record { output = O.contents output.new; errors = E.contents errors.new; files = files } }
+    ensures { IsDelivery D.is_watched place kept.now said.now beside.now status result
+        record { output = O.contents output.old; errors = E.contents errors.old; files = D.known folder.old }
+        record { output = O.contents output.new; errors = E.contents errors.new; files = D.known folder.new } }
 {
-    if write_whole(report.bytes.as_slice(), output).is_err() {
+    if let Err(fault) = file(alloc, place, kept, folder) {
+        return tell(&fault, output, errors);
+    }
+    if write_whole(said, output).is_err() {
         return tell(&Fault::Serve(ServeFault::Write), output, errors);
     }
     Answered {
-        is_told: say(hint, errors),
-        status: report.status,
+        is_told: say(beside, errors),
+        status,
+    }
+}
+
+// A file takes these bytes, if there is one.
+fn file<D: Folder>(
+    alloc: Global,
+    place: Option<String>,
+    bytes: &[u8],
+    folder: &mut D,
+) -> Result<(), Fault>
+    ensures filed { OnOk result (IsFiled D.is_watched place bytes.now (D.known folder.old) (D.known folder.new)) }
+    ensures unfiled { IfErr result (λ fault. IsUnfiled place fault (D.known folder.old) (D.known folder.new)) }
+{
+    let Some(path) = place else {
+        return Ok(());
+    };
+    match replace(alloc, folder, path.as_str(), bytes) {
+        Ok(()) => Ok(()),
+        Err(reason) => Err(Fault::NotWritten(path, reason)),
     }
 }

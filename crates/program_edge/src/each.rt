@@ -1,10 +1,9 @@
 //! The job for several programs, one after another.
-ghost use Rattle.std.specs.Prelude.{◌≡◌, ◌≤◌, ◌+◌, Err, IfErr, IfOk, OnErr, OnOk};
-ghost use Rattle.std.specs.String.{string_bytes};
+ghost use Rattle.std.specs.Prelude.{◌≡◌, ◌≤◌, IfErr, IfOk, OnOk};
 ghost use Rattle.result_files.specs.Files.{Files};
-ghost use Rattle.program_edge.specs.Several.{EndsAt, IsEach, IsPartOf, Part as PartOf, Sums};
+ghost use Rattle.program_edge.specs.Several.{EndsAt, IsEach, IsLast, IsPartOf, Part as PartOf, Sums};
 ghost use Rattle.program_edge.specs.Streams.{IsCut, IsWritten};
-ghost use Rattle.program_edge.specs.Summaries.{all_of, summary_line};
+ghost use Rattle.program_edge.specs.Summaries.{all_of};
 
 use crate::fault::Fault;
 use crate::named_files::NamedFiles;
@@ -14,16 +13,17 @@ use crate::summary::{
     ProgramTally, ProgramVerdict, count, empty_tally, summary_line, worst_status,
 };
 use crate::told::{Answered, tell};
-use jobs::job::Job;
-use std::alloc::Global;
+use explain_report::logging::{LoggedProgram, log_of};
+use jobs::job::{CheckFormat, Format, Job};
+use std::alloc::{AllocError, Global};
 use std::io::Write;
 use std::sync::Wait;
 use std::thread::Threads;
 use verdict_report::fault::ServeFault;
 
 /// Does a job for each of several programs, in the order of their names: standard output gets their reports, and last
-/// a line that sums them up; the status is the worst. A file that gives no program is reported on standard error, and
-/// the others have their turn. Want of memory, or a stream that fails, ends it, with status 2.
+/// a line that sums them up, or one log of all; the status is the worst. A file that gives no program is reported on
+/// standard error, and the others have their turn. Want of memory, or a stream that fails, ends it, with status 2.
 pub(crate) fn answer_each<F: NamedFiles, O: Write, E: Write, R: Threads + Wait + Sync>(
     rt: &R,
     alloc: Global,
@@ -39,6 +39,7 @@ pub(crate) fn answer_each<F: NamedFiles, O: Write, E: Write, R: Threads + Wait +
         record { output = O.contents output.new; errors = E.contents errors.new; files = known } }
 {
     let mut tally = empty_tally();
+    let mut log = Vec::new(alloc);
     for name in names {
         match answer_one(
             rt,
@@ -49,12 +50,13 @@ pub(crate) fn answer_each<F: NamedFiles, O: Write, E: Write, R: Threads + Wait +
             output,
             errors,
             is_terminal,
+            &mut log,
         ) {
             Ok(judged) => tally = count(tally, judged),
             Err(ending) => return ending,
         }
     }
-    sum_up(alloc, tally, output, errors)
+    sum_up(alloc, job, tally, log.as_slice(), output, errors)
 }
 
 // Does a job for one of several programs, or ends it all.
@@ -67,6 +69,7 @@ fn answer_one<F: NamedFiles, O: Write, E: Write, R: Threads + Wait + Sync>(
     output: &mut O,
     errors: &mut E,
     is_terminal: bool,
+    log: &mut Vec<LoggedProgram>,
 ) -> Result<ProgramVerdict, Answered>
     ensures one { IfOk result (λ judged. (part : PartOf) × IsPartOf is_terminal (F.known files.now) job.now name.now part × (part.judged ≡ judged)
         × ((known : Files) → IsWritten part.output part.errors
@@ -76,7 +79,7 @@ fn answer_one<F: NamedFiles, O: Write, E: Write, R: Threads + Wait + Sync>(
         record { output = O.contents output.old; errors = E.contents errors.old; files = known }
         record { output = O.contents output.new; errors = E.contents errors.new; files = known }) }
 {
-    match part_of(rt, alloc, job, name, files, is_terminal) {
+    match part_of(rt, alloc, job, name, files, is_terminal, log) {
         Ok(part) => {
             let said = part.output.as_slice();
             let told = part.errors.as_slice();
@@ -89,37 +92,57 @@ fn answer_one<F: NamedFiles, O: Write, E: Write, R: Threads + Wait + Sync>(
     }
 }
 
-// Writes the summary of several programs.
+// Writes what comes last of several programs.
 fn sum_up<O: Write, E: Write>(
     alloc: Global,
+    job: &Job,
     tally: ProgramTally,
+    log: &[LoggedProgram],
     output: &mut O,
     errors: &mut E,
 ) -> Answered
     requires { all_of tally ≤ usize.MAX }
-    ensures { (known : Files) → Sums tally result
+    ensures { (known : Files) → Sums job.now tally result
         record { output = O.contents output.old; errors = E.contents errors.old; files = known }
         record { output = O.contents output.new; errors = E.contents errors.new; files = known } }
 {
-    match line_of(alloc, tally) {
-        Ok(line) => match write_both(line.as_bytes(), &[], output, errors) {
+    match last_of(alloc, job, tally, log) {
+        Ok(last) => match write_both(last.as_slice(), &[], output, errors) {
             Ok(()) => Answered {
                 status: worst_status(tally),
                 is_told: true,
             },
             Err(ending) => ending,
         },
-        Err(lack) => tell(&Fault::Serve(lack), output, errors),
+        Err(AllocError) => tell(&Fault::Serve(ServeFault::OutOfMemory), output, errors),
     }
 }
 
-// The line that sums up.
-fn line_of(alloc: Global, tally: ProgramTally) -> Result<String, ServeFault>
+// What comes last: after objects nothing, else a log of all, or a line that sums up.
+fn last_of(
+    alloc: Global,
+    job: &Job,
+    tally: ProgramTally,
+    log: &[LoggedProgram],
+) -> Result<Vec<u8>, AllocError>
     requires { all_of tally ≤ usize.MAX }
-    ensures line { IfOk result (λ line. string_bytes line ≡ summary_line tally) }
-    ensures memory { OnErr result (result ≡ Err ServeFault.OutOfMemory) }
+    ensures { IfOk result (λ last. IsLast job.now last.items) }
 {
-    Ok(summary_line(alloc, tally)?)
+    match job {
+        Job::Explain {
+            format: Format::Sarif,
+            ..
+        } => log_of(alloc, log, worst_status(tally)),
+        Job::Explain {
+            format: Format::Json,
+            ..
+        }
+        | Job::Check {
+            format: CheckFormat::Json,
+            ..
+        } => Ok(Vec::new(alloc)),
+        _ => Ok(summary_line(alloc, tally)?.into_bytes()),
+    }
 }
 
 // Writes to both streams; or how it ends where one of them fails.

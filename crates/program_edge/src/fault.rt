@@ -18,6 +18,10 @@ pub enum Fault {
     Predict,
     /// `--emit` has no such value.
     Emit,
+    /// `--predict` has no such value; the message lists those that it has.
+    PredictValues,
+    /// `--emit` has no such value; the message lists those that it has.
+    EmitValues,
     /// Memory ran out before the files were read.
     OutOfMemory,
     /// More than one file of the job is standard input.

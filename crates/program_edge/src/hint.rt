@@ -4,13 +4,14 @@ ghost use Rattle.program_edge.specs.Hints.{IsHint, explains};
 
 use crate::refusal::last_line;
 use jobs::job::Job;
+use report_texts::unlisted::unlisted_exit;
 use shown_names::name::shown_name;
 use shown_names::shell::shell_word;
 use std::alloc::{AllocError, Global};
 
-/// The line that standard error gets beside the result of a job with this status, of a program of this name: that a
-/// text is refused, with the command that says more, or how a run ended that did not halt. Empty for any other result,
-/// and where standard error is no terminal.
+/// The line that standard error gets beside the result of a job with this status, of a program of this name and text:
+/// that a text is refused, with the command that says more, or how a run ended that did not halt, and where that is
+/// unlisted, which task went where. Empty for any other result, and where standard error is no terminal.
 ///
 /// # Errors
 ///
@@ -20,13 +21,14 @@ pub fn hint_for(
     is_terminal: bool,
     job: &Job,
     name: &str,
+    program: &[u8],
     status: u8,
     text: &[u8],
 ) -> Result<Vec<u8>, AllocError>
     ensures { IfOk result (λ hint. IsHint is_terminal job.now status hint.items) }
 {
     if is_terminal && !explains(job) && status == 1 {
-        line_hint(alloc, name, last_line(text))
+        line_hint(alloc, name, program, last_line(text))
     } else {
         Ok(Vec::new(alloc))
     }
@@ -40,7 +42,12 @@ pub(crate) fn explains(job: &Job) -> bool
 }
 
 // One line for a result that ends with this line, or none.
-fn line_hint(alloc: Global, name: &str, line: &[u8]) -> Result<Vec<u8>, AllocError> {
+fn line_hint(
+    alloc: Global,
+    name: &str,
+    program: &[u8],
+    line: &[u8],
+) -> Result<Vec<u8>, AllocError> {
     let mut hint = Vec::new(alloc);
     if !has_more(line) && !says_all(line) {
         return Ok(hint);
@@ -55,6 +62,12 @@ fn line_hint(alloc: Global, name: &str, line: &[u8]) -> Result<Vec<u8>, AllocErr
         hint.extend_from_slice(b"; multiscalar explain ")?;
         hint.extend_from_slice(word.as_str().as_bytes())?;
         hint.extend_from_slice(b" says more")?;
+    }
+    if line.starts_with(b"unlisted ") {
+        if let Some(exit) = unlisted_exit(alloc, program)? {
+            hint.extend_from_slice(b": ")?;
+            hint.extend_from_slice(exit.as_str().as_bytes())?;
+        }
     }
     hint.push(b'\n')?;
     Ok(hint)

@@ -1,5 +1,5 @@
 //! Files by their names.
-ghost use Rattle.std.specs.Prelude.{◌≡◌, if◌then◌else◌, List, ℕ, None, Some};
+ghost use Rattle.std.specs.Prelude.{List, ℕ, None};
 ghost use Rattle.program_edge.specs.FileTexts.{Known, Unknown, OpensAs, IsUnreadOpen};
 
 use crate::asked::STANDARD_INPUT;
@@ -75,8 +75,9 @@ impl<F: Read + FileExt + OpenFile + Sync, I: Read + Sync> PositionedFile for Sys
         let SystemFile::Path(file) = self else {
             return None;
         };
+        // What the system says of any other file is no size.
         let metadata = file.metadata().ok()?;
-        hint_of(metadata.is_file(), metadata.len())
+        metadata.is_file().then_some(metadata.len())
     }
 
     fn read_at(&self, buffer: &mut [u8], offset: u64) -> io::Result<usize> {
@@ -87,21 +88,11 @@ impl<F: Read + FileExt + OpenFile + Sync, I: Read + Sync> PositionedFile for Sys
     }
 }
 
-// The size of a regular file; what the system says of any other file is no size.
-fn hint_of(is_file: bool, len: u64) -> Option<u64>
-    ensures { result ≡ (if is_file then Some len else None) }
-{
-    is_file.then_some(len)
-}
-
 impl<R: Files + Input> NamedFiles for SystemFiles<'_, R>
 where
     R::File: FileExt + Sync,
     R::Reader: Sync,
 {
-    ghost use Rattle.std.specs.Prelude.{◌≡◌};
-    ghost use Rattle.program_edge.specs.FileTexts.{IsUnreadOpen, reading_reason};
-
     type File = SystemFile<R::File, R::Reader>;
 
     ghost known = { λ _ _. Unknown };
@@ -114,19 +105,13 @@ where
         Ok(SystemFile::Path(file))
     }
 
-    fn why_unread(&self, _name: &str, fault: FetchFault) -> UnreadReason
-        ensures open { IsUnreadOpen Unknown result }
-        ensures system { result ≡ reading_reason fault }
-    {
+    fn why_unread(&self, _name: &str, fault: FetchFault) -> UnreadReason {
         reason_of_reading(fault)
     }
 }
 
 /// The files of this process.
 impl NamedFiles for HostRuntime {
-    ghost use Rattle.std.specs.Prelude.{◌≡◌};
-    ghost use Rattle.program_edge.specs.FileTexts.{IsUnreadOpen, reading_reason};
-
     type File = SystemFile<<HostRuntime as Files>::File, <HostRuntime as Input>::Reader>;
 
     ghost known = { λ _ _. Unknown };
@@ -135,10 +120,7 @@ impl NamedFiles for HostRuntime {
         SystemFiles::new(self).open(name)
     }
 
-    fn why_unread(&self, name: &str, fault: FetchFault) -> UnreadReason
-        ensures open { IsUnreadOpen Unknown result }
-        ensures system { result ≡ reading_reason fault }
-    {
+    fn why_unread(&self, name: &str, fault: FetchFault) -> UnreadReason {
         SystemFiles::new(self).why_unread(name, fault)
     }
 }

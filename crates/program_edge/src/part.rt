@@ -1,17 +1,20 @@
 //! The part of one of several programs on the two streams.
-ghost use Rattle.std.specs.Prelude.{◌≡◌, ◌++◌, [], Err, IfOk, OnErr, OnOk};
+ghost use Rattle.std.specs.Prelude.{◌≡◌, [], None, Err, IfOk, OnErr};
+ghost use Rattle.explain_report.specs.ExplainText.{IsExplainReport};
 ghost use Rattle.report_texts.specs.OutputTexts.{Report};
+ghost use Rattle.std.specs.String.{string_bytes};
 ghost use Rattle.verdict_report.specs.JobTexts.{IsReportOf};
-ghost use Rattle.program_edge.specs.Several.{IsJudged, IsPartOf, IsPartOfText, IsPartWith, among_others, certificate_reason, is_certificate, named_lines, unjudged};
-ghost use Rattle.program_edge.specs.Telling.{program_reason};
+ghost use Rattle.program_edge.specs.Several.{IsAmongOthers, IsJudged, IsPartOf, IsPartOfText, IsPartWith, is_certificate, seen, unjudged};
+ghost use Rattle.program_edge.specs.Summaries.{judged_by};
 
-use crate::hint::explains;
+use crate::hint::{explains, hint_for};
 use crate::named_files::NamedFiles;
-use crate::reports::{Hinted, hinted_report};
+use crate::reports::report_of;
 use crate::summary::{ProgramVerdict, judged_by};
 use crate::texts::{MOST_PROGRAM, read_file};
 use crate::unread::UnreadReason;
-use jobs::job::{Job, Texts};
+use explain_report::logging::{LoggedProgram, add_program};
+use jobs::job::{CheckFormat, Format, Job, Texts, Warnings};
 use shown_names::name::shown_name;
 use shown_names::shell::shell_word;
 use std::alloc::{AllocError, Global};
@@ -40,15 +43,15 @@ pub(crate) fn part_of<F: NamedFiles, R: Threads + Wait + Sync>(
     name: &str,
     files: &F,
     is_terminal: bool,
+    log: &mut Vec<LoggedProgram>,
 ) -> Result<Part, ServeFault>
-    ensures part { IfOk result (λ part. IsPartOf is_terminal (F.known files.now) job.now name.now
-        record { output = part.output.items; errors = part.errors.items; judged = part.judged }) }
+    ensures part { IfOk result (λ part. IsPartOf is_terminal (F.known files.now) job.now name.now (seen part)) }
     ensures memory { OnErr result (result ≡ Err ServeFault.OutOfMemory) }
 {
     match read_file(alloc, files, name, MOST_PROGRAM) {
-        Ok(text) => part_of_text(rt, alloc, job, name, text, is_terminal),
+        Ok(text) => part_of_text(rt, alloc, job, name, text, is_terminal, log),
         Err(UnreadReason::OutOfMemory) => Err(ServeFault::OutOfMemory),
-        Err(reason) => Ok(unread_part(alloc, name, reason)?),
+        Err(reason) => Ok(unjudged(alloc, unread_line(alloc, name, reason)?)),
     }
 }
 
@@ -60,21 +63,21 @@ fn part_of_text<R: Threads + Wait + Sync>(
     name: &str,
     text: Vec<u8>,
     is_terminal: bool,
+    log: &mut Vec<LoggedProgram>,
 ) -> Result<Part, ServeFault>
-    ensures part { IfOk result (λ part. IsPartOfText (is_certificate job.now text.items) is_terminal job.now name.now text.items
-        record { output = part.output.items; errors = part.errors.items; judged = part.judged }) }
+    ensures part { IfOk result (λ part. IsPartOfText (is_certificate job.now text.items) is_terminal job.now name.now text.items (seen part)) }
     ensures memory { OnErr result (result ≡ Err ServeFault.OutOfMemory) }
 {
     if is_certificate(job, text.as_slice()) {
-        return Ok(certificate_part(alloc, name)?);
+        return Ok(unjudged(alloc, certificate_line(alloc, name)?));
     }
     let texts = Texts {
-        name: String::new(alloc),
+        name: String::from_str(alloc, name)?,
         program: text,
         certificate: Text::new(alloc, Vec::new(alloc)),
         script: Vec::new(alloc),
     };
-    judged_part(rt, alloc, job, name, &texts, is_terminal)
+    judged_part(rt, alloc, job, name, &texts, is_terminal, log)
 }
 
 // Whether the job takes this text for a certificate.
@@ -92,10 +95,10 @@ fn judged_part<R: Threads + Wait + Sync>(
     name: &str,
     texts: &Texts,
     is_terminal: bool,
+    log: &mut Vec<LoggedProgram>,
 ) -> Result<Part, ServeFault>
     ensures part { IfOk result (λ part. (texts.now.certificate ≡ []) → (texts.now.script.items ≡ []) →
-        IsJudged is_terminal job.now name.now texts.now.program.items
-        record { output = part.output.items; errors = part.errors.items; judged = part.judged }) }
+        IsJudged is_terminal job.now name.now texts.now.program.items (seen part)) }
     ensures memory { OnErr result (result ≡ Err ServeFault.OutOfMemory) }
 {
     match job {
@@ -113,7 +116,12 @@ fn judged_part<R: Threads + Wait + Sync>(
                 format: *format,
                 colors: *colors,
             };
-            reported_part(rt, alloc, &own, name, texts, is_terminal)
+            match format {
+                Format::Sarif => logged_part(alloc, *warnings, name, texts, log),
+                Format::Text | Format::Json => {
+                    reported_part(rt, alloc, &own, name, texts, is_terminal)
+                }
+            }
         }
         _ => reported_part(rt, alloc, job, name, texts, is_terminal),
     }
@@ -129,46 +137,66 @@ fn reported_part<R: Threads + Wait + Sync>(
     is_terminal: bool,
 ) -> Result<Part, ServeFault>
     ensures part { IfOk result (λ part. (report : Report) × IsReportOf job.now texts.now report
-        × IsPartWith is_terminal job.now name.now report
-        record { output = part.output.items; errors = part.errors.items; judged = part.judged }) }
+        × IsPartWith is_terminal job.now report (seen part)) }
     ensures memory { OnErr result (result ≡ Err ServeFault.OutOfMemory) }
 {
-    let Hinted { report, hint } = hinted_report(rt, alloc, job, texts, is_terminal, name)?;
+    let report = report_of(rt, alloc, job, texts)?;
+    let program = texts.program.as_slice();
+    let (bytes, status) = (report.bytes(), report.status());
     Ok(Part {
-        output: among_others(alloc, job, name, report.bytes)?,
-        errors: hint,
-        judged: judged_by(report.status),
+        output: among_others(alloc, job, name, bytes)?,
+        errors: hint_for(alloc, is_terminal, job, name, program, status, bytes)?,
+        judged: judged_by(status),
     })
 }
 
-// How a report stands among others: the lines of `check` get their file's name.
-fn among_others(alloc: Global, job: &Job, name: &str, text: Vec<u8>) -> Result<Vec<u8>, AllocError>
-    ensures { IfOk result (λ said. said.items ≡ among_others job.now name.now text.items) }
+// The part of a program that a log has.
+fn logged_part(
+    alloc: Global,
+    warnings: Warnings,
+    name: &str,
+    texts: &Texts,
+    log: &mut Vec<LoggedProgram>,
+) -> Result<Part, ServeFault>
+    ensures part { IfOk result (λ part. (report : Report)
+        × IsExplainReport None None warnings texts.now.program.items texts.now.certificate texts.now.script.items report
+        × (seen part ≡ record { output = []; errors = []; judged = judged_by report.status })) }
+    ensures memory { OnErr result (result ≡ Err ServeFault.OutOfMemory) }
+{
+    let status = add_program(alloc, log, warnings, name, texts)?;
+    Ok(Part {
+        output: Vec::new(alloc),
+        errors: Vec::new(alloc),
+        judged: judged_by(status),
+    })
+}
+
+// How a report is told among others: the lines of `check` get their file's name, and objects have it.
+fn among_others(alloc: Global, job: &Job, name: &str, text: &[u8]) -> Result<Vec<u8>, AllocError>
+    ensures { IfOk result (λ said. IsAmongOthers job.now text.now said.items) }
 {
     match job {
-        Job::Check { .. } => named_lines(alloc, name, text.as_slice()),
-        _ => Ok(text),
+        Job::Check {
+            format: CheckFormat::Text,
+            ..
+        } => named_lines(alloc, name, text),
+        Job::Explain {
+            format: Format::Sarif,
+            ..
+        } => Ok(Vec::new(alloc)),
+        _ => text.to_vec(alloc),
     }
 }
 
-// Adds a text.
-fn add(text: &str, said: &mut Vec<u8>) -> Result<(), AllocError>
-    ensures { OnOk result (said.new.items ≡ said.old.items ++ text.now) }
-{
-    said.extend_from_slice(text.as_bytes())
-}
-
 // The lines of a text, each with the file's name before it.
-fn named_lines(alloc: Global, name: &str, text: &[u8]) -> Result<Vec<u8>, AllocError>
-    ensures { IfOk result (λ said. said.items ≡ named_lines name.now text.now) }
-{
+fn named_lines(alloc: Global, name: &str, text: &[u8]) -> Result<Vec<u8>, AllocError> {
     let shown = shown_name(alloc, name)?;
     let mut said = Vec::new(alloc);
     let mut starts = true;
     for byte in text {
         if starts {
-            add(shown.as_str(), &mut said)?;
-            add(": ", &mut said)?;
+            said.extend_from_slice(shown.as_str().as_bytes())?;
+            said.extend_from_slice(b": ")?;
         }
         said.push(*byte)?;
         starts = *byte == b'\n';
@@ -176,43 +204,36 @@ fn named_lines(alloc: Global, name: &str, text: &[u8]) -> Result<Vec<u8>, AllocE
     Ok(said)
 }
 
-// That a file gives no program, and why: of a folder, how its files are named.
-fn unread_part(alloc: Global, name: &str, reason: UnreadReason) -> Result<Part, AllocError>
-    ensures { IfOk result (λ part. record { output = part.output.items; errors = part.errors.items; judged = part.judged }
-        ≡ unjudged name.now (program_reason name.now reason)) }
+// The part of a program that is not judged, of which this is told.
+fn unjudged(alloc: Global, line: String) -> Part
+    ensures { seen result ≡ unjudged (string_bytes line) }
 {
+    Part {
+        output: Vec::new(alloc),
+        errors: line.into_bytes(),
+        judged: ProgramVerdict::Unjudged,
+    }
+}
+
+// That a file gives no program, and why: of a folder, how its files are named.
+fn unread_line(alloc: Global, name: &str, reason: UnreadReason) -> Result<String, AllocError> {
+    let shown = shown_name(alloc, name)?;
     match reason {
-        UnreadReason::IsDirectory => {
-            let shown = shown_name(alloc, name)?;
-            let why = format!(in alloc; "is a directory; name its files, as in {shown}/*.s")?;
-            unjudged_part(alloc, name, why.as_str())
+        UnreadReason::IsDirectory => format!(in alloc;
+            "multiscalar: file {shown}: is a directory; name its files, as in {shown}/*.s\n"
+        ),
+        _ => {
+            let why = reason.words();
+            format!(in alloc; "multiscalar: file {shown}: {why}\n")
         }
-        _ => unjudged_part(alloc, name, reason.words()),
     }
 }
 
 // That a file is a certificate, and how it is explained.
-fn certificate_part(alloc: Global, name: &str) -> Result<Part, AllocError>
-    ensures { IfOk result (λ part. record { output = part.output.items; errors = part.errors.items; judged = part.judged }
-        ≡ unjudged name.now (certificate_reason name.now)) }
-{
-    let word = shell_word(alloc, name)?;
-    let why = format!(in alloc;
-        "is a certificate; explain PROGRAM --certificate {word} explains it"
-    )?;
-    unjudged_part(alloc, name, why.as_str())
-}
-
-// That a program is not judged, for this reason.
-fn unjudged_part(alloc: Global, name: &str, why: &str) -> Result<Part, AllocError>
-    ensures { IfOk result (λ part. record { output = part.output.items; errors = part.errors.items; judged = part.judged }
-        ≡ unjudged name.now why.now) }
-{
+fn certificate_line(alloc: Global, name: &str) -> Result<String, AllocError> {
     let shown = shown_name(alloc, name)?;
-    let line = format!(in alloc; "multiscalar: file {shown}: {why}\n")?;
-    Ok(Part {
-        output: Vec::new(alloc),
-        errors: line.into_bytes(),
-        judged: ProgramVerdict::Unjudged,
-    })
+    let word = shell_word(alloc, name)?;
+    format!(in alloc;
+        "multiscalar: file {shown}: is a certificate; explain PROGRAM --certificate {word} explains it\n"
+    )
 }

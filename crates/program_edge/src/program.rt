@@ -28,7 +28,7 @@ pub fn run<
     is_terminal: bool,
     shows_colors: bool,
 ) -> u8
-    ensures { IsRunOf D.is_watched is_terminal shows_colors (R.known_words rt.now) (R.known rt.now) result
+    ensures { IsRunOf D.is_watched is_terminal (R.known_words rt.now) (R.known rt.now) result
         record { output = O.contents output.old; errors = E.contents errors.old; files = D.known folder.old }
         record { output = O.contents output.new; errors = E.contents errors.new; files = D.known folder.new } }
 {

@@ -1,20 +1,19 @@
 //! Who reads standard error, and what is written there beside a report.
-ghost use Rattle.std.specs.Prelude.{◌≡◌, ◌≢◌, ◌||◌, Err, IfOk, OnErr};
-ghost use Rattle.verdict_report.specs.JobTexts.{IsReportOf};
+ghost use Rattle.std.specs.Prelude.{◌≡◌, ◌||◌, IfOk};
 ghost use Rattle.program_edge.specs.Beside.{IsBeside, IsRest, is_played, rest_said};
 ghost use Rattle.program_edge.specs.Hints.{IsHint};
 
 use crate::hint::hint_for;
-use crate::reports::{Hinted, Written, report_of};
+use crate::reports::report_of;
 use explain_report::left::LeftOver;
 use explain_report::proposal::left_over;
 use jobs::job::{Job, ReplayEmit, Texts};
+use report_texts::report::JobReport;
 use shown_names::name::shown_name;
 use std::alloc::{AllocError, Global};
 use std::marker::Model;
 use std::sync::Wait;
 use std::thread::Threads;
-use verdict_report::fault::ServeFault;
 
 /// Who reads standard error.
 #[derive(Drop)]
@@ -38,7 +37,6 @@ impl Model for Reader {
 
 impl Reader {
     ghost use Rattle.std.specs.Prelude.{◌≡◌, ◌||◌};
-    ghost use Rattle.program_edge.specs.Beside.{is_kept};
 
     /// Whether anything may be written beside a report.
     pub(crate) fn listens(&self) -> bool
@@ -46,17 +44,10 @@ impl Reader {
     {
         self.is_terminal || self.wants_rest
     }
-
-    /// Whether a report is to be kept until it is known what is written beside it.
-    pub(crate) fn keeps(&self, job: &Job) -> bool
-        ensures { result ≡ is_kept self.now job.now }
-    {
-        self.listens() && !is_played(job)
-    }
 }
 
-// Whether the job writes what it tells of each event while the events are played.
-fn is_played(job: &Job) -> bool
+/// Whether the job writes what it tells of each event while the events are played.
+pub(crate) fn is_played(job: &Job) -> bool
     ensures { result ≡ is_played job.now }
 {
     matches!(
@@ -68,42 +59,23 @@ fn is_played(job: &Job) -> bool
     )
 }
 
-/// What a job with its texts writes, and the hint beside it.
-pub(crate) fn told_report<R: Threads + Wait + Sync>(
-    rt: &R,
+/// What is told beside a report of this job.
+pub(crate) fn told_beside(
     alloc: Global,
     job: &Job,
     texts: &Texts,
     reader: &Reader,
-) -> Result<Hinted, ServeFault>
-    ensures report { IfOk result (λ h. IsReportOf job.now texts.now record { bytes = h.report.bytes.items; status = h.report.status }) }
-    ensures hint { IfOk result (λ h. IsBeside reader.now job.now texts.now.program.items
-        record { bytes = h.report.bytes.items; status = h.report.status } h.hint.items) }
-    ensures fault { result ≢ Err ServeFault.Write }
-    ensures memory { OnErr result (result ≡ Err ServeFault.OutOfMemory) }
-{
-    let report = report_of(rt, alloc, job, texts)?;
-    Ok(hinted(alloc, job, texts, reader, report)?)
-}
-
-/// A report, and the hint beside it.
-pub(crate) fn hinted(
-    alloc: Global,
-    job: &Job,
-    texts: &Texts,
-    reader: &Reader,
-    report: Written,
-) -> Result<Hinted, AllocError>
-    ensures report { IfOk result (λ h. h.report ≡ report) }
-    ensures hint { IfOk result (λ h. IsBeside reader.now job.now texts.now.program.items
-        record { bytes = report.bytes.items; status = report.status } h.hint.items) }
+    report: &JobReport,
+) -> Result<Vec<u8>, AllocError>
+    ensures { IfOk result (λ told. IsBeside reader.now job.now texts.now.program.items report.now told.items) }
 {
     let name = reader.name.as_str();
-    let bytes = report.bytes.as_slice();
-    let mut hint = hint_for(alloc, reader.is_terminal, job, name, report.status, bytes)?;
-    let rest = rest_of(alloc, job, texts, reader, &report)?;
+    let program = texts.program.as_slice();
+    let (bytes, status) = (report.bytes(), report.status());
+    let mut hint = hint_for(alloc, reader.is_terminal, job, name, program, status, bytes)?;
+    let rest = rest_of(alloc, job, texts, reader, report)?;
     hint.extend_from_slice(rest.as_slice())?;
-    Ok(Hinted { report, hint })
+    Ok(hint)
 }
 
 /// The hint beside a report with this status that was not kept. Of what a replay tells, only a refusal has one, which
@@ -140,8 +112,9 @@ pub(crate) fn hint_unkept<R: Threads + Wait + Sync>(
         return Vec::new(alloc);
     };
     let name = reader.name.as_str();
-    let bytes = report.bytes.as_slice();
-    match hint_for(alloc, reader.is_terminal, job, name, status, bytes) {
+    let program = texts.program.as_slice();
+    let bytes = report.bytes();
+    match hint_for(alloc, reader.is_terminal, job, name, program, status, bytes) {
         Ok(hint) => hint,
         Err(AllocError) => Vec::new(alloc),
     }
@@ -153,18 +126,18 @@ fn rest_of(
     job: &Job,
     texts: &Texts,
     reader: &Reader,
-    report: &Written,
+    report: &JobReport,
 ) -> Result<Vec<u8>, AllocError>
     ensures { IfOk result (λ rest. IsRest (reader.now.is_terminal || reader.now.wants_rest) reader.now.wants_rest job.now
-        texts.now.program.items reader.now.name record { bytes = report.now.bytes.items; status = report.now.status } rest.items) }
+        texts.now.program.items reader.now.name report.now rest.items) }
 {
     if !reader.listens() {
         return Ok(Vec::new(alloc));
     }
     let program = texts.program.as_slice();
     let name = shown_name(alloc, reader.name.as_str())?;
-    let bytes = report.bytes.as_slice();
-    let left = left_over(alloc, job, program, name.as_str(), report.status, bytes)?;
+    let bytes = report.bytes();
+    let left = left_over(alloc, job, program, name.as_str(), report.status(), bytes)?;
     Ok(rest_said(alloc, reader.wants_rest, left))
 }
 

@@ -1,5 +1,5 @@
 //! Writing a name as it is shown.
-ghost use Rattle.std.specs.Prelude.{◌≡◌, OnOk};
+ghost use Rattle.std.specs.Prelude.{OnOk};
 ghost use Rattle.std.specs.Io.KnownBytes.{Appends};
 ghost use Rattle.shown_names.specs.Shown.{shown, shown_as, shown_byte};
 ghost use Rattle.result_files.specs.Writing.{Begins};

@@ -21,5 +21,8 @@ pub(crate) fn write_whole<W: Write>(bytes: &[u8], writer: &mut W) -> io::Result<
     ensures part { Begins (W.contents writer.old) (W.contents writer.new) bytes.now }
 {
     write_bytes(bytes, writer)?;
+    if bytes.is_empty() {
+        return Ok(());
+    }
     writer.flush()
 }

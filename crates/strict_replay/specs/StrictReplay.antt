@@ -1,7 +1,8 @@
 -- A strict replay: whether each line of a script is as the machine does it, from the start on; and if not, the first that
--- is not, and which of its expectations is the first that is not met. What is written of it is not said here.
-use Rattle.std.specs.Prelude.{◌≡◌, ℕ, suc, ◌+◌, ◌==◌, ◌&&◌, Bool, true, false, List, [], ◌∷◌, length, Option, None, Some, Result, Ok, Err, if◌then◌else◌}
-use Rattle.std.specs.List.{list_any}
+-- is not, and which of its expectations is the first that is not met. A complete script also lists all that its events did,
+-- and ends its run. What is written of it is not said here.
+use Rattle.std.specs.Prelude.{◌≡◌, ℕ, suc, ◌+◌, ◌==◌, ◌&&◌, Bool, true, false, not, List, [], ◌∷◌, length, Option, None, Some, Result, Ok, Err, if◌then◌else◌}
+use Rattle.std.specs.List.{find, list_any}
 use Rattle.std.specs.Option.{option_eq, option_map, option_map_or, option_or}
 use Rattle.task_descriptor.specs.Listing.{Listing}
 use Rattle.machine_model.specs.Machine.{State, opening}
@@ -10,6 +11,8 @@ use Rattle.machine_model.specs.declared.event.Event.{Event}
 use Rattle.machine_model.specs.RefusedText.{number_and_name}
 use Rattle.machine_model.specs.declared.event.Refused.{Refused}
 use Rattle.machine_model.specs.declared.event.Refused.TheVariants.{NotYet, Unfinished, Waiting}
+use Rattle.machine_model.specs.declared.event.Standing.{Standing}
+use Rattle.machine_model.specs.declared.event.Standing.TheVariants.{Running}
 use Rattle.sequencer.specs.Machines.{MachineView, SameRing, state as state_of, units_of}
 use Rattle.event_script.specs.EventScript.{event_in, lines, names_in}
 use Rattle.event_script.specs.declared.fault.EventFault.{EventFault}
@@ -26,7 +29,7 @@ use Rattle.strict_replay.specs.declared.expectation.Expectation.{Expectation}
 use Rattle.strict_replay.specs.declared.expectation.Expectation.TheVariants.{Register, Sends, Memory, Output, Stops, Ends}
 use Rattle.strict_replay.specs.contracts.expectation.ExpectationPartialEq.TheImpl.{eq-value}
 use Rattle.strict_replay.specs.declared.departure.Departure.{Departure}
-use Rattle.strict_replay.specs.declared.departure.Departure.TheVariants.{NoEvent, NotAllowed, NotRefused, Unread, Missed}
+use Rattle.strict_replay.specs.declared.departure.Departure.TheVariants.{NoEvent, NotAllowed, NotEnded, NotListed, NotRefused, Unread, Missed}
 use Rattle.strict_replay.specs.declared.departure.Departed.{Departed}
 use Rattle.strict_replay.specs.StrictScript.{content, event_text, expectation_in, expected_parts, expects_refusal, is_silent, refusal_in}
 
@@ -51,11 +54,41 @@ is_met changes expected = list_any (λ change. option_eq eq-value.it (done_by ch
 -- how the expectation of a number departs, if it does; and the first from a number on that does
 abbrev pub unmet : List Change → (number : ℕ) → Option Expectation → Option Departure
 unmet changes number None = Some (Unread number)
-unmet changes number (Some expected) = if is_met changes expected then None else Some (Missed expected)
+unmet changes number (Some expected) = if is_met changes expected then None else Some (Missed number expected)
 
 abbrev pub first_unmet : List Change → (number : ℕ) → (parts : List (List ℕ)) → Option Departure
 first_unmet changes number [] = None
 first_unmet changes number (part ∷ parts) = option_or (unmet changes number (expectation_in part)) (first_unmet changes (number + 1) parts)
+
+-- ---- a complete script, which lists all that its events did
+
+-- what a line of a complete script must list of a change: all but the registers that a unit takes as it gets its task or
+-- becomes the head
+abbrev pub to_list : Change → Option Expectation
+to_list (Took r word) = None
+to_list change = done_by change
+
+abbrev pub spells : (part : List ℕ) → Expectation → Bool
+spells part done = option_eq eq-value.it (expectation_in part) (Some done)
+
+abbrev pub is_listed : (parts : List (List ℕ)) → Expectation → Bool
+is_listed parts done = list_any (λ part. spells part done) parts
+
+abbrev pub lacks : (parts : List (List ℕ)) → Change → Bool
+lacks parts change = option_map_or (λ done. not (is_listed parts done)) (to_list change) false
+
+-- how a line with these parts departs at the first of the changes that it lacks, if it does
+abbrev pub first_not_listed : (complete : Bool) → List Change → (parts : List (List ℕ)) → Option Departure
+first_not_listed complete changes parts = if complete then option_map NotListed (find (lacks parts) changes) else None
+
+-- how a line departs from what its event did, if it does
+abbrev pub deed_departs : (complete : Bool) → List Change → (parts : List (List ℕ)) → Option Departure
+deed_departs complete changes parts = option_or (first_unmet changes 1 parts) (first_not_listed complete changes parts)
+
+-- how the end of a script departs, at the line of this number, which it does not have: a complete script ends its run
+abbrev pub end_departs : (complete : Bool) → Standing → Option Departure
+end_departs true Running = Some NotEnded
+end_departs complete standing = None
 
 -- ---- a refusal that is expected
 
@@ -86,6 +119,16 @@ refusal_unmet None refusal = Some (Unread 1)
 refusal_unmet (Some expected) None = Some (NotRefused expected)
 refusal_unmet (Some expected) (Some why) = if is_refused_so why expected then None else Some (NotRefused expected)
 
+-- how a line with this content departs by what a walk tells of its event, if it does
+abbrev pub told_departs : (complete : Bool) → (parts : List (List ℕ)) → Told → Option Departure
+told_departs complete parts (told.Taken changes) = deed_departs complete changes.items parts
+told_departs complete parts (told.Refused why) = Some (NotAllowed why)
+
+abbrev pub content_departs : (complete : Bool) → (content : List ℕ) → Told → Option Departure
+content_departs complete content told =
+    if expects_refusal content then refusal_unmet (refusal_in content) (refusal_told told)
+    else told_departs complete (expected_parts content) told
+
 -- ---- the first line that departs, from a state on, with n events allowed before it
 
 -- what departs first behind a line, by the number of events that were allowed and the state
@@ -96,10 +139,10 @@ abbrev pub departed : (line : ℕ) → Departure → Departed
 departed line why = record { line = line; why = why }
 
 -- from a line on with this event, by the machine's answer
-abbrev pub event_departs : Listing → (number n : ℕ) → State → (parts : List (List ℕ)) → Further → Event → Result (Unit {0}) Refused → Option Departed
-event_departs p number n s parts further e (Ok done) =
-    option_or (option_map (departed number) (first_unmet (changes_of p s e (after p s e)) 1 parts)) (further (suc n) (after p s e))
-event_departs p number n s parts further e (Err why) = Some (departed number NotAllowed)
+abbrev pub event_departs : (complete : Bool) → Listing → (number n : ℕ) → State → (parts : List (List ℕ)) → Further → Event → Result (Unit {0}) Refused → Option Departed
+event_departs complete p number n s parts further e (Ok done) =
+    option_or (option_map (departed number) (deed_departs complete (changes_of p s e (after p s e)) parts)) (further (suc n) (after p s e))
+event_departs complete p number n s parts further e (Err why) = Some (departed number (NotAllowed why))
 
 -- from a line on that expects a refusal, by the machine's answer: a refused event changes nothing
 abbrev pub refusal_departs : (number n : ℕ) → State → Option ExpectedRefusal → Further → Result (Unit {0}) Refused → Option Departed
@@ -107,43 +150,44 @@ refusal_departs number n s expected further answer =
     option_or (option_map (departed number) (refusal_unmet expected (refusal_in_answer answer))) (further n s)
 
 -- from a line on that spells this
-abbrev pub spelling_departs : Listing → (units number n : ℕ) → State → (content : List ℕ) → Further → Result Event EventFault → Option Departed
-spelling_departs p units number n s content further (Ok e) =
+abbrev pub spelling_departs : (complete : Bool) → Listing → (units number n : ℕ) → State → (content : List ℕ) → Further → Result Event EventFault → Option Departed
+spelling_departs complete p units number n s content further (Ok e) =
     if expects_refusal content then refusal_departs number n s (refusal_in content) further (answer p units s n e)
-    else event_departs p number n s (expected_parts content) further e (answer p units s n e)
-spelling_departs p units number n s content further (Err fault) = Some (departed number NoEvent)
+    else event_departs complete p number n s (expected_parts content) further e (answer p units s n e)
+spelling_departs complete p units number n s content further (Err fault) = Some (departed number (NoEvent fault))
 
 -- from a line on with this content
-abbrev pub line_departs : (names : List (List ℕ)) → Listing → (units number n : ℕ) → State → (content : List ℕ) → Further → Option Departed
-line_departs names p units number n s content further =
+abbrev pub line_departs : (complete : Bool) → (names : List (List ℕ)) → Listing → (units number n : ℕ) → State → (content : List ℕ) → Further → Option Departed
+line_departs complete names p units number n s content further =
     if is_silent content then further n s
-    else spelling_departs p units number n s content further (event_in names (event_text content))
+    else spelling_departs complete p units number n s content further (event_in names (event_text content))
 
-abbrev pub first_departed : (names : List (List ℕ)) → Listing → (units number n : ℕ) → State → (lines : List (List ℕ)) → Option Departed
-first_departed names p units number n s [] = None
-first_departed names p units number n s (line ∷ more) =
-    line_departs names p units number n s (content line) (λ k t. first_departed names p units (number + 1) k t more)
+abbrev pub first_departed : (complete : Bool) → (names : List (List ℕ)) → Listing → (units number n : ℕ) → State → (lines : List (List ℕ)) → Option Departed
+first_departed complete names p units number n s [] = option_map (departed number) (end_departs complete s.outcome)
+first_departed complete names p units number n s (line ∷ more) =
+    line_departs complete names p units number n s (content line) (λ k t. first_departed complete names p units (number + 1) k t more)
 
 -- of a script, on a machine of `units` units at the start of a program
-abbrev pub strict_verdict : Listing → (units : ℕ) → (script : List ℕ) → Option Departed
-strict_verdict p units script = first_departed (names_in p.tasks) p units 1 0 (opening p) (lines script)
+abbrev pub strict_verdict : (complete : Bool) → Listing → (units : ℕ) → (script : List ℕ) → Option Departed
+strict_verdict complete p units script = first_departed complete (names_in p.tasks) p units 1 0 (opening p) (lines script)
 
--- what `replay --strict` may write of a program text, the text of its certificate and the text of a script: its status is 0
--- exactly where no line departs
-abbrev pub IsStrictJudged : (units : ℕ) → (script : List ℕ) → Judgement → Report → Type 0
-IsStrictJudged units script (refused said) report = report ≡ said
-IsStrictJudged units script (accepted p) report = report.status ≡ option_map_or (λ departed. 1) (strict_verdict p units script) 0
+-- what `replay --strict`, perhaps with `--complete`, may write of a program text, the text of its certificate and the text of
+-- a script: its status is 0 exactly where no line departs
+abbrev pub IsStrictJudged : (complete : Bool) → (units : ℕ) → (script : List ℕ) → Judgement → Report → Type 0
+IsStrictJudged complete units script (refused said) report = report ≡ said
+IsStrictJudged complete units script (accepted p) report = report.status ≡ option_map_or (λ departed. 1) (strict_verdict complete p units script) 0
 
-abbrev pub IsStrictReport : (units : ℕ) → (program certificate script : List ℕ) → Report → Type 0
-IsStrictReport units program certificate script report = IsStrictJudged units script (judgement program certificate) report
+abbrev pub IsStrictReport : (complete : Bool) → (units : ℕ) → (program certificate script : List ℕ) → Report → Type 0
+IsStrictReport complete units program certificate script report = IsStrictJudged complete units script (judgement program certificate) report
 
 -- ---- for private functions only: a machine passes a line with this content, or the line departs
 
-abbrev pub departs_from : (names : List (List ℕ)) → MachineView → (number : ℕ) → (content : List ℕ) → Further → Option Departed
-departs_from names m number content further = line_departs names m.accepted.program (units_of m) number (length m.history) (state_of m) content further
+abbrev pub departs_from : (complete : Bool) → (names : List (List ℕ)) → MachineView → (number : ℕ) → (content : List ℕ) → Further → Option Departed
+departs_from complete names m number content further = line_departs complete names m.accepted.program (units_of m) number (length m.history) (state_of m) content further
 
-abbrev pub Passes : (names : List (List ℕ)) → MachineView → (number : ℕ) → (content : List ℕ) → MachineView → Type 0
-Passes names m number content m' = SameRing m m' × ((further : Further) → departs_from names m number content further ≡ further (length m'.history) (state_of m'))
+abbrev pub Passes : (complete : Bool) → (names : List (List ℕ)) → MachineView → (content : List ℕ) → MachineView → Type 0
+Passes complete names m content m' =
+    SameRing m m' × ((number : ℕ) (further : Further) → departs_from complete names m number content further ≡ further (length m'.history) (state_of m'))
 
-abbrev pub Departs : (names : List (List ℕ)) → MachineView → (number : ℕ) → (content : List ℕ) → Departure → Type 0
-Departs names m number content why = (further : Further) → departs_from names m number content further ≡ Some (departed number why)
+abbrev pub Departs : (complete : Bool) → (names : List (List ℕ)) → MachineView → (content : List ℕ) → Departure → Type 0
+Departs complete names m content why = (number : ℕ) (further : Further) → departs_from complete names m number content further ≡ Some (departed number why)

@@ -1,19 +1,19 @@
 //! Whether an event did what was expected of it.
 
 ghost use Rattle.std.specs.Prelude.{◌≡◌, ◌==◌, false};
-ghost use Rattle.std.specs.Option.{option_map_or};
-ghost use Rattle.std.specs.List.{slice_split};
+ghost use Rattle.std.specs.Option.{option_copied, option_map_or};
+ghost use Rattle.std.specs.List.{find, slice_split};
 ghost use Rattle.std.specs.Prelude.{map};
 ghost use Rattle.strict_replay.specs.StrictScript.{expectation_in, expected_parts, trimmed};
-ghost use Rattle.strict_replay.specs.StrictReplay.{awaited, done_by, first_unmet, is_met, is_refused_so, refusal_told, refusal_unmet, unmet};
+ghost use Rattle.strict_replay.specs.StrictReplay.{awaited, done_by, first_unmet, content_departs, deed_departs, end_departs, first_not_listed, is_listed, is_met, is_refused_so, lacks, refusal_told, refusal_unmet, spells, to_list, told_departs, unmet};
 
 use crate::departure::Departure;
 use crate::expectation::{Expectation, ExpectedRefusal};
-use crate::reading::{colon_in, expectation_in, trimmed};
+use crate::reading::{colon_in, expectation_in, expects_refusal, refusal_in, trimmed};
 use event_trace::change::Change;
 use event_trace::told::Told;
 use event_trace::unit_change::UnitChange;
-use machine_model::event::Refused;
+use machine_model::event::{Refused, Standing};
 use mips_instructions::number::Reg;
 use text_pieces::cutting::cut;
 
@@ -57,7 +57,10 @@ fn unmet(changes: &[Change], number: usize, part: &[u8]) -> Option<Departure>
 {
     match expectation_in(trimmed(part)) {
         Some(expected) if is_met(changes, expected) => None,
-        Some(expected) => Some(Departure::Missed(expected)),
+        Some(expected) => Some(Departure::Missed {
+            part: number,
+            expected,
+        }),
         None => Some(Departure::Unread(number)),
     }
 }
@@ -79,11 +82,103 @@ fn first_unmet_of(changes: &[Change], text: &[u8]) -> Option<Departure>
 }
 
 /// The first expectation of a line that is not met.
-pub(crate) fn first_unmet(changes: &[Change], content: &[u8]) -> Option<Departure>
+fn first_unmet(changes: &[Change], content: &[u8]) -> Option<Departure>
     ensures { result ≡ first_unmet changes.now 1 (expected_parts content.now) }
 {
     let colon = colon_in(content)?;
     first_unmet_of(changes, &content[colon + 1..])
+}
+
+/// What a line of a complete script must list of a change.
+pub(crate) fn to_list(change: Change) -> Option<Expectation>
+    ensures { result ≡ to_list change }
+{
+    match change {
+        Change::Took { .. } => None,
+        _ => done_by(change),
+    }
+}
+
+/// Whether a part spells this.
+fn spells(part: &[u8], done: &Expectation) -> bool
+    ensures { result ≡ spells (trimmed part.now) done.now }
+{
+    match expectation_in(trimmed(part)) {
+        Some(read) => read == *done,
+        None => false,
+    }
+}
+
+/// Whether one of the expectations of a text is this.
+fn is_listed_in(text: &[u8], done: &Expectation) -> bool
+    ensures { result ≡ is_listed (map trimmed (slice_split (λ byte. byte == 44) text.now)) done.now }
+{
+    let mut rest = text;
+    while let Some((part, others)) = cut(b',', rest) {
+        if spells(part, done) {
+            return true;
+        }
+        rest = others;
+    }
+    spells(rest, done)
+}
+
+/// Whether a line lists this.
+fn is_listed(content: &[u8], done: &Expectation) -> bool
+    ensures { result ≡ is_listed (expected_parts content.now) done.now }
+{
+    match colon_in(content) {
+        Some(colon) => is_listed_in(&content[colon + 1..], done),
+        None => false,
+    }
+}
+
+/// Whether a line does not list a change that a complete script must list.
+pub(crate) fn lacks(content: &[u8], change: &Change) -> bool
+    ensures { result ≡ lacks (expected_parts content.now) change.now }
+{
+    match to_list(*change) {
+        Some(done) => !is_listed(content, &done),
+        None => false,
+    }
+}
+
+/// The first change that a line does not list.
+fn first_lacking<'a>(changes: &'a [Change], content: &[u8]) -> Option<&'a Change>
+    ensures { option_copied result ≡ find (lacks (expected_parts content.now)) changes.now }
+{
+    changes.iter().find(|change| lacks(content, change))
+}
+
+/// How a line of a complete script departs at the first change that it does not list, if it does.
+fn first_not_listed(is_complete: bool, changes: &[Change], content: &[u8]) -> Option<Departure>
+    ensures { result ≡ first_not_listed is_complete changes.now (expected_parts content.now) }
+{
+    if !is_complete {
+        return None;
+    }
+    let change = first_lacking(changes, content)?;
+    Some(Departure::NotListed(*change))
+}
+
+/// How a line departs from what its event did, if it does.
+fn deed_departs(is_complete: bool, changes: &[Change], content: &[u8]) -> Option<Departure>
+    ensures { result ≡ deed_departs is_complete changes.now (expected_parts content.now) }
+{
+    match first_unmet(changes, content) {
+        Some(why) => Some(why),
+        None => first_not_listed(is_complete, changes, content),
+    }
+}
+
+/// How the end of a script departs, if it does.
+pub(crate) fn end_departs(is_complete: bool, standing: Standing) -> Option<Departure>
+    ensures { result ≡ end_departs is_complete standing }
+{
+    match standing {
+        Standing::Running if is_complete => Some(Departure::NotEnded),
+        _ => None,
+    }
 }
 
 /// Why an event was refused, if it was.
@@ -97,7 +192,7 @@ fn refusal_told(told: &Told) -> Option<Refused>
 }
 
 /// The register that is waited for.
-fn awaited(refusal: Refused) -> Option<Reg>
+pub(crate) fn awaited(refusal: Refused) -> Option<Reg>
     ensures { result ≡ awaited refusal }
 {
     match refusal {
@@ -130,10 +225,7 @@ fn is_refused_so(refusal: Refused, expected: &ExpectedRefusal) -> bool
 }
 
 /// How a line departs that expects a refusal, if it does.
-fn refusal_unmet_by(
-    expected: Option<ExpectedRefusal>,
-    refusal: Option<Refused>,
-) -> Option<Departure>
+fn refusal_unmet(expected: Option<ExpectedRefusal>, refusal: Option<Refused>) -> Option<Departure>
     ensures { result ≡ refusal_unmet expected refusal }
 {
     let Some(expected) = expected else {
@@ -150,9 +242,23 @@ fn refusal_unmet_by(
     }
 }
 
-/// How a line departs that expects this refusal of an event, if it does.
-pub(crate) fn refusal_unmet(expected: Option<ExpectedRefusal>, told: &Told) -> Option<Departure>
-    ensures { result ≡ refusal_unmet expected (refusal_told told.now) }
+/// How a line that expects no refusal departs by what is told of its event, if it does.
+fn told_departs(is_complete: bool, content: &[u8], told: &Told) -> Option<Departure>
+    ensures { result ≡ told_departs is_complete (expected_parts content.now) told.now }
 {
-    refusal_unmet_by(expected, refusal_told(told))
+    match told {
+        Told::Taken(changes) => deed_departs(is_complete, changes, content),
+        Told::Refused(refusal) => Some(Departure::NotAllowed(*refusal)),
+    }
+}
+
+/// How a line departs by what is told of its event, if it does.
+pub(crate) fn content_departs(is_complete: bool, content: &[u8], told: &Told) -> Option<Departure>
+    ensures { result ≡ content_departs is_complete content.now told.now }
+{
+    if expects_refusal(content) {
+        refusal_unmet(refusal_in(content), refusal_told(told))
+    } else {
+        told_departs(is_complete, content, told)
+    }
 }

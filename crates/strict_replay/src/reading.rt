@@ -170,7 +170,7 @@ fn number_in(radix: u32, text: &[u8]) -> Option<u64>
 
 /// The word that `0x` and hexadecimal digits or decimal digits spell.
 #[tactic(auto, unfolding(program_tokens::specs::Numbers::magnitude_of))]
-fn word_in(text: &[u8]) -> Option<u32>
+pub(crate) fn word_in(text: &[u8]) -> Option<u32>
     ensures { result ≡ word_in text.now }
 {
     let number = if text.starts_with(b"0x".as_slice()) {

@@ -4,15 +4,18 @@ ghost use Rattle.std.specs.Prelude.{IfOk};
 ghost use Rattle.report_texts.specs.CertificateTexts.{OfCertificate};
 ghost use Rattle.strict_replay.specs.StrictReplay.{IsStrictReport};
 
-use crate::judging::judge as judge_script;
-use jobs::job::{CertificateSource, Texts};
+use crate::judging::{Verdict, judge as judge_script};
+use crate::text::Page;
+use event_trace::places::places;
+use jobs::job::{CertificateSource, Texts, VerdictFormat};
 use limits::ranges::Units;
 use report_texts::judging::{Judged, judge};
 use report_texts::report::JobReport;
 use std::alloc::{AllocError, Global};
+use task_descriptor::program::Program;
 
 /// What `replay --strict` writes of a program text, the text of its certificate and the text of a script, on a
-/// machine of `units` units.
+/// machine of `units` units. A complete script lists all that its events did, and ends its run.
 ///
 /// # Errors
 ///
@@ -21,18 +24,45 @@ pub fn replay_strictly(
     alloc: Global,
     source: CertificateSource,
     units: Units,
+    is_complete: bool,
+    format: VerdictFormat,
     texts: &Texts,
 ) -> Result<JobReport, AllocError>
     ensures { IfOk result (λ report. OfCertificate source texts.now.program.items texts.now.certificate (λ certificate.
-        IsStrictReport units texts.now.program.items certificate texts.now.script.items report)) }
+        IsStrictReport is_complete units texts.now.program.items certificate texts.now.script.items report)) }
 {
     match judge(alloc, source, texts)? {
         Judged::Refused(report) => Ok(report),
         Judged::Accepted(accepted) => {
-            let text = texts.program.as_slice();
-            let verdict = judge_script(alloc, &accepted, units.get(), text, &texts.script)?;
+            let verdict = judge_script(alloc, &accepted, units.get(), &texts.script, is_complete)?;
             let status = if verdict.departed.is_some() { 1 } else { 0 };
-            Ok(JobReport::new(verdict.text.into_bytes(), status))
+            let said = said_of(alloc, accepted.program(), units, format, texts, &verdict)?;
+            Ok(JobReport::new(said, status))
         }
+    }
+}
+
+/// What is told of a script.
+fn said_of(
+    alloc: Global,
+    program: &Program,
+    units: Units,
+    format: VerdictFormat,
+    texts: &Texts,
+    verdict: &Verdict<'_>,
+) -> Result<Vec<u8>, AllocError> {
+    let program_text = texts.program.as_slice();
+    let places = places(alloc, program_text)?;
+    let page = Page {
+        alloc,
+        program,
+        program_text,
+        places: &places,
+        script: &texts.script,
+        units,
+    };
+    match format {
+        VerdictFormat::Text => Ok(page.text_of(verdict)?.into_bytes()),
+        VerdictFormat::Json => page.object_of(verdict),
     }
 }

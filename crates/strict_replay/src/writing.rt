@@ -3,7 +3,7 @@
 ghost use Rattle.std.specs.Prelude.{◌<◌, ◌≤◌};
 
 use crate::expectation::Expectation;
-use crate::expected::done_by;
+use crate::expected::to_list;
 use event_script::writing::write_event;
 use event_trace::change::Change;
 use event_trace::told::Told;
@@ -44,15 +44,21 @@ pub fn write_valued(
     Ok(text.into_bytes())
 }
 
-// Adds what changes did: the first after a colon, each other after a comma. That a register was taken over from the unit
-// before is not said.
+// Adds what changes did after a colon, if they did anything.
 fn write_done(text: &mut String, changes: &[Change]) -> Result<(), AllocError> {
-    let mut before = " : ";
+    write_list(text, " : ", changes)
+}
+
+/// Adds what changes did: the first after these words, each other after a comma. That a register was taken over from the
+/// unit before is not said.
+pub(crate) fn write_list(
+    text: &mut String,
+    words: &str,
+    changes: &[Change],
+) -> Result<(), AllocError> {
+    let mut before = words;
     for change in changes {
-        if matches!(change, Change::Took { .. }) {
-            continue;
-        }
-        if let Some(done) = done_by(*change) {
+        if let Some(done) = to_list(*change) {
             text.push_str(before)?;
             write_expectation(text, done)?;
             before = ", ";
@@ -61,7 +67,11 @@ fn write_done(text: &mut String, changes: &[Change]) -> Result<(), AllocError> {
     Ok(())
 }
 
-fn write_expectation(text: &mut String, expected: Expectation) -> Result<(), AllocError> {
+/// Adds an expectation, as a script spells it.
+pub(crate) fn write_expectation(
+    text: &mut String,
+    expected: Expectation,
+) -> Result<(), AllocError> {
     match expected {
         Expectation::Register { register, word } => {
             let number = register.get();
@@ -81,7 +91,8 @@ fn write_expectation(text: &mut String, expected: Expectation) -> Result<(), All
     }
 }
 
-fn write_standing(text: &mut String, standing: Standing) -> Result<(), AllocError> {
+/// Adds how a run stands, as a script spells it.
+pub(crate) fn write_standing(text: &mut String, standing: Standing) -> Result<(), AllocError> {
     match standing {
         Standing::Running => write!(text, "running"),
         Standing::Halted => write!(text, "halted"),

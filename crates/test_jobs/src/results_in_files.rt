@@ -3,7 +3,7 @@
 use crate::bench::Bench;
 use crate::files::HeldFile;
 use crate::writers::HeldBack;
-use program_edge::answer::answer;
+use program_edge::answer::answer_reader;
 use program_edge::asked::asked_by;
 use program_edge::named_files::NamedFiles;
 use program_edge::unread::UnreadReason;
@@ -232,7 +232,7 @@ fn expect(
     let line = words_of(rt, alloc, words);
     let asked = asked_by(alloc, line.as_slice());
     let files = SameText { alloc, text };
-    let ending = answer(
+    let ending = answer_reader(
         rt,
         alloc,
         asked,
@@ -240,6 +240,7 @@ fn expect(
         &mut shelf,
         &mut written,
         &mut told,
+        false,
     );
     assert!(rt; ending.status == status, "{words}");
     assert!(rt; written.as_slice() == output.as_bytes(), "{words}");

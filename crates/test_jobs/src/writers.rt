@@ -68,7 +68,8 @@ fn expect_written(
         script: Vec::new(alloc),
     };
     let mut writer = HeldBack::new(alloc, room);
-    let answer = serve(rt, alloc, &Job::Print, &texts, &mut writer);
+    let print = Job::Print { listing: false };
+    let answer = serve(rt, alloc, &print, &texts, &mut writer);
     assert!(rt; answer == expected, "room for {room}");
     assert!(rt; writer.arrived.as_slice() == arrived, "room for {room}");
 }

@@ -4,8 +4,8 @@ use Rattle.std.specs.Option.{option_map}
 use Rattle.std.specs.String.{string_bytes}
 use Rattle.report_texts.specs.OutputTexts.{Report}
 use Rattle.report_texts.specs.SeqText.{seq_text}
-use Rattle.report_texts.specs.PrintText.{print_text}
-use Rattle.report_texts.specs.CheckText.{check_text}
+use Rattle.report_texts.specs.PrintText.{IsPrintReport}
+use Rattle.report_texts.specs.CheckText.{IsCheckReport, check_text}
 use Rattle.verdict_report.specs.ReplayText.{IsReplayText}
 use Rattle.verdict_report.specs.RunText.{IsRunText}
 use Rattle.verdict_report.specs.CurveText.{IsCurveText}
@@ -23,16 +23,17 @@ use Rattle.jobs.specs.declared.job.Texts.{Texts}
 -- program's own, the status and what is written of is known, and not its bytes. With the least certificate it is what the job writes with the text of `annotate --emit keep` in its place
 abbrev pub IsReportOf : Job → Texts → Report → Type 0
 IsReportOf (Seq budget) texts report = report ≡ seq_text budget texts.program.items
-IsReportOf Print texts report = report ≡ print_text texts.program.items
+IsReportOf (Print listing) texts report = IsPrintReport listing texts.program.items report
 IsReportOf (Annotate emit) texts report = IsAnnotateReport emit texts.program.items report
 IsReportOf (Explain name certificate script warnings format colors) texts report =
     IsExplainReport (option_map string_bytes certificate) (option_map string_bytes script) warnings texts.program.items texts.certificate texts.script.items report
-IsReportOf (Check source workers) texts report =
-    OfCertificate source texts.program.items texts.certificate (λ certificate. report ≡ check_text texts.program.items certificate)
+IsReportOf (Check source workers format) texts report =
+    (said : Report) × OfCertificate source texts.program.items texts.certificate (λ certificate. said ≡ check_text texts.program.items certificate)
+    × IsCheckReport format said report
 IsReportOf (Replay source units emit until) texts report =
     OfCertificate source texts.program.items texts.certificate (λ certificate. IsReplayText emit units until texts.program.items certificate texts.script.items report)
-IsReportOf (ReplayStrictly source units) texts report =
-    OfCertificate source texts.program.items texts.certificate (λ certificate. IsStrictReport units texts.program.items certificate texts.script.items report)
+IsReportOf (ReplayStrictly source units complete format) texts report =
+    OfCertificate source texts.program.items texts.certificate (λ certificate. IsStrictReport complete units texts.program.items certificate texts.script.items report)
 IsReportOf (Run source schedule units workers budget predict emit) texts report =
     OfCertificate source texts.program.items texts.certificate (λ certificate.
     IsRunText schedule units budget predict emit texts.program.items certificate report)

@@ -3,6 +3,9 @@ ghost use Rattle.std.specs.Prelude.{◌≡◌, ◌≢◌, ◌⊎◌, Err, true, 
 ghost use Rattle.std.specs.Io.KnownBytes.{Appends, Keeps};
 ghost use Rattle.verdict_report.specs.CurveProgress.{IsProgress, progress_lines};
 ghost use Rattle.report_texts.specs.CertificateTexts.{OfCertificate};
+ghost use Rattle.report_texts.specs.CheckText.{IsCheckReport, check_text};
+ghost use Rattle.report_texts.specs.OutputTexts.{Report};
+ghost use Rattle.report_texts.specs.PrintText.{IsPrintReport};
 ghost use Rattle.result_files.specs.Writing.{Grows};
 ghost use Rattle.verdict_report.specs.Delivering.{IsAdded, IsBegun, is_cut};
 ghost use Rattle.verdict_report.specs.JobTexts.{IsCutOff, IsDone, IsReportOf};
@@ -19,17 +22,19 @@ use crate::running::run;
 use demonstration::report::demonstrate;
 use event_trace::streaming::StreamFault;
 use explain_report::explaining::explain;
-use jobs::job::{CertificateSource, Job, ReplayEmit, Texts};
-use limits::ranges::{Budget, Units};
+use jobs::job::{CertificateSource, CheckFormat, Job, ReplayEmit, Texts};
+use limits::ranges::{Budget, Units, Workers};
 use machine_model::event::Event;
 use mark_checker::accept::Accepted;
 use report_texts::annotating::annotate;
+use report_texts::check_lines::check_lines;
 use report_texts::checking::check;
+use report_texts::listing::listing;
 use report_texts::printing::print;
 use report_texts::report::JobReport;
 use report_texts::sequential::seq;
 use result_files::writing::write_bytes;
-use std::alloc::Global;
+use std::alloc::{AllocError, Global};
 use std::io::Write;
 use std::sync::Wait;
 use std::thread::Threads;
@@ -205,7 +210,7 @@ fn report_of<R: Threads + Wait + Sync>(
     let program = texts.program.as_slice();
     match job {
         Job::Seq { budget } => Ok(seq(alloc, *budget, program)?),
-        Job::Print => Ok(print(alloc, program)?),
+        Job::Print { listing } => Ok(print_in(alloc, *listing, program)?),
         Job::Annotate { emit } => Ok(annotate(alloc, *emit, program)?),
         Job::Explain {
             name,
@@ -230,15 +235,22 @@ fn report_of<R: Threads + Wait + Sync>(
         Job::Check {
             certificate,
             workers,
-        } => Ok(check(rt, alloc, *certificate, *workers, texts)?),
+            format,
+        } => Ok(check_in(rt, alloc, *certificate, *workers, *format, texts)?),
         Job::Replay {
             certificate,
             units,
             emit,
             until,
         } => Ok(replay(alloc, *certificate, *units, *emit, *until, texts)?),
-        Job::ReplayStrictly { certificate, units } => {
-            Ok(replay_strictly(alloc, *certificate, *units, texts)?)
+        Job::ReplayStrictly {
+            certificate,
+            units,
+            is_complete,
+            format,
+        } => {
+            let complete = *is_complete;
+            Ok(replay_strictly(alloc, *certificate, *units, complete, *format, texts)?)
         }
         Job::Run {
             certificate,
@@ -267,6 +279,36 @@ fn report_of<R: Threads + Wait + Sync>(
         Job::Demonstrate { units, steps, emit } => {
             Ok(demonstrate(alloc, *units, *steps, *emit, program)?)
         }
+    }
+}
+
+// What `print` writes: the canonical text, or the listing.
+fn print_in(alloc: Global, is_listed: bool, program: &[u8]) -> Result<JobReport, AllocError>
+    ensures { IfOk result (IsPrintReport is_listed program.now) }
+{
+    if is_listed {
+        listing(alloc, program)
+    } else {
+        print(alloc, program)
+    }
+}
+
+// What `check` writes in a format.
+fn check_in<R: Threads + Sync>(
+    rt: &R,
+    alloc: Global,
+    source: CertificateSource,
+    workers: Workers,
+    format: CheckFormat,
+    texts: &Texts,
+) -> Result<JobReport, AllocError>
+    ensures { IfOk result (λ report. (said : Report) × OfCertificate source texts.now.program.items texts.now.certificate (λ certificate.
+        said ≡ check_text texts.now.program.items certificate) × IsCheckReport format said report) }
+{
+    let report = check(rt, alloc, source, workers, texts)?;
+    match format {
+        CheckFormat::Text => Ok(report),
+        CheckFormat::Json => check_lines(alloc, texts.name.as_str(), &texts.program, &report),
     }
 }
 

@@ -1,9 +1,6 @@
-use Rattle.std.proofs.Common.{◌≡◌, ◌<◌, ◌≤◌, length, sym, ap, ◌∙◌, arith}
-use Rattle.std.specs.Prelude.{option_to_list, slice_index_or}
-use Rattle.std.proofs.lemmas.List.{get_or_default}
-use Rattle.mips_plain.specs.PlainMachine.{State as PlainState, plain, reads_when}
-use Rattle.mips_plain.specs.declared.outcome.Read.{Read}
-use Rattle.task_descriptor.specs.Listing.{input}
+use Rattle.demonstration.proofs.Imports.{sym, ap, ◌∙◌, arith, option_to_list, slice_index_or, get_or_default, plain, reads_when, Read, input}
+use Rattle.std.proofs.Common.{◌≡◌, ◌<◌, ◌≤◌, length}
+use Rattle.mips_plain.specs.PlainMachine.{State as PlainState}
 use Rattle.demonstration.proofs.PlainReads.{reads_zero}
 use Rattle.demonstration.proofs.Judging.{item_at, right_there, one_more_read, agreed, not_agreed}
 use Rattle.demonstration.proofs.judge.compare.Goals as goal

@@ -1,9 +1,5 @@
 -- The run is not cut off, and the head has no wrong word.
-use Rattle.std.proofs.Common.{sym, subst}
-use Rattle.mips_plain.specs.PlainView.{machine_state}
-use Rattle.machine_model.specs.declared.event.Standing.{Standing}
-use Rattle.open_machine.specs.Machines.{state}
-use Rattle.demonstration.specs.Shown.{IsCutAt}
+use Rattle.demonstration.proofs.Imports.{sym, subst, machine_state, Standing, state, IsCutAt}
 use Rattle.demonstration.proofs.Harmless.{no_harm_so, reads_right_so}
 use Rattle.demonstration.proofs.judge.harm_after.Goals as goal
 

@@ -1,10 +1,5 @@
-use Rattle.std.proofs.Common.{◌≡◌, Bool, Some, not, refl, sym, subst, ap, ◌∙◌}
-use Rattle.std.proofs.lemmas.Bool.{false≢true}
-use Rattle.std.specs.Prelude.{slice_get, IsTrue}
-use Rattle.mips_instructions.specs.declared.instruction.Op.{Op}
-use Rattle.task_descriptor.specs.declared.descriptor.Marked.{Marked}
-use Rattle.task_graph.specs.Edges.{is_indirect}
-use Rattle.unit_core.proofs.UnitLemmas.{item_there}
+use Rattle.demonstration.proofs.Imports.{refl, sym, subst, ap, ◌∙◌, false≢true, slice_get, IsTrue, Op, Marked, is_indirect, item_there}
+use Rattle.std.proofs.Common.{◌≡◌, Bool, Some, not}
 use Rattle.demonstration.proofs.Judging.{fetch_found, index_within, no_fetch, not_so}
 use Rattle.demonstration.proofs.judge.names_its_place.Goals as goal
 

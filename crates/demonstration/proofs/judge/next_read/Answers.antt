@@ -1,10 +1,5 @@
-use Rattle.std.proofs.Common.{◌≡◌, ℕ, Option, Some, None, [], ◌∷◌, unwrap_or, sym, ap, ◌∙◌}
-use Rattle.std.specs.Prelude.{slice_get}
-use Rattle.mips_instructions.specs.Instruction.{reg_a, reg_b}
-use Rattle.mips_plain.specs.PlainView.{machine_state}
-use Rattle.task_descriptor.specs.Listing.{input, instruction_at}
-use Rattle.task_descriptor.specs.declared.descriptor.Marked.{Marked}
-use Rattle.unit_core.proofs.UnitLemmas.{item_there}
+use Rattle.demonstration.proofs.Imports.{sym, ap, ◌∙◌, slice_get, reg_a, reg_b, machine_state, input, instruction_at, Marked, item_there}
+use Rattle.std.proofs.Common.{◌≡◌, ℕ, Option, Some, None, [], ◌∷◌, unwrap_or}
 use Rattle.demonstration.proofs.Judging.{running_reads, no_fetch, fetch_found, index_within}
 use Rattle.demonstration.proofs.judge.next_read.Goals as goal
 

@@ -1,6 +1,5 @@
-use Rattle.std.proofs.Common.{◌≡◌, ◌<◌, Some, length, refl, arith}
-use Rattle.std.specs.Prelude.{slice_get}
-use Rattle.std.proofs.lemmas.Option.{slice_get_read}
+use Rattle.demonstration.proofs.Imports.{refl, arith, slice_get, slice_get_read}
+use Rattle.std.proofs.Common.{◌≡◌, ◌<◌, Some, length}
 use Rattle.demonstration.proofs.Judging.{refused_at}
 use Rattle.demonstration.proofs.judge.play.Goals as goal
 

@@ -1,8 +1,5 @@
 -- the machine after the events so far
-use Rattle.std.specs.Prelude.{◌≡◌, ◌≤◌, take}
-use Rattle.machine_model.specs.Answer.{most_events}
-use Rattle.machine_model.specs.Replay.{Replays}
-use Rattle.open_machine.specs.Machines.{state, units_of}
+use Rattle.demonstration.proofs.Imports.{◌≡◌, ◌≤◌, take, most_events, Replays, state, units_of}
 use Rattle.demonstration.proofs.judge.play.Given as goal
 
 abbrev pub invariant-loop-index : goal.invariant-loop-index

@@ -1,6 +1,5 @@
 -- what is left of the number, among the commits that are left
-use Rattle.std.specs.Prelude.{◌≡◌, drop}
-use Rattle.demonstration.specs.Shown.{reading_task}
+use Rattle.demonstration.proofs.Imports.{◌≡◌, drop, reading_task}
 use Rattle.demonstration.proofs.judge.task_of_read.Given as goal
 
 abbrev pub invariant-loop-commit : goal.invariant-loop-commit

@@ -1,10 +1,7 @@
 -- The register of this turn has the right word, as those before.
-use Rattle.std.proofs.Common.{◌≡◌, None, sym, arith}
-use Rattle.mips_plain.specs.PlainView.{machine_state}
-use Rattle.machine_model.specs.Machine.{Active, value}
-use Rattle.open_machine.specs.Machines.{state}
+use Rattle.demonstration.proofs.Imports.{sym, arith, machine_state, Active, value, state, wrong_word}
+use Rattle.std.proofs.Common.{◌≡◌, None}
 use Rattle.unit_core.specs.Units.{active_of}
-use Rattle.demonstration.specs.Judging.{wrong_word}
 use Rattle.demonstration.proofs.Harmless.{one_more_right}
 use Rattle.demonstration.proofs.judge.wrong_word.Goals as goal
 

@@ -1,10 +1,5 @@
-use Rattle.std.proofs.Common.{◌≡◌, Some, sym, ap, ◌∙◌}
-use Rattle.std.specs.Prelude.{slice_get, Option}
-use Rattle.mips_instructions.specs.declared.instruction.Op.{Op}
-use Rattle.mips_instructions.specs.Instruction.{dests}
-use Rattle.task_descriptor.specs.declared.descriptor.Marked.{Marked}
-use Rattle.unit_core.proofs.UnitLemmas.{item_there}
-use Rattle.demonstration.specs.LastWriter.{is_written_by}
+use Rattle.demonstration.proofs.Imports.{sym, ap, ◌∙◌, slice_get, Option, Op, dests, Marked, item_there, is_written_by}
+use Rattle.std.proofs.Common.{◌≡◌, Some}
 use Rattle.demonstration.proofs.Judging.{fetch_found, index_within, no_fetch}
 use Rattle.demonstration.proofs.last_writer.is_writer.Goals as goal
 

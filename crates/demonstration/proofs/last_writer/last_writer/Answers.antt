@@ -1,9 +1,6 @@
-use Rattle.std.proofs.Common.{◌≡◌, Bool, Some, ℕ, suc, if◌then◌else◌, sym, ap, subst, ◌∙◌, add-one, arith}
-use Rattle.std.specs.Prelude.{◌&&◌, not}
-use Rattle.mips_plain.specs.PlainMachine.{State as PlainState, fetch}
-use Rattle.task_descriptor.specs.Listing.{input}
-use Rattle.machine_model.specs.Claims.{plain_of}
-use Rattle.demonstration.specs.LastWriter.{HasWordFrom, is_trapped, is_written_by, writes_in_step}
+use Rattle.demonstration.proofs.Imports.{sym, ap, subst, ◌∙◌, add-one, arith, ◌&&◌, not, fetch, input, plain_of, HasWordFrom, is_trapped, is_written_by, writes_in_step}
+use Rattle.std.proofs.Common.{◌≡◌, Bool, Some, ℕ, suc, if◌then◌else◌}
+use Rattle.mips_plain.specs.PlainMachine.{State as PlainState}
 use Rattle.demonstration.proofs.PlainReads.{few_reads}
 use Rattle.demonstration.proofs.Writing.{after_step, unwritten}
 use Rattle.demonstration.proofs.last_writer.last_writer.Goals as goal

@@ -1,7 +1,5 @@
 -- the plain machine after the steps so far, and who wrote the register last in them
-use Rattle.mips_plain.specs.PlainView.{IsAfter}
-use Rattle.task_descriptor.specs.Listing.{input}
-use Rattle.demonstration.specs.LastWriter.{HasWordFrom}
+use Rattle.demonstration.proofs.Imports.{IsAfter, input, HasWordFrom}
 use Rattle.demonstration.proofs.last_writer.last_writer.Given as goal
 
 abbrev pub invariant-loop-made : goal.invariant-loop-made

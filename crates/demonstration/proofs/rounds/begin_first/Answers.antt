@@ -1,6 +1,6 @@
 -- The first that may begin is among those that are left.
-use Rattle.std.proofs.Common.{◌≡◌, List, length, ap, ◌∙◌, arith}
-use Rattle.task_descriptor.specs.Listing.{Listing}
+use Rattle.demonstration.proofs.Imports.{ap, ◌∙◌, arith, Listing}
+use Rattle.std.proofs.Common.{◌≡◌, List, length}
 use Rattle.task_descriptor.specs.declared.descriptor.Descriptor.{Descriptor}
 use Rattle.demonstration.proofs.Rounding.{first_begins_now, first_is_among, first_of_all}
 use Rattle.demonstration.proofs.rounds.begin_first.Goals as goal

@@ -1,6 +1,5 @@
 -- no task so far may begin, so that the first that may is among the others
-use Rattle.std.specs.Prelude.{◌≡◌, ◌-◌, length}
-use Rattle.demonstration.specs.Rounds.{first_begins}
+use Rattle.demonstration.proofs.Imports.{◌≡◌, ◌-◌, length, first_begins}
 use Rattle.demonstration.proofs.rounds.begin_first.Given as goal
 
 abbrev pub invariant-loop-task : goal.invariant-loop-task

@@ -1,10 +1,7 @@
 -- The tail has not stopped, so that a task begins only where one is guessed.
-use Rattle.std.proofs.Common.{◌≡◌, List, Some, None, true, length, refl, sym, ap, ◌∙◌}
-use Rattle.std.specs.Prelude.{slice_get}
-use Rattle.std.proofs.lemmas.Option.{slice_get_past, slice_get_read}
+use Rattle.demonstration.proofs.Imports.{refl, sym, ap, ◌∙◌, slice_get, slice_get_past, slice_get_read, Event, has_open_tail, next_place, state_after}
+use Rattle.std.proofs.Common.{◌≡◌, List, Some, None, true, length}
 use Rattle.std.proofs.lemmas.Result.{on_ok_weaker}
-use Rattle.machine_model.specs.declared.event.Event.{Event}
-use Rattle.demonstration.specs.Rounds.{has_open_tail, next_place, state_after}
 use Rattle.demonstration.proofs.Rounding.{begins_guessed, begins_no_guess}
 use Rattle.demonstration.proofs.rounds.begin_on_free.Goals as goal
 

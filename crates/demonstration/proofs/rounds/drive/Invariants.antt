@@ -1,6 +1,5 @@
 -- as many rounds so far; and on more units, if one was free each time
-use Rattle.std.specs.Prelude.{◌≡◌, ◌≤◌, ℕ, IsTrue}
-use Rattle.demonstration.specs.Rounds.{rounds}
+use Rattle.demonstration.proofs.Imports.{◌≡◌, ◌≤◌, ℕ, IsTrue, rounds}
 use Rattle.demonstration.proofs.rounds.drive.Given as goal
 
 abbrev pub invariant-loop : goal.invariant-loop

@@ -1,7 +1,5 @@
 -- the units so far
-use Rattle.std.specs.Prelude.{◌≡◌, flat_map}
-use Rattle.std.specs.List.{range_with_len}
-use Rattle.demonstration.specs.Rounds.{each_tried, of_unit}
+use Rattle.demonstration.proofs.Imports.{◌≡◌, flat_map, range_with_len, each_tried, of_unit}
 use Rattle.demonstration.proofs.rounds.try_units.Given as goal
 
 abbrev pub invariant-loop-position : goal.invariant-loop-position

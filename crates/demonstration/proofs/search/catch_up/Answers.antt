@@ -1,6 +1,5 @@
 -- The plain machine has made at most as many steps as were asked of it.
-use Rattle.std.proofs.Common.{arith}
-use Rattle.task_descriptor.specs.Listing.{input}
+use Rattle.demonstration.proofs.Imports.{arith, input}
 use Rattle.demonstration.proofs.Searching.{room_to_run}
 use Rattle.demonstration.proofs.search.catch_up.Goals as goal
 

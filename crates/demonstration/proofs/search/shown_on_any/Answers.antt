@@ -1,8 +1,6 @@
 -- The run on this many units is right, too, or the runs on this many and more.
-use Rattle.std.proofs.Common.{min, subst}
-use Rattle.demonstration.specs.Driven.{DrivenView}
-use Rattle.demonstration.specs.Rounds.{run_of, state_after}
-use Rattle.demonstration.specs.Shown.{ReadsRight}
+use Rattle.demonstration.proofs.Imports.{subst, DrivenView, run_of, state_after, ReadsRight}
+use Rattle.std.proofs.Common.{min}
 use Rattle.demonstration.proofs.Searching.{if_none, right_below, right_from, right_on_more}
 use Rattle.demonstration.proofs.search.shown_on_any.Goals as goal
 

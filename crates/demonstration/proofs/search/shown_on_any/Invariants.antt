@@ -1,7 +1,5 @@
 -- the runs on fewer units are right
-use Rattle.std.specs.Prelude.{◌≤◌, ◌<◌, ℕ, min}
-use Rattle.demonstration.specs.Rounds.{run_of, state_after}
-use Rattle.demonstration.specs.Shown.{ReadsRight}
+use Rattle.demonstration.proofs.Imports.{◌≤◌, ◌<◌, ℕ, min, run_of, state_after, ReadsRight}
 use Rattle.demonstration.proofs.search.shown_on_any.Given as goal
 
 abbrev pub invariant-loop-units : goal.invariant-loop-units

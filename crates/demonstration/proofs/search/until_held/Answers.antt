@@ -1,13 +1,6 @@
 -- The machine has tried one event more, and the plain machine has made as many steps.
-use Rattle.std.proofs.Common.{◌≡◌, ◌+◌, ◌<◌, List, [], take, length, sym, subst, ap, ◌∙◌, arith}
-use Rattle.mips_plain.specs.PlainView.{machine_state}
-use Rattle.task_descriptor.specs.Listing.{Listing}
-use Rattle.machine_model.specs.Machine.{State}
-use Rattle.machine_model.specs.declared.event.Event.{Event}
-use Rattle.open_machine.specs.Machines.{state}
-use Rattle.demonstration.specs.Driven.{DrivenView}
-use Rattle.demonstration.specs.Rounds.{each_tried, state_after, tried}
-use Rattle.demonstration.specs.Shown.{HasWrongWord, WordsRight, seen}
+use Rattle.demonstration.proofs.Imports.{sym, subst, ap, ◌∙◌, arith, machine_state, Listing, State, Event, state, DrivenView, each_tried, state_after, tried, HasWrongWord, WordsRight, seen}
+use Rattle.std.proofs.Common.{◌≡◌, ◌+◌, ◌<◌, List, [], take, length}
 use Rattle.demonstration.proofs.Driving.{tried_more}
 use Rattle.demonstration.proofs.Searching.{has_wrong_if, words_at_first, words_if, words_more}
 use Rattle.demonstration.proofs.search.until_held.Goals as goal

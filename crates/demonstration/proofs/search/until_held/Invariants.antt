@@ -1,9 +1,5 @@
 -- after none of the events so far the head has a wrong word
-use Rattle.std.specs.Prelude.{◌≡◌, ◌≤◌, ℕ, [], take}
-use Rattle.mips_plain.specs.PlainView.{IsAfter}
-use Rattle.task_descriptor.specs.Listing.{input}
-use Rattle.demonstration.specs.Rounds.{each_tried, state_after}
-use Rattle.demonstration.specs.Shown.{WordsRight}
+use Rattle.demonstration.proofs.Imports.{◌≡◌, ◌≤◌, ℕ, [], take, IsAfter, input, each_tried, state_after, WordsRight}
 use Rattle.demonstration.proofs.search.until_held.Given as goal
 
 abbrev pub invariant-loop-event : goal.invariant-loop-event

@@ -1,6 +1,5 @@
 -- what is left is shown, on as many units
-use Rattle.std.specs.Prelude.{◌≡◌}
-use Rattle.demonstration.specs.Found.{IsDemonstration}
+use Rattle.demonstration.proofs.Imports.{◌≡◌, IsDemonstration}
 use Rattle.demonstration.proofs.search.without_each.Given as goal
 
 abbrev pub invariant-loop-done : goal.invariant-loop-done

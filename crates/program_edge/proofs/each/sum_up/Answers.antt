@@ -1,18 +1,21 @@
--- The line was written, or there was no memory for it.
-use Rattle.std.proofs.Common.{◌∙◌, inl, inr, refl}
-use Rattle.program_edge.specs.Streams.{World}
-use Rattle.program_edge.proofs.SeveralLemmas.{summed, told_memory}
+-- What comes last was written, or not all of it; or there was no memory for it.
+use Rattle.std.proofs.Common.{inl, inr, refl, subst, sym, ℕ, List}
+use Rattle.program_edge.specs.Several.{IsLast}
 use Rattle.program_edge.proofs.each.sum_up.Goals as goal
 
 pub returns-in-Ok-write_both : goal.returns-in-Ok-write_both
-returns-in-Ok-write_both g c = λ known.
-    let old : World = record { output = g.O.Write.contents c.args.output.now; errors = g.E.Write.contents c.args.errors.now; files = known } in
-    let new : World = record { output = g.O.Write.contents c.write_both.new.output; errors = g.E.Write.contents c.write_both.new.errors; files = known } in
-    summed c.args.tally c.worst_status.result c.as_bytes.result.now old new c.worst_status.ensures
-    (c.as_bytes.ensures.value ∙ c.in-Ok.ensures.line) (c.in-Ok-write_both.ensures.whole known)
+returns-in-Ok-write_both g c = λ known. inr (
+  c.as_slice.result.now,
+  subst (λ (l : List ℕ). IsLast c.args.job.now l) (sym c.as_slice.ensures.value) c.in-Ok.ensures,
+  inl (rw (c.worst_status.ensures) refl, c.in-Ok-write_both.ensures.whole known),
+)
+
+pub returns-in-Ok : goal.returns-in-Ok
+returns-in-Ok g c = λ known. inr (
+  c.as_slice.result.now,
+  subst (λ (l : List ℕ). IsLast c.args.job.now l) (sym c.as_slice.ensures.value) c.in-Ok.ensures,
+  inr (c.in-Err-write_both.ensures.cut known),
+)
 
 pub returns : goal.returns
-returns g c = λ known.
-    let old : World = record { output = g.O.Write.contents c.args.output.now; errors = g.E.Write.contents c.args.errors.now; files = known } in
-    let new : World = record { output = g.O.Write.contents c.tell.new.output; errors = g.E.Write.contents c.tell.new.errors; files = known } in
-    inr (inl (told_memory c.in-Err.lack c.tell.result old new c.in-Err.ensures.memory c.tell.ensures (λ _. refl)))
+returns g c = λ known. inl (c.tell.ensures, λ _. refl)

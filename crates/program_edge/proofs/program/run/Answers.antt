@@ -6,7 +6,9 @@ pub returns : goal.returns
 returns g c = record {
   asked = c.asked-asked.result;
   by_words = c.asked-asked.ensures;
+  settled = c.settle_asked-settled.result;
+  colored = c.settle_asked-settled.ensures;
   ending = c.answer_reader.result;
-  answered = rw (← c.settle_asked-settled.ensures) c.answer_reader.ensures;
+  answered = c.answer_reader.ensures;
   ended = refl;
 }

@@ -1,7 +1,6 @@
 -- The event is the next of the run exactly where the machine allows it.
-use Rattle.std.proofs.Common.{◌≡◌, [], ◌∷◌, ◌++◌, ap, ◌∙◌}
-use Rattle.demonstration.specs.Driven.{DrivenView, driven_of}
-use Rattle.demonstration.specs.Rounds.{tried}
+use Rattle.demonstration.proofs.Imports.{ap, ◌∙◌, DrivenView, driven_of, tried}
+use Rattle.std.proofs.Common.{◌≡◌, [], ◌∷◌, ◌++◌}
 use Rattle.demonstration.proofs.Driving.{allowed_run, refused_run, stays_driven}
 use Rattle.demonstration.proofs.driven.Driven.try_event.Goals as goal
 

@@ -1,0 +1,83 @@
+//! A log of what `explain` says of several programs.
+ghost use Rattle.std.specs.Prelude.{◌≡◌, [], None, IfOk};
+ghost use Rattle.explain_report.specs.ExplainText.{IsExplainReport};
+
+use crate::explained::explained;
+use crate::explaining::mends;
+use crate::explanation::Explanation;
+use crate::given::{Given, final_status};
+use crate::inputs::{joined, program_alone};
+use diagnostic_log::sarif::{Logged, log_text};
+use jobs::job::{Texts, Warnings};
+use operand_forms::rows::lines_of;
+use std::alloc::{AllocError, Global};
+
+/// A program, and what is said of it.
+#[derive(Debug, Drop)]
+pub struct LoggedProgram {
+    name: String,
+    text: Vec<u8>,
+    said: Explanation,
+}
+
+/// Adds what is said of a program text in a file of this name, beside texts that no file is named of, and answers the
+/// status.
+///
+/// # Errors
+///
+/// `AllocError` where memory was refused.
+pub fn add_program(
+    alloc: Global,
+    programs: &mut Vec<LoggedProgram>,
+    warnings: Warnings,
+    name: &str,
+    texts: &Texts,
+) -> Result<u8, AllocError>
+    ensures { IfOk result (λ status. IsExplainReport None None warnings texts.now.program.items texts.now.certificate texts.now.script.items
+        record { bytes = []; status = status }) }
+{
+    let none: Option<String> = None;
+    let certificate = joined(alloc, &texts.certificate)?;
+    let given = Given {
+        name,
+        cert_file: &none,
+        script_file: &none,
+        warnings,
+        text: &texts.program,
+        certificate: &certificate,
+        script: &texts.script,
+    };
+    let said = explained(alloc, &given)?;
+    let status = final_status(warnings, &said);
+    programs.push(LoggedProgram {
+        name: String::from_str(alloc, name)?,
+        text: texts.program.to_vec(alloc)?,
+        said,
+    })?;
+    Ok(status)
+}
+
+/// The log of some programs, in SARIF, where the program ends with this status.
+///
+/// # Errors
+///
+/// `AllocError` where memory was refused.
+pub fn log_of(
+    alloc: Global,
+    programs: &[LoggedProgram],
+    status: u8,
+) -> Result<Vec<u8>, AllocError> {
+    let mut rows = Vec::new(alloc);
+    for program in programs {
+        rows.push(lines_of(alloc, &program.text)?)?;
+    }
+    let mut list = Vec::new(alloc);
+    for (program, rows) in programs.iter().zip(rows.iter()) {
+        list.push(Logged {
+            files: program_alone(program.name.as_str(), rows.as_slice()),
+            diagnostics: program.said.said.as_slice(),
+            mends: mends(&program.said),
+        })?;
+    }
+    log_text(alloc, &list, status)
+}
