@@ -1,7 +1,7 @@
 #!/usr/bin/env python3
 """Makes the scripts of refused events: pieces of the suite's runs, with events between them that are not allowed.
 
-    refusals.py            makes all of them anew
+    refusals.py            makes all of them
     refusals.py --check    says which are not as stored (status 1)
 
 The toy simulator says which event is refused, and why. Each event is tried with each refusal that a script can reach, and

@@ -87,8 +87,10 @@ export class Hand {
     const over = state.standing === 'running' ? 'Nothing is allowed.' : 'The run has ended. Take events back, or start again.';
     const hadFocus = find('allowed').contains(document.activeElement) || document.activeElement === find('undo');
     put(find('allowed'), allowed.length ? allowed.map(group => this.group(group, position)) : make('p', {}, over));
+    find('refused-title').parentElement.hidden = refused.length === 0;
     find('refused-title').textContent = `Not allowed now (${refused.length}): click one to see why`;
     put(find('refused'), refused.map(it => this.refusedButton(it)));
+    find('hand-panel').scrollTop = 0; // where it scrolls, what is allowed is seen
     if (hadFocus && !find('allowed').contains(document.activeElement)) this.keepFocus();
   }
 

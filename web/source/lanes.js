@@ -139,11 +139,11 @@ export class Lanes {
     this.zoomBy(this.place.clientWidth / width / this.zoom);
   }
 
-  // In the layout of a lecture the lanes shrink a little where that shows all units.
+  // In the layout of a lecture the lanes shrink a little where they take more than a fifth of the screen.
   zoomFor(units) {
     if (!document.body.classList.contains('is-lecture')) return this.zoom;
     const height = TOP + units * ROW + 6;
-    return this.zoom * Math.max(LEAST_ZOOM, Math.min(1, (this.place.clientHeight - 2) / height || 1));
+    return this.zoom * Math.max(LEAST_ZOOM, Math.min(1, innerHeight / 5 / height));
   }
 
   // Larger or smaller by a factor; null: as at first.

@@ -3,7 +3,7 @@
 import { draw, find, handOut } from './elements.js';
 
 // What of the page's style goes with each element.
-const STYLES = ['fill', 'stroke', 'stroke-width', 'stroke-dasharray', 'opacity', 'font-family', 'font-size', 'font-weight', 'text-anchor'];
+const STYLES = ['fill', 'stroke', 'stroke-width', 'stroke-dasharray', 'stroke-linejoin', 'paint-order', 'opacity', 'font-family', 'font-size', 'font-weight', 'text-anchor'];
 const GAP = 16;
 const LINE = 26;
 const RING = 420;

@@ -39,7 +39,7 @@ function moveOf(moved, units, plan) {
   const [across, down] = [((other.x - one.x) / length) * size, ((other.y - one.y) / length) * size];
   const line = draw('line', { x1: one.x + across, y1: one.y + down, x2: other.x - across, y2: other.y - down, class: 'moved', 'marker-end': 'url(#arrow)' });
   const middle = plan.whole / 2;
-  const inside = isMany(units) ? 0.42 : 0.32;
+  const inside = 0.42;
   const x = (one.x + other.x) / 2 + (middle - (one.x + other.x) / 2) * inside;
   const y = (one.y + other.y) / 2 + (middle - (one.y + other.y) / 2) * inside;
   return [line, write(x, y + 4, `$${moved.register} = ${moved.word}`, 'moved-word')];

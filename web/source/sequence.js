@@ -101,8 +101,7 @@ class Telling {
     const at = !before ? this.next : before.from === null ? null : endOf(this.sequence, before.from, this.lines);
     const isReached = at !== null && this.sequence[at]?.line === firstLine(task, this.lines);
     this.queue.push(unitOf(task, isReached ? at : null));
-    const place = this.queue.length === 1 ? 'the head' : `position ${this.queue.length - 1}`;
-    return `A free unit takes task ${task} (${place})`;
+    return `A free unit takes task ${task}${this.queue.length === 1 ? ' and is the head' : `, at position ${this.queue.length - 1}`}`;
   }
 
   exec(position) {

@@ -148,7 +148,8 @@ export class Stage {
     const committed = Object.entries(this.state.committed).map(([register, word]) => ({ register: Number(register), word }));
     const shown = hasHead ? ofHead : committed.filter(it => it.word !== 0);
     find('registers-title').textContent = hasHead ? 'Registers of the head' : 'Registers (no unit is the head: as committed)';
-    find('registers').textContent = shown.map(it => `${registerName(it.register)} = ${it.word}`).join('  ') || 'all 0';
+    const told = shown.map(it => make('span', {}, `${registerName(it.register)} = ${it.word}`));
+    put(find('registers'), told.length ? told.flatMap((it, at) => at ? ['  ', it] : [it]) : 'all 0');
   }
 
   showLanes() {
