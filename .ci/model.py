@@ -4,17 +4,18 @@
     model.py [PROGRAM] [--seed N] [--seconds S] [--only SCRIPT]
 
 Each script gets the seed, by which it draws its texts, and the seconds: it begins no text after them. So on fewer cores fewer
-texts are compared, and the time is the same. Without --seed each call has a new one; it is printed, and with it a script draws
-the same texts again, in the same order. A script that sees a difference says so, with the text, and then this one ends with status 1; so
-it does where a script compares nothing, or does not end. PROGRAM is what `rt ci` built, if none is named.
+texts are compared, and the time is the same. Without --seed it is made from the sources of the program and of the scripts: each
+change of them draws new texts, and what passed once does not fail on another machine by chance. It is printed; with it a
+script draws the same texts again, in the same order. A script that sees a difference says so, with the text, and then this one ends with
+status 1; so it does where a script compares nothing, or does not end. PROGRAM is what `rt ci` built, if none is named.
 
 Needs python3 and Linux.
 """
 import argparse
 import collections
+import hashlib
 import os
 import pathlib
-import random
 import re
 import shutil
 import signal
@@ -34,6 +35,15 @@ SCRIPTS = {
 # The seconds that a script has for its last text.
 PATIENCE = 120
 Ended = collections.namedtuple("Ended", "script status said")
+
+
+def seed_of_sources():
+    """A seed that another state of the sources changes."""
+    files = [*TOP.glob("crates/*/src/**/*.rt"), *TOP.glob("fuzz/*.py")]
+    digest = hashlib.sha256()
+    for file in sorted(files):
+        digest.update(f"{file.relative_to(TOP)}\n".encode() + file.read_bytes())
+    return int.from_bytes(digest.digest()[:4], "big")
 
 
 def start(script, program, seed, seconds, folder):
@@ -80,7 +90,7 @@ def compared(ended):
 def main():
     parser = argparse.ArgumentParser(description=__doc__, formatter_class=argparse.RawDescriptionHelpFormatter)
     parser.add_argument("program", metavar="PROGRAM", type=pathlib.Path, nargs="?", default=BUILT)
-    parser.add_argument("--seed", type=int, default=random.SystemRandom().randrange(10 ** 9))
+    parser.add_argument("--seed", type=int, default=seed_of_sources())
     parser.add_argument("--seconds", type=float, default=105)
     parser.add_argument("--only", choices=SCRIPTS, action="append")
     args = parser.parse_args()

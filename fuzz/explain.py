@@ -345,16 +345,18 @@ def right_line(results):
     return f"with {which} the marks are right"
 
 
-STOP = re.compile(r"(?:put !s[tn]?|write !s in place of !s[tn]?) on line (\d+)(?: and write targets=\S+)?, where ")
+STOP = re.compile(r"(?:put !s[tn]?|write !s[tn]? in place of !s[tn]?) on line (\d+)(?: and write targets=\S+)?, where ")
 
 
 def stops(program, after, error, text, advice):
-    """Whether a change puts a stop on the line that it names, where the task of an error goes on into one of its targets then."""
+    """Whether a change puts a stop on the line that it names, where the task of an error goes on into one of its targets then.
+    In place of one on the other edge of a branch, that edge goes on, to where no task begins."""
     edges = lambda p: {(i, j) for i in range(len(p.code)) for j in inner(p, i)}
-    gone, code = edges(program) - edges(after), places(text)[1]
+    gone, more, code = edges(program) - edges(after), edges(after) - edges(program), places(text)[1]
     begins, (_, entry, _, targets) = {it[1] for it in program.tasks}, after.tasks[error[0]]
-    line = int(STOP.match(advice).group(1))
-    return edges(after) < edges(program) and all(code[i][0] == line for i, _ in gone) and any(j in begins and j in targets for _, j in gone)
+    line, other_edge = int(STOP.match(advice).group(1)), advice.startswith(("write !st ", "write !sn "))
+    at_line = all(code[i][0] == line for i, _ in gone | more)
+    return at_line and (other_edge or not more) and not any(j in begins for _, j in more) and any(j in begins and j in targets for _, j in gone)
 
 
 def code_of(fault):
