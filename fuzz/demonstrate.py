@@ -28,7 +28,7 @@ from model import CODE0, Fault, Machine, Plain, Refuse, assemble, certify, dests
 EVENTS = 4000
 READS = re.compile(r"line (\d+): task (\w+) reads (\d+) in \$(\d+); the sequential program has (\d+), (.+)")
 ENDS = re.compile(r"line (\d+): task (\w+) goes on to (?:line (\d+)|0x([0-9a-f]+)), which is none of its targets, and the run ends; "
-                  r"the sequential program goes on there")
+                  r"the sequential program continues there")
 HAS = re.compile(r"task (\w+) has (\d+) in \$(\d+); the sequential program has (\d+), (.+)")
 
 
@@ -157,7 +157,7 @@ class Bench:
         said, status = self.call(text)
         if not findings:
             self.counts["right"] += 1
-            return None if (said, status) == ("the annotations are right: no run shows anything\n", 0) else "right marks"
+            return None if (said, status) == ("the marks are right: no run shows anything\n", 0) else "right marks"
         harm = own_harm(program)
         self.counts["wrong"] += 1
         self.counts["of these the model shows"] += harm is not None

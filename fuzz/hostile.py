@@ -282,7 +282,7 @@ def told_so(words, held, told):
         return told == ""
     program = assemble(wanted_marks(text)[0].encode("latin-1"))
     errors = explain.told(program)
-    said = f"{len(errors)} left to mend by hand" if errors else "all marks are right"
+    said = f"{len(errors)} left to fix by hand" if errors else "all marks are right"
     *_, last = told.splitlines()
     return last == f"multiscalar: {files[0]}: {said}" and len(re.findall(r"(?m)^[^|\n]*?: error: ", told)) == min(len(errors), explain.MOST_SHOWN)
 
@@ -445,7 +445,7 @@ def wanted_demonstration(text, options):
         return fault.text(), 1
     found = verdict(program, certify(program))
     if not found:
-        return "the annotations are right: no run shows anything\n", 0
+        return "the marks are right: no run shows anything\n", 0
     is_known = not any(it[2] in (10, 11) for it in found)
 
     def fits(out, status):

@@ -57,7 +57,7 @@ class Calls(unittest.TestCase):
         self.assertEqual(multiscalar.curve(RIGHT, units=2, prediction=[0]).status, 0)
 
     def test_demonstrate(self):
-        self.assertEqual(multiscalar.demonstrate(RIGHT).text, "the annotations are right: no run shows anything\n")
+        self.assertEqual(multiscalar.demonstrate(RIGHT).text, "the marks are right: no run shows anything\n")
 
     def test_numbers_out_of_range(self):
         for call in (lambda: multiscalar.seq(RIGHT, budget=0), lambda: multiscalar.seq(RIGHT, budget=-1), lambda: multiscalar.run_in_steps(RIGHT, units=17),

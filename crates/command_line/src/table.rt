@@ -97,7 +97,7 @@ labels and layout stay as they are. With `--in-place` that text replaces PROGRAM
 
 Stops, releases and targets remain yours to correct. With `--report` standard error gets the errors of the
 proposed text, as `explain` reports them, and one of these lines:
-  multiscalar: PROGRAM: N left to mend by hand
+  multiscalar: PROGRAM: N left to fix by hand
   multiscalar: PROGRAM: all marks are right
 If standard error is a terminal, it gets these without `--report`, unless all marks are right.
 

@@ -73,6 +73,6 @@ fn write_path(text: &mut String, places: &[Position], path: &[u32]) -> Result<()
     }
     writeln!(
         text,
-        "; perhaps no run takes it, or no task reads a wrong word after it"
+        "; perhaps no run takes it, or no task reads a wrong value after it"
     )
 }

@@ -31,7 +31,7 @@ pub(crate) fn write_harm(
             write!(text, ": task {task} goes on to ")?;
             write_exit(text, program, places, cut.at)?;
             text.push_str(
-                ", which is none of its targets, and the run ends; the sequential program goes on there",
+                ", which is none of its targets, and the run ends; the sequential program continues there",
             )
         }
         Harm::Held(held) => {

@@ -107,7 +107,7 @@ fn said_of(
     if count == 0 {
         writeln!(said, "multiscalar: {name}: all marks are right")?;
     } else {
-        writeln!(said, "multiscalar: {name}: {count} left to mend by hand")?;
+        writeln!(said, "multiscalar: {name}: {count} left to fix by hand")?;
     }
     Ok(said.into_bytes())
 }

@@ -130,7 +130,7 @@ fn word_said(alloc: Global, part: Part<'_>) -> Said {
     match part.text {
         [] => plain(alloc, part, advice("a word is missing", WORD)),
         [b'0', b'X', ..] => {
-            let says = "hexadecimal digits stand behind 0x, with a small x";
+            let says = "hexadecimal digits follow 0x, with a small x";
             plain(alloc, part.within(0, 2), mend(says, "write {fix}", "0x"))
         }
         [b'-', digits @ ..] => match number_of(digits) {
@@ -139,9 +139,9 @@ fn word_said(alloc: Global, part: Part<'_>) -> Said {
                 let says = "a word is a number of 32 bits without a sign";
                 writing(part, says, words!(in alloc; "0x{number:08x}")?)
             }
-            None => quoting(alloc, part, "{expected} is no word", WORD),
+            None => quoting(alloc, part, "{expected} is not a word", WORD),
         },
-        _ => quoting(alloc, part, "{expected} is no word", WORD),
+        _ => quoting(alloc, part, "{expected} is not a word", WORD),
     }
 }
 
@@ -171,7 +171,7 @@ fn name_said(alloc: Global, name: Part<'_>) -> Said {
             let says = "an expectation names a register by its number";
             writing(register, says, words!(in alloc; "${number}")?)
         }
-        None => quoting(alloc, name, "{expected} is no expectation", FORM),
+        None => quoting(alloc, name, "{expected} is not an expectation", FORM),
     }
 }
 
@@ -193,7 +193,7 @@ fn address_said(alloc: Global, program: &Program, part: Part<'_>) -> Said {
         None => quoting(
             alloc,
             part,
-            "{expected} is no address",
+            "{expected} is not an address",
             "write the address of an instruction, as in stops 0x00400008",
         ),
     }
@@ -211,7 +211,7 @@ fn part_said(alloc: Global, program: &Program, part: Part<'_>) -> Said {
         return Ok(None);
     }
     let Some(equals) = part.text.iter().position(|byte| *byte == b'=') else {
-        return quoting(alloc, part, "{expected} is no expectation", FORM);
+        return quoting(alloc, part, "{expected} is not an expectation", FORM);
     };
     let behind = equals.saturating_add(1);
     if matches!(part.text.get(behind), Some(b'=')) {

@@ -273,9 +273,9 @@ impl<'a> Compared<'a> {
     {
         let here = self.least.list(task).len();
         let says = if here == 1 {
-            "this certificate is of another text: task {name} has 1 instruction here, {there} there"
+            "this certificate is of another program: task {name} has 1 instruction here, {there} there"
         } else {
-            "this certificate is of another text: task {name} has {here} instructions here, {there} there"
+            "this certificate is of another program: task {name} has {here} instructions here, {there} there"
         };
         let name = task_name(self.program, task);
         let words = [

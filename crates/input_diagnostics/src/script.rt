@@ -115,7 +115,7 @@ fn word_row(fault: EventFault, line: &[u8], is_register: bool, is_near: bool) ->
     let form = form_help(first_word(line));
     match fault {
         EventFault::NoEvent if is_near => {
-            mend("{word} begins no event", "did you mean {fix}?", "{near}")
+            mend("{word} is not an event", "did you mean {fix}?", "{near}")
         }
         EventFault::NoTask if is_near => {
             mend(
@@ -131,7 +131,7 @@ fn word_row(fault: EventFault, line: &[u8], is_register: bool, is_near: bool) ->
                 "${register}",
             )
         }
-        EventFault::NoEvent => advice("{word} begins no event", form),
+        EventFault::NoEvent => advice("{word} is not an event", form),
         EventFault::TooFew => advice("a word is missing here", form),
         EventFault::TooMany(_) => advice("this is more than the event takes", form),
         EventFault::NoPosition => advice(

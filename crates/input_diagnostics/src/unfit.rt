@@ -90,7 +90,7 @@ pub fn unfit_error<'x>(
     let says = if wanted == 0 {
         "the marks are right; a mask in this certificate is too large"
     } else {
-        "a mask in this certificate is too large: check finds {found} faults with it, {least} with the least one"
+        "a mask in this certificate is too large: check finds {found} errors with it, {least} with the least one"
     };
     let words = [
         ("found", words!(in alloc; "{}", findings.len())?),

@@ -9,7 +9,7 @@ const FOR_MIPS1: &str = "this is not of MIPS I: compile with -march=mips1 -mno-a
 
 /// Of what a compiler writes to find data and functions wherever they are loaded.
 const FOR_PIC: &str =
-    "leave it out, and compile with -march=mips1 -mno-abicalls -fno-pic: programs here stand at fixed addresses";
+    "leave it out, and compile with -march=mips1 -mno-abicalls -fno-pic: programs here are at fixed addresses";
 
 /// Of a test for a divisor that is 0, or the like.
 const TRAP: &str =
@@ -43,11 +43,11 @@ const WORDS: [(&str, &str); 122] = [
     ),
     (
         "rem",
-        "there is no division: of a number that is not negative and a power of 2, n, the remainder is that of andi with n-1; otherwise subtract in a loop",
+        "there is no division: for a number that is not negative and a power of 2, n, andi with n-1 gives the remainder; otherwise subtract in a loop",
     ),
     (
         "remu",
-        "there is no division: for a power of 2, n, the remainder is that of andi with n-1; otherwise subtract in a loop",
+        "there is no division: for a power of 2, n, andi with n-1 gives the remainder; otherwise subtract in a loop",
     ),
     ("neg", "write subu rd,$0,rt"),
     ("negu", "write subu rd,$0,rt"),
@@ -356,19 +356,19 @@ const SIGNS: [(&str, &str); 108] = [
     ),
     (
         "!f",
-        "a mark stands at the end of the line, after the operands, with no comma between marks",
+        "a mark comes at the end of the line, after the operands, with no comma between marks",
     ),
     (
         "!s",
-        "a mark stands at the end of the line, after the operands, with no comma between marks",
+        "a mark comes at the end of the line, after the operands, with no comma between marks",
     ),
     (
         "!st",
-        "a mark stands at the end of the line, after the operands, with no comma between marks",
+        "a mark comes at the end of the line, after the operands, with no comma between marks",
     ),
     (
         "!sn",
-        "a mark stands at the end of the line, after the operands, with no comma between marks",
+        "a mark comes at the end of the line, after the operands, with no comma between marks",
     ),
     ("!fs", "write !f !s"),
     ("!sf", "write !f !s"),
@@ -398,7 +398,7 @@ const SIGNS: [(&str, &str); 108] = [
     ("'", "write the letter's number, as 65 for A"),
     (
         "\"",
-        "a text has no strings: write .byte with the numbers of the letters",
+        "a program has no strings: write .byte with the numbers of the letters",
     ),
     (".abicalls", FOR_PIC),
     (".cpload", FOR_PIC),
@@ -445,7 +445,7 @@ const SIGNS: [(&str, &str); 108] = [
 const OPERANDS: [((&str, &str), &str); 52] = [
     (
         ("", "!"),
-        "a mark stands at the end of the line, after the operands, with no comma between marks",
+        "a mark comes at the end of the line, after the operands, with no comma between marks",
     ),
     (
         ("", "$hi"),

@@ -11,7 +11,7 @@ use std::alloc::{AllocError, Global};
 use std::fmt::Display;
 
 // What is said where the words, as they are shown, have no fault of their own.
-const UNPRINTABLE: &str = "error: a word of the command line is no printable text\n";
+const UNPRINTABLE: &str = "error: an argument of the command line is not printable text\n";
 
 /// What `clap` says of one of its faults. It is made of the fault itself, so no other text is one.
 #[derive(Debug, Drop)]

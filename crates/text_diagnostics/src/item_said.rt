@@ -24,7 +24,7 @@ const NO_LABEL: &str =
     "a label is a name with a colon after it; a task has the name of the label where it begins";
 
 /// What to do about a label of data.
-const DATA_LABEL: &str = "name a label that stands in .text";
+const DATA_LABEL: &str = "name a label in .text";
 
 /// What to do where a limit is passed.
 const LIMITS: &str =
@@ -70,7 +70,7 @@ fn row_of(kind: Kind) -> Row {
             "",
         ),
         Kind::OneSidedStop => mend(
-            "!st or !sn is on an instruction that is no conditional branch",
+            "!st or !sn is on an instruction that is not a conditional branch",
             "write !s, which stops always",
             "!s",
         ),

@@ -28,7 +28,7 @@ use std::fmt::Write;
 pub(crate) fn line_message(wrong: &FaultyLine<'_>) -> Made<Words> {
     let first = wrong.first();
     let row = match wrong.kind {
-        LineFaultKind::NotAscii if first == b'\r' => "a CR cannot stand here",
+        LineFaultKind::NotAscii if first == b'\r' => "a CR is not allowed here",
         LineFaultKind::NotAscii => "a program text cannot have the byte {byte}",
         LineFaultKind::Token => match first {
             b'$' => "there is no register {meant}",
@@ -91,8 +91,8 @@ fn token_help(first: u8) -> &'static str {
 fn byte_help(byte: u8) -> &'static str {
     match byte {
         239 => "save the file as plain ASCII, without a byte order mark",
-        b'\r' => "a CR stands only directly before the end of a line",
-        0..=127 => "a text has printable ASCII characters, spaces and tabs",
+        b'\r' => "a CR is allowed only directly before the end of a line",
+        0..=127 => "a program has printable ASCII characters, spaces and tabs",
         _ => "write an ASCII character in its place, such as - for a dash",
     }
 }
@@ -124,10 +124,10 @@ fn word_row(wrong: &FaultyLine<'_>) -> Made<&'static str> {
     }
     Ok(match wrong.section {
         Section::Text => {
-            ".text holds instructions; .start, .task and section lines may stand anywhere"
+            ".text holds instructions; .start, .task and section lines are allowed anywhere"
         }
         Section::Data | Section::Rodata => {
-            ".data and .rodata hold .word, .byte and .space; .start, .task and section lines may stand anywhere"
+            ".data and .rodata hold .word, .byte and .space; .start, .task and section lines are allowed anywhere"
         }
     })
 }
@@ -219,7 +219,7 @@ fn fix_row(text: &[u8]) -> &'static str {
 /// The help that says what is to stand from a place on to the end of the line.
 fn rest_row(kind: LineFaultKind, text: &[u8]) -> &'static str {
     match (kind, text) {
-        (LineFaultKind::Operand, [b' ', ..]) => "no comma stands before a mark: write {front}{fix}",
+        (LineFaultKind::Operand, [b' ', ..]) => "no comma comes before a mark: write {front}{fix}",
         (LineFaultKind::Operand, _) => "one comma separates two operands: write {fix}",
         _ => "lists have no braces: write {fix}",
     }
@@ -256,7 +256,7 @@ pub(crate) fn line_help(number: u32, wrong: &FaultyLine<'_>) -> Made<Help>
 {
     let alloc = wrong.alloc;
     if let Some((place, text)) = dotted_fix(wrong)? {
-        let row = "a name has no dots: write {fix}, here and wherever it stands";
+        let row = "a name has no dots: write {fix}, here and wherever it is used";
         let message = fix_words(wrong, row, text.as_str())?;
         return by_text(alloc, message, span_in(number, place), text);
     }

@@ -287,12 +287,12 @@ fn plain(alloc: Global, fault: AsmFault, token: Option<Span>) -> Made<Diagnostic
     let (code, line) = told_as(fault);
     let span = place_of(token, line);
     let message = match fault {
-        AsmFault::TooLong => "the text is too long",
+        AsmFault::TooLong => "the program is too long",
         _ => "this is what is refused first",
     };
     let help = match fault {
         AsmFault::TooLong => {
-            let words = Words::of(alloc, "a text has at most 4194304 bytes")?;
+            let words = Words::of(alloc, "a program has at most 4194304 bytes")?;
             Some(in_words(alloc, words))
         }
         _ => None,
