@@ -30,8 +30,8 @@ complete -c multiscalar -n '__fish_seen_subcommand_from explain' -l format -x -a
 complete -c multiscalar -n '__fish_seen_subcommand_from check' -l format -x -a 'text json' -d 'how the result is laid out'
 complete -c multiscalar -n '__fish_seen_subcommand_from print' -l listing -d 'writes a table of the program’s instructions instead, with their addresses, lines, tasks and masks'
 complete -c multiscalar -n '__fish_seen_subcommand_from explain' -l color -x -a 'auto always never' -d 'whether the text for people has colours'
-complete -c multiscalar -n '__fish_seen_subcommand_from explain' -l fix -d 'writes your text with the judged fixes to the file of --output or, with --in-place, to PROGRAM'
-complete -c multiscalar -n '__fish_seen_subcommand_from check replay run curve' -l least -d 'makes the least certificate of the program as it stands, in place of CERT'
+complete -c multiscalar -n '__fish_seen_subcommand_from explain' -l fix -d 'writes your program with the judged fixes to the file of --output or, with --in-place, to PROGRAM'
+complete -c multiscalar -n '__fish_seen_subcommand_from check replay run curve' -l least -d 'makes the least certificate of the program as it is, in place of CERT'
 complete -c multiscalar -n '__fish_seen_subcommand_from run' -l schedule -x -a 'threads steps' -d 'how the units take turns'
 complete -c multiscalar -n '__fish_seen_subcommand_from replay run' -l units -x -a '1 2 4 8 16' -d 'how many units the machine has, 1 to 16'
 complete -c multiscalar -n '__fish_seen_subcommand_from curve demonstrate' -l units -x -a '1 2 4 8 16' -d 'the largest number of units, 1 to 16'
@@ -55,6 +55,6 @@ complete -c multiscalar -n '__fish_seen_subcommand_from run' -l axis -x -a 'even
 complete -c multiscalar -n '__fish_seen_subcommand_from run' -l with-values -d 'each event also says what it did, for replay --strict'
 complete -c multiscalar -n '__fish_seen_subcommand_from curve' -l progress -d 'says on standard error when each run is done'
 complete -c multiscalar -n '__fish_seen_subcommand_from seq print annotate explain check replay run curve demonstrate' -l output -s o -r -d 'writes the result to FILE, whole or not at all'
-complete -c multiscalar -n '__fish_seen_subcommand_from annotate explain' -l in-place -d 'writes the text with the proposed marks or the fixes to PROGRAM itself, whole or not at all'
+complete -c multiscalar -n '__fish_seen_subcommand_from annotate explain' -l in-place -d 'writes the program with the proposed marks or the fixes to PROGRAM itself, whole or not at all'
 complete -c multiscalar -n '__fish_seen_subcommand_from annotate' -l report -d 'says on standard error what is left to correct by hand'
 # end of fish options

@@ -138,7 +138,7 @@ typedef enum { MULTISCALAR_CURVE_TABLE, MULTISCALAR_CURVE_SVG } multiscalar_curv
 int multiscalar_curve(multiscalar_text program, multiscalar_text certificate, uint32_t units, uint32_t budget,
                       multiscalar_prediction prediction, multiscalar_curve_emit emit, char **answer, size_t *length);
 
-/* Looks for a run that shows what a wrong annotation does, on machines of 2 units, of 3, and so on up to `units`, in
+/* Looks for a run that shows what a wrong mark does, on machines of 2 units, of 3, and so on up to `units`, in
  * runs of up to `steps` events. */
 int multiscalar_demonstrate(multiscalar_text program, uint32_t units, uint32_t steps, char **answer, size_t *length);
 

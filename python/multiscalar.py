@@ -289,5 +289,5 @@ def curve(program: Text, certificate: Text | None = None, units: int = 16, budge
 
 
 def demonstrate(program: Text, units: int = 16, steps: int = 10_000) -> Report:
-    """Looks for a run that shows what a wrong annotation does: status 1 where it shows one, 0 where there is none, 3 where it finds none."""
+    """Looks for a run that shows what a wrong mark does: status 1 where it shows one, 0 where there is none, 3 where it finds none."""
     return Report(*_call("demonstrate", units, steps, _bytes(program)))

@@ -22,10 +22,10 @@ may be -, standard input. `check --least` and `explain` take several programs.";
 /// What stands below every help of the program.
 pub const STATUS: &str = "Exit status:
   0  accepted, nothing found wrong, printed, halted, or a replay that is still running; help; version
-  1  a text refused, or marks found wrong; trapped; ended at an address that is not listed
+  1  an input refused, or marks found wrong; trapped; ended at an address that is not listed
   2  wrong usage, a file that cannot be read, out of memory, or output that cannot be written
   3  out of budget; no run found that shows what a wrong mark does
 Of several programs the largest counts.
 
-Results and refusals of texts go to standard output; with -o FILE, results go to FILE. A fault of
+Results and refusals of inputs go to standard output; with -o FILE, results go to FILE. An error of
 status 2 is one line on standard error; wrong usage is explained there.";

@@ -70,8 +70,8 @@ For example:
         "Writes a program in canonical text",
         UsageBy::Clap,
         "multiscalar print [OPTIONS] <PROGRAM>",
-        "Writes a program in canonical text, which denotes the same program. Of a text that is not a program
-it writes the first fault and its line:
+        "Writes a program in canonical text, which denotes the same program. Of a file that is not a program
+it writes the first error and its line:
   program refused: K Name line N
 
 With `--listing` it writes a table instead, with a row for each instruction of each task:
@@ -96,12 +96,12 @@ With `--emit marks` it writes your own text with the proposed create masks and f
 labels and layout stay as they are. With `--in-place` that text replaces PROGRAM.
 
 Stops, releases and targets remain yours to correct. With `--report` standard error gets the errors of the
-proposed text, as `explain` reports them, and one of these lines:
+proposed program, as `explain` reports them, and one of these lines:
   multiscalar: PROGRAM: N left to fix by hand
   multiscalar: PROGRAM: all marks are right
 If standard error is a terminal, it gets these without `--report`, unless all marks are right.
 
-For example, a certificate of the program as it stands, and a text with the proposed marks:
+For example, a certificate of the program as it is, and the program with the proposed marks:
   multiscalar annotate --emit keep program.s
   multiscalar annotate --emit marks -o right.s program.s",
     ),
@@ -117,19 +117,19 @@ An error has the form that compilers use: what is wrong, a path that shows it (u
   FILE:LINE:COLUMN: error: .. [rule R]
   FILE:LINE:COLUMN: note: ..
   FILE:LINE:COLUMN: help: ..
-Of a text that is not a program it reports the mistakes, and what would be right:
+Of a file that is not a program it reports the mistakes, and what would be right:
   FILE:LINE:COLUMN: error: .. [K Name line N]
   FILE:LINE:COLUMN: help: ..
 If the marks are right, it warns of marks that cost speed, and of code that no task reaches:
   FILE:LINE:COLUMN: warning: ..
   FILE:LINE:COLUMN: help: ..
 
-With `--certificate FILE` it also explains why that text is no certificate of the program, and how to make a new
-one; with `--script FILE` why that text is no script of events.
+With `--certificate FILE` it also explains why that file is not a certificate of the program, and how to make
+a new one; with `--script FILE` why that file is not a script of events.
 
-With `--fix` your text with the judged fixes goes to the file of `--output` or, with `--in-place`, replaces
+With `--fix` your program with the judged fixes goes to the file of `--output` or, with `--in-place`, replaces
 PROGRAM; the rest of it is unchanged. Standard error says how many fixes were made and what is left. The exit
-status is that of `explain` for the new text:
+status is what `explain` gives for the new program:
   multiscalar: PROGRAM: N fixes applied, all marks are right
   multiscalar: PROGRAM: N fixes applied, M errors left
 
@@ -161,7 +161,7 @@ For example:
 or one line for each finding, and then their number:
   TASK INDEX rule R $REG
   refused COUNT
-`-` stands for no register. Of a text that is not a certificate it writes the first fault, and for faults 2
+`-` stands for no register. Of a file that is not a certificate it writes the first error, and for errors 2
 and 3 the line:
   certificate refused: K Name LINE
 
@@ -203,8 +203,8 @@ Writes for each event, numbered from 1,
 with the register if one is waited for. A refused event changes nothing. Then come the values that `out`
 printed, and
   retired T c C h H
-for T retired tasks with C instructions, H with those of the head, and how the run stands: running, halted,
-trapped K Name or unlisted ADDRESS. Of a text that is not a script it writes the first fault and its line:
+for T retired tasks with C instructions, H with those of the head, and the state of the run: running, halted,
+trapped K Name or unlisted ADDRESS. Of a file that is not a script it writes the first error and its line:
   script refused: K Name LINE
 
 With `--strict` it judges the script instead, as a log of another simulator. A colon may follow an event, and
@@ -212,8 +212,8 @@ then what it must have done, separated by commas: `$9=7` (the register becomes t
 is sent with this value), `[0x10010000]=5` (this value is loaded from there or stored there), `out=10`,
 `stops 0x00400010`, and how it ended the run: `ends halted`, `ends trapped K Name` or `ends unlisted ADDRESS`.
 Empty lines, comments from `#` on and lines such as `step 3` are skipped. With status 1 it writes the first
-line that departs from the machine, what the event did and how each unit then stands; with status 0
-  as expected: N events; HOW THE RUN STANDS
+line that departs from the machine, what the event did and the state of each unit then; with status 0
+  as expected: N events; STATE OF THE RUN
 and, where the script leaves out effects of its events, how many:
   not listed: N effects of these events
 With `--complete` such a line departs, and so does the end of a script whose run has not ended.
@@ -228,9 +228,9 @@ For example:
         "multiscalar run [OPTIONS] PROGRAM CERT
        multiscalar run [OPTIONS] --least PROGRAM",
         "Runs a program on a machine of several units, by threads, after the check. Each unit takes one task. The
-oldest is sure to be the right one; the others are predicted, run ahead, and are squashed if the prediction
-was wrong. The order of the threads makes no difference to the result: a run that halts prints what `seq`
-prints.
+head, the oldest task, is sure to be the right one; the others are predicted, run ahead, and are squashed if
+the prediction was wrong. The order of the threads makes no difference to the result: a run that halts prints
+what `seq` prints.
 
 Writes the values that `out` prints, in decimal, one on each line, and then how the run ended, as `replay`
 writes it:
@@ -252,7 +252,7 @@ instructions of those that retired, `wasted` the instructions of those that were
 `--schedule steps` makes no threads: in each step every unit does at most one event. The run then depends only
 on the program, the number of units, the predictor and the budget. The summary ends with the number of steps
 and of the instructions that retired in them: how far the marks let tasks overlap. Steps do not model the
-time of a processor. `--emit waits` says why units waited, the most frequent reason first: in how many steps
+time of a processor. `--emit waits` says why units stalled, the most frequent reason first: in how many steps
 which task, at which line, needed which register from which task, or its turn as head.
 
 For example:
@@ -283,7 +283,7 @@ squashed or dropped. `end` is halted, trapped, unlisted or out of budget. Decima
 Equal command lines give equal tables. Steps do not model the time of a processor: each instruction takes one
 step, and so does a register from one unit to the next.
 
-The exit status is that of the first run that did not halt, else 0.
+If every run halted, the exit status is 0, else the status of the first run that did not.
 
 For example:
   multiscalar curve --least --units 4 program.s
@@ -342,7 +342,7 @@ pub(crate) static ARGUMENTS: [ArgumentRow; 41] = [
         "replay",
         "certificate",
         Kind::FreeFile("CERT"),
-        "The certificate of the program; with --least the script stands here",
+        "The certificate of the program; with --least the script",
     ),
     (
         "run curve",
@@ -405,13 +405,13 @@ and the environment variable NO_COLOR is not set or is empty), always or never",
         "explain",
         "fix",
         Kind::Flag,
-        "Writes your text with the judged fixes to the file of --output or, with --in-place, to PROGRAM",
+        "Writes your program with the judged fixes to the file of --output or, with --in-place, to PROGRAM",
     ),
     (
         "check replay run curve",
         "least",
         Kind::Flag,
-        "Makes the least certificate of the program as it stands, in place of CERT",
+        "Makes the least certificate of the program as it is, in place of CERT",
     ),
     (
         "run",
@@ -483,7 +483,7 @@ the number of targets",
         "emit",
         Kind::FreeWord("WHAT"),
         "What to write: text (the proposed program), cert (its certificate), keep (the certificate of the
-program as it stands) or marks (your own text with the proposed marks)
+program as it is) or marks (your own text with the proposed marks)
 
 [default: text; with --in-place: marks]",
     ),
@@ -491,10 +491,10 @@ program as it stands) or marks (your own text with the proposed marks)
         "replay",
         "emit",
         Kind::Word("WHAT", "answers"),
-        "What to write: answers (the machine's answer to each event, and how the run stands), summary (how often
+        "What to write: answers (the machine's answer to each event, and the state of the run), summary (how often
 each task was assigned, and how that ended), svg (the allowed events as a picture), trace (each event with its
 answer and what it changed), json (the same as JSON, an object on each line), perfetto (a timeline for
-ui.perfetto.dev and other viewers of traces) or state (how the run and each unit stand at the end)",
+ui.perfetto.dev and other viewers of traces) or state (of the run and of each unit, at the end)",
     ),
     (
         "run",
@@ -504,7 +504,7 @@ ui.perfetto.dev and other viewers of traces) or state (how the run and each unit
 often each task was assigned, and how that ended), svg (a picture: a lane for each unit, a bar for each task on
 it), trace (each event with what it changed), json (the same as JSON, an object on each line), perfetto (a
 timeline for ui.perfetto.dev and other viewers of traces) or, with --schedule steps, waits (in how many steps
-which task waited where, and for what) or vcd (how each unit stands in each step, for viewers of waveforms)",
+which task waited where, and for what) or vcd (the state of each unit in each step, for viewers of waveforms)",
     ),
     (
         "curve",
@@ -576,7 +576,7 @@ which task waited where, and for what) or vcd (how each unit stands in each step
         "annotate explain",
         "in-place",
         Kind::Flag,
-        "Writes the text with the proposed marks or the fixes to PROGRAM itself, whole or not at all",
+        "Writes the program with the proposed marks or the fixes to PROGRAM itself, whole or not at all",
     ),
     (
         "annotate",
