@@ -366,7 +366,7 @@ fn curve_of(
     Ok(curve(alloc, units, budget, &predict, emit, source, &texts)?)
 }
 
-/// `demonstrate`: looks for a run that shows what a wrong annotation does, on machines of 2 units, of 3, and so on up to
+/// `demonstrate`: looks for a run that shows what a wrong mark does, on machines of 2 units, of 3, and so on up to
 /// this many, 1..=16, each run up to `steps` events, 1..=1,000,000.
 #[unsafe(no_mangle)]
 pub extern "C" fn multiscalar_c_demonstrate(
