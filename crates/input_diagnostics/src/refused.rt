@@ -449,7 +449,7 @@ impl<'a> Refused<'a> {
         let says = if index_of(row) >= 4096 {
             "an index is at most 4095"
         } else {
-            "this index is not above that of the line before"
+            "this index is not above the one on the line before"
         };
         let at = span(number, 0, first_word(row).len());
         let said = advice(says, ANEW).at(self.alloc, Source::Certificate, Code::Shape, at, &[])?;
