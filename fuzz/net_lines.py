@@ -33,9 +33,9 @@ UNITS = (1, 4, 16)
 PREDICTIONS = ("first", "last", "1,0", "3,1,2,0,15")
 
 OF_TEXT = (
-    "seq --budget 3000", "print", "annotate", "annotate --emit cert", "annotate --emit keep", "annotate --emit marks",
-    "annotate --report", "explain", "explain --no-warnings", "explain --color always", "explain --format sarif",
-    "explain --format json", "check --least", "demonstrate", "demonstrate --units 3 --emit svg",
+    "seq --budget 3000", "print", "print --listing", "annotate", "annotate --emit cert", "annotate --emit keep", "annotate --emit marks",
+    "annotate --report", "explain", "explain --no-warnings", "explain --werror", "explain --color always", "explain --format sarif",
+    "explain --format json", "check --least", "check --least --format json", "demonstrate", "demonstrate --units 3 --emit svg",
 )
 OF_REFUSED = ("seq", "explain", "explain --format sarif", "explain --format json", "explain --color always")
 OF_RUN = ("report", "script", "script --with-values", "summary", "svg", "svg --axis events", "trace", "json", "perfetto", "waits", "vcd")
