@@ -1,5 +1,5 @@
-//! Files that take a result: they are written whole or not at all, and nobody who may not read the old file sees the
-//! new one while it is written. And writing to a stream, so that it is known what was written where it fails.
+//! Files that take a result: each is written whole or not at all, and shown to nobody who may not read the old file.
+//! Also: writing to a stream, so that it is known what was written where it fails.
 #![tactic(auto)]
 
 pub mod folder;

@@ -11,7 +11,7 @@ use thiserror::Error;
 /// Why a file is not written, as far as the system reports it.
 #[derive(Debug, Drop, Error)]
 pub enum Unwritten {
-    /// The folder that it is to go into does not exist.
+    /// The folder that the file is to go into does not exist.
     #[error("no such folder")]
     NoSuchFolder,
     /// Its name is that of a link to the file of this path.
@@ -35,7 +35,7 @@ pub enum Unwritten {
     /// The disk is full.
     #[error("no space left")]
     Full,
-    /// Memory ran out.
+    /// Memory was refused.
     #[error("out of memory")]
     OutOfMemory,
     /// Any other reason.
@@ -89,7 +89,7 @@ impl From<io::Error> for Unwritten {
     }
 }
 
-/// Why a file is not written, for the kind of error that the system reported.
+/// The reason why a file is not written, for the kind of error that the system reported.
 pub fn unwritten_of(kind: ErrorKind) -> Unwritten
     ensures { result ≡ unwritten_of kind }
 {

@@ -1,4 +1,4 @@
-//! A text in pieces.
+//! A text that is held in pieces.
 
 use crate::piece::Piece;
 use std::alloc::{AllocError, Global};
@@ -39,10 +39,11 @@ impl Text {
         }
     }
 
-    /// Adds bytes at the end. Those that complete the last line join its piece; the others become a piece
-    /// of their own.
+    /// Adds bytes at the end. Those that complete the last line join its piece; the others become a piece of
+    /// their own.
     ///
     /// # Errors
+    ///
     ///
     /// `AllocError` where memory was refused; what the text is then is not known.
     pub fn append(&mut self, bytes: Vec<u8>) -> Result<(), AllocError>
@@ -56,7 +57,7 @@ impl Text {
         Ok(())
     }
 
-    /// Whether it has at most `most` bytes.
+    /// Whether the text has at most `most` bytes.
     pub fn is_within(&self, most: usize) -> bool
         ensures { (result ≡ true) ↔ (length self.now ≤ most) }
     {
@@ -71,9 +72,10 @@ impl Text {
         self.last.as_slice().len() <= left
     }
 
-    /// The pieces in order, cut after LFs.
+    /// The pieces in order, each but the last ending with LF; together they are the text.
     ///
     /// # Errors
+    ///
     ///
     /// `AllocError` where memory was refused.
     pub fn pieces(&self, alloc: Global) -> Result<Vec<&[u8]>, AllocError>
