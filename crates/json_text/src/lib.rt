@@ -41,7 +41,6 @@ impl JsonText {
     ///
     /// # Errors
     ///
-    ///
     /// `AllocError` where memory was refused.
     pub fn into_line(self) -> Result<Vec<u8>, AllocError> {
         let JsonText { alloc, out } = self;
@@ -54,7 +53,6 @@ impl JsonText {
     ///
     /// # Errors
     ///
-    ///
     /// `AllocError` where memory was refused.
     pub fn begin(&mut self) -> Written {
         self.out.begin_object()
@@ -63,7 +61,6 @@ impl JsonText {
     /// Ends the object that was begun last.
     ///
     /// # Errors
-    ///
     ///
     /// `AllocError` where memory was refused.
     pub fn end(&mut self) -> Written {
@@ -74,7 +71,6 @@ impl JsonText {
     ///
     /// # Errors
     ///
-    ///
     /// `AllocError` where memory was refused.
     pub fn key(&mut self, name: &str) -> Written {
         self.out.key(name)
@@ -83,7 +79,6 @@ impl JsonText {
     /// Begins a member that is an object.
     ///
     /// # Errors
-    ///
     ///
     /// `AllocError` where memory was refused.
     pub fn object(&mut self, name: &str) -> Written {
@@ -95,7 +90,6 @@ impl JsonText {
     ///
     /// # Errors
     ///
-    ///
     /// `AllocError` where memory was refused.
     pub fn list(&mut self, name: &str) -> Written {
         self.out.key(name)?;
@@ -106,7 +100,6 @@ impl JsonText {
     ///
     /// # Errors
     ///
-    ///
     /// `AllocError` where memory was refused.
     pub fn end_list(&mut self) -> Written {
         self.out.end_array()
@@ -115,7 +108,6 @@ impl JsonText {
     /// Adds a member that is a string; `text` is written with JSON's escapes.
     ///
     /// # Errors
-    ///
     ///
     /// `AllocError` where memory was refused.
     pub fn text(&mut self, name: &str, text: &str) -> Written {
@@ -127,7 +119,6 @@ impl JsonText {
     ///
     /// # Errors
     ///
-    ///
     /// `AllocError` where memory was refused.
     pub fn number(&mut self, name: &str, value: usize) -> Written {
         self.out.key(name)?;
@@ -137,7 +128,6 @@ impl JsonText {
     /// Adds a member that is `true` or `false`.
     ///
     /// # Errors
-    ///
     ///
     /// `AllocError` where memory was refused.
     pub fn boolean(&mut self, name: &str, value: bool) -> Written {
@@ -149,7 +139,6 @@ impl JsonText {
     ///
     /// # Errors
     ///
-    ///
     /// `AllocError` where memory was refused.
     pub fn null(&mut self, name: &str) -> Written {
         self.out.key(name)?;
@@ -160,7 +149,6 @@ impl JsonText {
     /// question.
     ///
     /// # Errors
-    ///
     ///
     /// `AllocError` where memory was refused.
     pub fn message(&mut self, name: &str, sentence: &str) -> Written {

@@ -168,7 +168,6 @@ impl Memory {
     ///
     /// # Errors
     ///
-    ///
     /// `TooMuch` exactly if `bytes` or `fixed` has more than 65,536 bytes; `OutOfMemory` where memory was
     /// refused.
     pub fn new(alloc: Global, bytes: &[u8], fixed: &[u8]) -> Result<Memory, MemoryFault>
@@ -281,7 +280,6 @@ impl Memory {
     ///
     /// # Errors
     ///
-    ///
     /// The first trap that holds: `Unaligned`, then `OutOfRange`.
     pub fn load(&self, op: &Op, address: u32) -> Result<u32, Trap>
         requires { IsTrue (is_load op.now) }
@@ -297,7 +295,6 @@ impl Memory {
     /// Carries out a store of the low 32, 16 or 8 bits of `b` at this address, in bytes.
     ///
     /// # Errors
-    ///
     ///
     /// The first trap that holds: `Unaligned`, then `OutOfRange`, then `ReadOnly`; the memory is unchanged
     /// then.

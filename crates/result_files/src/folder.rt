@@ -29,7 +29,6 @@ pub trait Folder {
     ///
     /// # Errors
     ///
-    ///
     /// What the system reports; `InTheWay` where there is a file of this name, `Link` and `NoPlainFile` where
     /// the other name is that of something other than a file, `Owner` where the new file can't have the other's
     /// owner and group. Everything is then as it was.
@@ -43,7 +42,6 @@ pub trait Folder {
     ///
     /// # Errors
     ///
-    ///
     /// What the system reports; the other files are as they were.
     fn finish(&mut self, name: &str, file: Self::File) -> Result<(), Unwritten>
         ensures kept { OnOk result (known self.new name.now ≡ Self.File.contents file) }
@@ -52,7 +50,6 @@ pub trait Folder {
     /// Renames the file `from` to `to`, where it replaces what `to` was; `from` then no longer exists.
     ///
     /// # Errors
-    ///
     ///
     /// What the system reports; everything is then as it was.
     fn rename(&mut self, from: &str, to: &str) -> Result<(), Unwritten>

@@ -16,7 +16,6 @@ const MOST_NAMES: u32 = 64;
 ///
 /// # Errors
 ///
-///
 /// Those of the folder, `OutOfMemory` where memory was refused, `TooLong` where a file can't have so many
 /// bytes, and `InTheWay` where 64 names of the new file are taken. The file `name` is then as it was, and the
 /// new one is removed, as far as the folder allows it.

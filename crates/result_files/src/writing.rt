@@ -10,7 +10,6 @@ use std::io::{ErrorKind, Write};
 ///
 /// # Errors
 ///
-///
 /// The writer's errors, and `WriteZero` where it takes nothing; what was written is then a prefix of the text.
 pub fn write_text<W: Write>(text: &str, writer: &mut W) -> io::Result<()>
     ensures whole { OnOk result (Appends (W.contents writer.old) (W.contents writer.new) text.now) }
@@ -22,7 +21,6 @@ pub fn write_text<W: Write>(text: &str, writer: &mut W) -> io::Result<()>
 /// Writes all bytes; a write that was interrupted is tried again.
 ///
 /// # Errors
-///
 ///
 /// The writer's errors, and `WriteZero` where it takes nothing; what was written is then a prefix of the bytes.
 pub fn write_bytes<W: Write>(bytes: &[u8], writer: &mut W) -> io::Result<()>
@@ -50,7 +48,6 @@ pub fn write_bytes<W: Write>(bytes: &[u8], writer: &mut W) -> io::Result<()>
 /// Writes a text and empties it, where it has at least `least` bytes; a shorter one stays as it is.
 ///
 /// # Errors
-///
 ///
 /// Those of `write_bytes`.
 pub fn write_off<W: Write>(text: &mut String, least: usize, writer: &mut W) -> io::Result<()>

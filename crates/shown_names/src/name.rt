@@ -10,7 +10,6 @@ use std::alloc::{AllocError, Global};
 ///
 /// # Errors
 ///
-///
 /// `AllocError` where memory was refused.
 pub fn shown_name(alloc: Global, name: &str) -> Result<String, AllocError>
     ensures { IfOk result (λ text. string_bytes text ≡ shown name.now) }

@@ -14,7 +14,6 @@ use std::alloc::{AllocError, Global};
 ///
 /// # Errors
 ///
-///
 /// `AllocError` where memory was refused.
 pub fn shell_word(alloc: Global, name: &str) -> Result<String, AllocError>
     ensures { IfOk result (λ word. string_bytes word ≡ shell_word name.now) }

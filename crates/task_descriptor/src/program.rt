@@ -97,7 +97,6 @@ impl Program {
     ///
     /// # Errors
     ///
-    ///
     /// The first fault that holds of the parts, with the parts as they were.
     pub fn build(parts: Parts) -> Result<Program, (Parts, BuildFault)>
         ensures built { MatchResult result
@@ -183,7 +182,6 @@ impl Program {
     /// The plain machine at the program's start: it takes the instructions without their marks, and no task.
     ///
     /// # Errors
-    ///
     ///
     /// `OutOfMemory` where memory was refused; nothing is left behind then.
     pub fn plain(&self, alloc: Global) -> Result<Plain, OutOfMemory>

@@ -46,7 +46,6 @@ impl Piece {
     ///
     /// # Errors
     ///
-    ///
     /// `AllocError` where memory was refused; what the piece is then is not known.
     pub fn complete(&mut self, more: &[u8]) -> Result<usize, AllocError>
         ensures within { IfOk result (λ count. count ≤ length more.now) }

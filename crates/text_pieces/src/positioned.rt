@@ -21,7 +21,6 @@ pub trait PositionedFile: Read + Sync {
     ///
     /// # Errors
     ///
-    ///
     /// Those of `Read::read`; also where the file has no positioned reads.
     fn read_at(&self, buffer: &mut [u8], offset: u64) -> io::Result<usize>
         ensures bound { ReadsAtMost result buffer.new }

@@ -48,7 +48,6 @@ const MOST_INTERRUPTIONS: u32 = 1000;
 ///
 /// # Errors
 ///
-///
 /// `Read` if a read fails or more than 1,000 are interrupted; `OutOfMemory` if memory was refused. How much of
 /// the reader was read is unknown then.
 pub fn fetch<R: Read>(alloc: Global, reader: &mut R, most: u64) -> Result<Vec<u8>, FetchFault>

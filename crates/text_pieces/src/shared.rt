@@ -24,7 +24,6 @@ const LEAST_SHARED: u64 = 262_144;
 ///
 /// # Errors
 ///
-///
 /// `Read` if a read fails or more than 1,000 are interrupted; `OutOfMemory` if memory was refused. How much of
 /// the file was read is unknown then.
 pub fn fetch_shared<F: PositionedFile, R: Threads + Sync>(

@@ -44,7 +44,6 @@ impl Text {
     ///
     /// # Errors
     ///
-    ///
     /// `AllocError` where memory was refused; what the text is then is not known.
     pub fn append(&mut self, bytes: Vec<u8>) -> Result<(), AllocError>
         ensures { OnOk result (self.new ≡ self.old ++ bytes.items) }
@@ -75,7 +74,6 @@ impl Text {
     /// The pieces in order, each but the last ending with LF; together they are the text.
     ///
     /// # Errors
-    ///
     ///
     /// `AllocError` where memory was refused.
     pub fn pieces(&self, alloc: Global) -> Result<Vec<&[u8]>, AllocError>
