@@ -1,5 +1,5 @@
-//! The canonical text of a program, with the law that reading it gives the program back; and a text with other
-//! marks written into it, line by line.
+//! Printing programs as assembler text: the canonical text, which reads back as the same program, and edited marks.
+//! A law states the round trip. Also: a text with a program's create masks and forward bits written into it.
 #![tactic(auto)]
 
 mod editing;

@@ -1,4 +1,4 @@
-//! JSON text that grows token by token; an error of a call means that memory was refused.
+//! A JSON text that grows token by token; an error of a call means that memory was refused.
 #![tactic(auto)]
 
 ghost use Rattle.std.specs.Prelude.{◌≡◌, []};

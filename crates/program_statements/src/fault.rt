@@ -24,13 +24,13 @@ pub enum StatementFault {
     Mark,
 }
 
-/// Why there is no statement.
+/// Why a line's tokens give no statement.
 #[derive(Debug, Drop, Error)]
 pub enum StatementError {
-    /// It is wrong.
+    /// They spell none.
     #[error(transparent)]
     Fault(StatementFault),
-    /// There was no memory for it.
+    /// Memory for the statement was refused.
     #[error("out of memory")]
     OutOfMemory,
 }

@@ -1,5 +1,6 @@
-//! The statements of a program text: what the tokens of one line mean, before names are resolved (MIPS
-//! assembler mnemonics; tasks and marks as in Sohi, Breach, Vijaykumar, ISCA 1995).
+//! The statements of a program text: what the tokens of one line mean, before names are resolved.
+//! Mnemonics are those of MIPS assemblers; tasks and marks are the paper's (Sohi, Breach, Vijaykumar,
+//! "Multiscalar Processors", ISCA 1995).
 #![tactic(auto)]
 
 mod directive;
