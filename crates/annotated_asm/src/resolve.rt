@@ -332,7 +332,8 @@ fn add_part(
 ///
 /// # Errors
 ///
-/// `OutOfMemory` where memory was refused; else the first fault of the items.
+/// `Unknown` with the line, from 1, of an item that uses a name which is no label of the wanted kind;
+/// `Build(TooMany)` where a label lies beyond what a program may have. `OutOfMemory` where memory was refused.
 pub fn parts_of(alloc: Global, labels: &Table, items: &[PlacedStatement]) -> Result<Parts, AsmFault>
     ensures { Answers listing_of result (parts labels.now no_parts items.now) }
 {

@@ -1,5 +1,4 @@
-//! Annotates programs: finds the least certificate of a program, and from it whether the marks are right
-//! and which marks to propose.
+//! Annotates programs: finds the least certificate, whether the marks are sound, and which marks to propose.
 //!
 //! No trust rests on this crate: its results are checked like a stranger's.
 #![tactic(auto)]
