@@ -55,10 +55,15 @@ pub(crate) struct Operands {
 /// The instruction that a unit executes next, with its operands.
 #[derive(Clone, Copy)]
 pub struct Next<'a> {
+    /// Its code index.
     pub index: u32,
+    /// Its address in bytes.
     pub pc: u32,
+    /// The instruction with its marks.
     pub marked: &'a Marked,
+    /// The word of operand a, 0 where it has none.
     pub a: u32,
+    /// The word of operand b, 0 where it has none.
     pub b: u32,
 }
 
