@@ -19,8 +19,7 @@ use std::alloc::Global;
 ///
 /// # Errors
 ///
-/// `NotAscii` or `Token` with the line's number, or `OutOfMemory` where memory was refused; the vector is empty
-/// then.
+/// `NotAscii` or `Token` with the line's number, or `OutOfMemory` where memory was refused.
 pub fn tokens_of(tokens: &mut Vec<Token>, line: u32, text: &[u8]) -> Result<(), AsmFault>
     ensures { Answers (λ _. tokens.new.items) result (tokens_on_line line (line_tokens text.now)) }
 {

@@ -1,4 +1,4 @@
-//! Names and what they stand for.
+//! Names and their symbols.
 
 use crate::name_key::NameKey;
 use indexmap::IndexMap;

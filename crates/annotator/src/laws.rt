@@ -20,7 +20,7 @@ pub fn least_is_accepted()
     ensures { (p : Listing) (cert other : List (List (ℕ × ℕ))) → IsWellFormed p → IsLeast p cert → IsAccepted p other → IsAccepted p cert }
 {}
 
-/// Law: the least masks lie within those of any certificate that is accepted.
+/// Law: each least mask lies within the mask of any certificate that is accepted.
 pub fn least_is_within()
     ensures { (p : Listing) (cert other : List (List (ℕ × ℕ))) → IsWellFormed p → IsLeast p cert → IsAccepted p other
         → (t : ℕ) (d : Descriptor) → slice_get p.tasks t ≡ Some d → IsWithin (list_of cert t) (list_of other t) }

@@ -1,5 +1,5 @@
-//! Printing programs as assembler text: the canonical text, which reads back as the same program, and edited marks.
-//! A law states the round trip. Also: a text with a program's create masks and forward bits written into it.
+//! Prints a program as its canonical text, which reads back as that program, or with other marks in a given text.
+//! A law states the round trip. The other marks are create masks and forward bits.
 #![tactic(auto)]
 
 mod editing;

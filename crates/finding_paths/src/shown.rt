@@ -81,7 +81,7 @@ pub fn path_of(
 }
 
 /// The first findings of a program's marks, at most `most` of them, in order of task, code index, rule and
-/// register, each with a shortest path that shows it, and the number of the others. The findings are those of
+/// register, each with a shortest path that shows it, and the number of the others. They are findings with
 /// `least`, the least certificate, so there is none exactly where the marks are sound.
 ///
 /// Findings that are not shown are counted, task by task, without looking for a path: they take no more memory

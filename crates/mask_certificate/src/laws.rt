@@ -20,8 +20,8 @@ pub fn written_is_read()
     ensures { (cert : List (List (ℕ × ℕ))) (names : List (List ℕ)) → IsCertificate cert → AreNames names → length cert ≡ length names → cert_parse (cert_text cert names) names ≡ Ok cert }
 {}
 
-/// Law: the lines of a text that is cut after an LF are those of the front and then those of the rest. So a
-/// text in pieces is read one piece after another.
+/// Law: the lines of a text that is cut after an LF are the front's and then the rest's. So a text in pieces is
+/// read one piece after another.
 pub fn lines_are_joined()
     ensures { (spelling : MaskSpelling) (front rest : List ℕ) → IsLines front
         → lines_in spelling (front ++ rest) ≡ lines_in spelling front ++ lines_in spelling rest }

@@ -6,7 +6,7 @@ use std::marker::Sync;
 /// hold them up. Nothing that a gate does changes the answer.
 pub trait CheckGate: Sync {
     /// Called before a worker checks a task. Workers and tasks are counted from 0. A task that no worker
-    /// checked, for want of memory, is checked at the end under the number after the last worker's.
+    /// checked, because memory was refused, is checked at the end under the number after the last worker's.
     fn before(&self, worker: u32, task: u32);
 
     /// Called after a worker has checked a task; the numbers are as with `before`.

@@ -120,7 +120,7 @@ impl Processor {
         self.queue.position_with(serial)
     }
 
-    /// Memory, the output, and how the run stands.
+    /// Memory, the output, and the run's outcome.
     #[inline]
     pub fn world(&self) -> &World
         ensures { result.now ≡ self.now.world }

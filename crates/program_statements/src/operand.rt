@@ -1,4 +1,4 @@
-//! The operands of an instruction: what stands between its commas.
+//! The operands of an instruction: what is between its commas.
 
 ghost use Rattle.std.specs.Prelude.{◌≡◌};
 ghost use Rattle.std.specs.Option.{option_map};

@@ -15,7 +15,7 @@ pub enum Token {
     Name(Name),
     /// `$` and a register's number, 0 to 33 (32 is HI, 33 is LO), or its name.
     Register(Reg),
-    /// Decimal digits, or `0x` and hexadecimal digits of either case; a `-` may stand directly before.
+    /// Decimal digits, or `0x` and hexadecimal digits of either case; a `-` may come directly before.
     Number(Number),
     /// `@` and decimal digits: a code index.
     Index(Number),
@@ -91,7 +91,7 @@ pub enum Mark {
     Unknown,
 }
 
-/// Why a line has no tokens; the numbers are those of a program text's faults.
+/// Why a line has no tokens, numbered as the faults of a program text are.
 #[derive(Clone, Copy, Debug, PartialEq, Eq, Error)]
 pub enum LineFault {
     /// 2: a byte is neither printable ASCII nor a tab, nor the one CR at the line's end.

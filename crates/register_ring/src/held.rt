@@ -40,7 +40,7 @@ impl RegisterWords {
         }
     }
 
-    /// The words of all registers but those of a set; the word of register r is element r of `words`.
+    /// A word for each register outside a set: for register r element r of `words`.
     #[inline(always)]
     pub fn all_but(words: &[u32; 34], absent: RegSet) -> RegisterWords
         ensures { (r : ℕ) → r < 34 → pairs result r ≡ (if has absent r then None else Some (slice_index words.now r)) }

@@ -1,4 +1,4 @@
-//! The register ring: a unit's port, with the registers that arrived from the unit before it and those that it sent.
+//! A unit's port on the register ring: what arrived from the unit before it and what it sent.
 //! The ring and its accumulated mask are the paper's (Sohi, Breach, Vijaykumar, "Multiscalar Processors", ISCA
 //! 1995, section 2).
 #![tactic(auto)]

@@ -1,4 +1,4 @@
-//! Files that take a result: each is written whole or not at all, and shown to nobody who may not read the old file.
+//! Writes a result file whole or not at all: nobody who may not read the old file sees the new one meanwhile.
 //! Also: writing to a stream, so that it is known what was written where it fails.
 #![tactic(auto)]
 

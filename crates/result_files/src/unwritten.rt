@@ -14,13 +14,13 @@ pub enum Unwritten {
     /// The folder that the file is to go into does not exist.
     #[error("no such folder")]
     NoSuchFolder,
-    /// Its name is that of a link to the file of this path.
+    /// Its name is a link's, to the file of this path.
     #[error("is a link")]
     Link(String),
-    /// Its name is that of something other than a file: a folder, a link to no file, a device or a pipe.
+    /// Its name is no file's but a folder's, a device's, a pipe's or a link's to no file.
     #[error("is no plain file")]
     NoPlainFile,
-    /// The system does not permit writing it, or making a file beside it.
+    /// The system does not permit writing it, or making a file in its folder.
     #[error("no permission to write")]
     NotPermitted,
     /// It belongs to another, whom the process can't give the new file.

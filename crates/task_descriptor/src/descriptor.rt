@@ -33,13 +33,12 @@ pub struct Marked {
 /// A task descriptor: what the sequencer knows of a task.
 #[derive(Debug, Drop)]
 pub struct Descriptor {
-    /// The task's name, which no other task has.
+    /// The task's name; no two tasks of a program share one.
     pub name: Name,
     /// The code index of the task's first instruction.
     pub entry: Place,
-    /// The create mask: the registers that the task may produce, never register 0.
+    /// The create mask: the registers that the task may produce; in a program never register 0.
     pub create: RegSet,
-    /// The code indices of the possible successors' first instructions, in order, at most 16; one may be listed
-    /// twice.
+    /// The code indices of the possible successors' first instructions, in order; one may be listed twice.
     pub targets: Places,
 }

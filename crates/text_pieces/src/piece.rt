@@ -3,9 +3,8 @@
 use std::alloc::{AllocError, Global};
 use std::marker::Model;
 
-/// One piece of a text: lines, each with its LF; only a text's last piece may end without one. The front of its
-/// memory may hold bytes that complete the last line of the piece before; removing them here would move all the
-/// others.
+/// One piece of a text. The front of its memory may hold bytes that complete the last line of the piece before
+/// and belong to it; removing them here would move all the others.
 #[derive(Debug, Drop)]
 pub struct Piece {
     memory: Vec<u8>,
@@ -26,7 +25,7 @@ impl Piece {
     ghost use Rattle.std.specs.Prelude.{◌≡◌, ℕ, ◌+◌, ◌≤◌, ◌<◌, ◌++◌, length, take, drop, slice_index, vec_len, IfOk};
     ghost use Rattle.text_pieces.specs.Pieces.{IsLines};
 
-    /// The piece whose bytes are those of `memory` from byte `from` on.
+    /// The piece with the bytes of `memory` from byte `from` on.
     pub fn new(memory: Vec<u8>, from: usize) -> Piece
         requires { from ≤ vec_len memory }
         ensures { result ≡ drop from memory.items }

@@ -71,7 +71,7 @@ impl Text {
         self.last.as_slice().len() <= left
     }
 
-    /// The pieces in order, each but the last ending with LF; together they are the text.
+    /// The pieces in order, cut after LFs; together they are the text.
     ///
     /// # Errors
     ///

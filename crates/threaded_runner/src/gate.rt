@@ -3,7 +3,7 @@
 ghost use Rattle.std.specs.Prelude.{ℕ};
 
 /// Is called by each worker around each of its bursts, while it does not hold the lock: to watch the workers,
-/// or to hold one up. Nothing that a gate does changes what is right about a run.
+/// or to hold one up.
 pub trait RunGate: Sync {
     /// It was called before a burst of this worker. Code that is proved for each gate can show it only by the call.
     ghost was_before: { Self → (worker : ℕ) → Type 0 } = { λ gate worker. Unit {0} };

@@ -7,7 +7,7 @@ use mips_plain::outcome::OutOfMemory;
 use std::alloc::Global;
 use std::marker::Model;
 
-/// What the head alone changes: memory, the output, and how the run stands.
+/// What the head alone changes: memory, the output, and the run's outcome.
 #[derive(Debug, Drop)]
 pub struct World {
     /// Data memory and read-only data.

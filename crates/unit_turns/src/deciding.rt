@@ -23,12 +23,13 @@ use sequencer::machine::Machine;
 const MOST_AHEAD: u64 = 65_536;
 
 /// What the worker of the unit with this number on the ring does next. The head does the event that it is ready
-/// for. A unit behind it in the queue takes a register, squashes the units after it, sends a register or
+/// for. A unit after it in the queue takes a register, squashes the units after it, sends a register or
 /// executes, whichever is the first that the machine allows. The free unit after the tail takes the task that
 /// may follow, or asks for a choice. An instruction that needs nothing but registers and read-only data is
 /// executed in a burst, ahead of the head only while at most 65,536 + 2 h instructions besides h were executed,
-/// h being those of the retired tasks and of the head: so no wrong path uses up the history. All else waits. An
-/// event that is named is allowed and belongs to the unit; so does each that may be chosen. Takes no memory.
+/// h being the instructions of the retired tasks and of the head: so no wrong path uses up the history. All
+/// else waits. An event that is named is allowed and belongs to the unit; so does each that may be chosen.
+/// Takes no memory.
 pub fn turn(machine: &Machine<'_>, unit: u32) -> Turn
     ensures own { IsTurn machine.now unit result }
     ensures value { result ≡ turn_of machine.now unit }
