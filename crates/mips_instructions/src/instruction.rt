@@ -18,13 +18,21 @@ use crate::places::{address_of, following};
 /// Operations on two registers: `addu subu and or xor nor slt sltu`.
 #[derive(Clone, Copy, Debug, PartialEq, Eq)]
 pub enum ThreeKind {
+    /// The sum, modulo 2^32.
     Addu,
+    /// The difference rs - rt, modulo 2^32.
     Subu,
+    /// The bits that are 1 in both.
     And,
+    /// The bits that are 1 in either.
     Or,
+    /// The bits that are 1 in exactly one.
     Xor,
+    /// The bits that are 1 in neither.
     Nor,
+    /// 1 if rs is less than rt, both signed, else 0.
     Slt,
+    /// 1 if rs is less than rt, both unsigned, else 0.
     Sltu,
 }
 
@@ -49,8 +57,11 @@ impl ThreeKind {
 /// Shifts by an amount in the instruction: `sll srl sra`.
 #[derive(Clone, Copy, Debug, PartialEq, Eq)]
 pub enum ShiftByKind {
+    /// To the left, with zeros.
     Sll,
+    /// To the right, with zeros.
     Srl,
+    /// To the right, with copies of the sign bit.
     Sra,
 }
 
@@ -70,8 +81,11 @@ impl ShiftByKind {
 /// Shifts by the low 5 bits of a register: `sllv srlv srav`.
 #[derive(Clone, Copy, Debug, PartialEq, Eq)]
 pub enum ShiftVarKind {
+    /// To the left, with zeros.
     Sllv,
+    /// To the right, with zeros.
     Srlv,
+    /// To the right, with copies of the sign bit.
     Srav,
 }
 
@@ -91,8 +105,11 @@ impl ShiftVarKind {
 /// Operations with an immediate of 16 bits that is extended by its sign: `addiu slti sltiu`.
 #[derive(Clone, Copy, Debug, PartialEq, Eq)]
 pub enum ImmKind {
+    /// The sum, modulo 2^32.
     Addiu,
+    /// 1 if rs is less than n, both signed, else 0.
     Slti,
+    /// 1 if rs is less than the extended n, both unsigned, else 0.
     Sltiu,
 }
 
@@ -112,8 +129,11 @@ impl ImmKind {
 /// Bit operations with an immediate of 16 bits that is extended with zeros: `andi ori xori`.
 #[derive(Clone, Copy, Debug, PartialEq, Eq)]
 pub enum LogicKind {
+    /// The bits that are 1 in both.
     Andi,
+    /// The bits that are 1 in either.
     Ori,
+    /// The bits that are 1 in exactly one.
     Xori,
 }
 
@@ -133,7 +153,9 @@ impl LogicKind {
 /// Products of 64 bits, signed and unsigned: `mult multu`.
 #[derive(Clone, Copy, Debug, PartialEq, Eq)]
 pub enum MultKind {
+    /// Of signed words.
     Mult,
+    /// Of unsigned words.
     Multu,
 }
 
@@ -152,7 +174,9 @@ impl MultKind {
 /// Moves from HI or LO to a general register: `mfhi mflo`.
 #[derive(Clone, Copy, Debug, PartialEq, Eq)]
 pub enum MoveFromKind {
+    /// From HI, register 32.
     Mfhi,
+    /// From LO, register 33.
     Mflo,
 }
 
@@ -171,7 +195,9 @@ impl MoveFromKind {
 /// Moves from a general register to HI or LO: `mthi mtlo`.
 #[derive(Clone, Copy, Debug, PartialEq, Eq)]
 pub enum MoveToKind {
+    /// To HI, register 32.
     Mthi,
+    /// To LO, register 33.
     Mtlo,
 }
 
@@ -190,10 +216,15 @@ impl MoveToKind {
 /// Loads of 4, 2 and 1 bytes: `lw lh lhu lb lbu`; `lh` and `lb` extend the sign.
 #[derive(Clone, Copy, Debug, PartialEq, Eq)]
 pub enum LoadKind {
+    /// A word of 4 bytes.
     Lw,
+    /// 2 bytes, extended by their sign.
     Lh,
+    /// 2 bytes, extended with zeros.
     Lhu,
+    /// 1 byte, extended by its sign.
     Lb,
+    /// 1 byte, extended with zeros.
     Lbu,
 }
 
@@ -215,8 +246,11 @@ impl LoadKind {
 /// Stores of 4, 2 and 1 bytes: `sw sh sb`.
 #[derive(Clone, Copy, Debug, PartialEq, Eq)]
 pub enum StoreKind {
+    /// A word of 4 bytes.
     Sw,
+    /// The low 2 bytes.
     Sh,
+    /// The low byte.
     Sb,
 }
 
@@ -236,7 +270,9 @@ impl StoreKind {
 /// Conditional branches that compare two registers: `beq bne`.
 #[derive(Clone, Copy, Debug, PartialEq, Eq)]
 pub enum BranchTwoKind {
+    /// Taken if they are equal.
     Beq,
+    /// Taken if they are not equal.
     Bne,
 }
 
@@ -255,9 +291,13 @@ impl BranchTwoKind {
 /// Conditional branches that compare a register, as a signed number, with zero: `blez bgtz bltz bgez`.
 #[derive(Clone, Copy, Debug, PartialEq, Eq)]
 pub enum BranchOneKind {
+    /// Taken if it is at most zero.
     Blez,
+    /// Taken if it is above zero.
     Bgtz,
+    /// Taken if it is below zero.
     Bltz,
+    /// Taken if it is at least zero.
     Bgez,
 }
 
@@ -533,15 +573,15 @@ fn named_in(mnemonics: &[Mnemonic], word: &[u8]) -> Option<Mnemonic>
 pub enum Op {
     /// `addu rd,rs,rt`: rd, rs, rt.
     Three(ThreeKind, Gpr, Gpr, Gpr),
-    /// `sll rd,rt,n`: rd, rt, n.
+    /// `sll rd,rt,n`: rd, rt, n, which is 0..=31 bits.
     ShiftBy(ShiftByKind, Gpr, Gpr, Amount),
     /// `sllv rd,rt,rs`: rd, rt, rs.
     ShiftVar(ShiftVarKind, Gpr, Gpr, Gpr),
-    /// `addiu rt,rs,n`: rt, rs, n.
+    /// `addiu rt,rs,n`: rt, rs, n, which is extended by its sign.
     Imm(ImmKind, Gpr, Gpr, i16),
-    /// `andi rt,rs,n`: rt, rs, n.
+    /// `andi rt,rs,n`: rt, rs, n, which is extended with zeros.
     Logic(LogicKind, Gpr, Gpr, u16),
-    /// `lui rt,n`: rt, n.
+    /// `lui rt,n`: rt, n, the high 16 bits of the word; the low ones are 0.
     Lui(Gpr, u16),
     /// `mult rs,rt`: rs, rt.
     Mult(MultKind, Gpr, Gpr),
@@ -549,13 +589,13 @@ pub enum Op {
     MoveFrom(MoveFromKind, Gpr),
     /// `mthi rs`: rs.
     MoveTo(MoveToKind, Gpr),
-    /// `lw rt,n(base)`: rt, base, n.
+    /// `lw rt,n(base)`: rt, base, n, an offset in bytes.
     Load(LoadKind, Gpr, Gpr, i16),
-    /// `sw rt,n(base)`: rt, base, n.
+    /// `sw rt,n(base)`: rt, base, n, an offset in bytes.
     Store(StoreKind, Gpr, Gpr, i16),
-    /// `beq rs,rt,T`: rs, rt, T.
+    /// `beq rs,rt,T`: rs, rt, T, a code index.
     BranchTwo(BranchTwoKind, Gpr, Gpr, Place),
-    /// `blez rs,T`: rs, T.
+    /// `blez rs,T`: rs, T, a code index.
     BranchOne(BranchOneKind, Gpr, Place),
     /// `j T`: T, a code index.
     Jump(Place),

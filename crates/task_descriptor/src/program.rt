@@ -224,8 +224,8 @@ impl Program {
         address_of(place.get())
     }
 
-    /// The code index of the instruction at an address, in bytes; `None` where no instruction of the program
-    /// is.
+    /// The code index of the instruction at an address, in bytes; `None` where the program has no instruction
+    /// there.
     pub fn index(&self, address: u32) -> Option<u32>
         ensures { result ≡ instruction_at self.now address }
     {

@@ -37,12 +37,12 @@ impl Bell {
         }
     }
 
-    /// The number of times that it has rung.
+    /// The number of times that the bell has rung.
     pub fn rings(&self) -> u64 {
         self.rings.load(Ordering::SeqCst)
     }
 
-    /// Waits for a while, without the lock, until the bell has rung more than `heard` times.
+    /// Waits, but only for a while and without the lock, until the bell has rung more than `heard` times.
     pub fn listen(&self, heard: u64) {
         for _ in 0..ROUNDS {
             if self.rings_soon(heard) {
