@@ -15,7 +15,7 @@ use task_descriptor::program::{BuildFault, Parts, Program};
 /// The most bytes of a program text.
 pub const MOST_TEXT: usize = 4_194_304;
 
-/// The most lines of a program text: one more than it has bytes at most.
+/// The most lines of a program text: an LF for each byte, and the line after the last.
 pub const MOST_LINES: usize = 4_194_305;
 
 /// The program that the parts make. This takes no memory, so each refusal is the parts' own.

@@ -1,5 +1,6 @@
-//! Prints a program as its canonical text, which reads back as that program, or with other marks in a given text.
-//! A law states the round trip. The other marks are create masks and forward bits.
+//! Prints a program as its canonical text, which reads back as that program.
+//! A law states the round trip. Also: a program's create masks and forward bits written into another text of
+//! it, line by line.
 #![tactic(auto)]
 
 mod editing;

@@ -50,8 +50,8 @@ pub fn ended_has_none()
     ensures { EndedHasNone }
 {}
 
-/// Law: an instruction of the head lets h, the instructions of the sequential run, grow by one, a Retire by
-/// what the next unit has executed ahead, any other event not at all.
+/// Law: an instruction of the head lets h, the instructions of the retired tasks and the head, grow by one, a
+/// Retire by what the next unit has executed ahead, any other event not at all.
 pub fn events_grow()
     ensures { EventsGrow }
 {}

@@ -29,9 +29,9 @@ pub trait Folder {
     ///
     /// # Errors
     ///
-    /// What the system reports; `InTheWay` where there is a file of this name, `Link` and `NoPlainFile` where
-    /// the other name is no file's, `Owner` where the new file can't have the other's owner and group.
-    /// Everything is then as it was.
+    /// What the system reports; `InTheWay` where there is a file `name`, `Link` and `NoPlainFile` where `place`
+    /// is something other than a file, `Owner` where the new file can't have its owner and group. Everything is
+    /// then as it was.
     fn create(&mut self, name: &str, place: &str) -> Result<Self::File, Unwritten>
         ensures empty { IfOk result (λ file. is_watched ≡ true → Self.File.contents file ≡ Some []) }
         ensures others { ChangesOnly (known self.old) (known self.new) name.now }

@@ -14,10 +14,10 @@ pub enum Unwritten {
     /// The folder that the file is to go into does not exist.
     #[error("no such folder")]
     NoSuchFolder,
-    /// Its name is a link's, to the file of this path.
+    /// The name belongs to a link to the file of this path.
     #[error("is a link")]
     Link(String),
-    /// Its name is no file's but a folder's, a device's, a pipe's or a link's to no file.
+    /// The name belongs to something other than a file: a folder, a link to no file, a device or a pipe.
     #[error("is no plain file")]
     NoPlainFile,
     /// The system does not permit writing it, or making a file in its folder.

@@ -35,7 +35,7 @@ pub enum How {
 pub struct Report<'a> {
     /// The machine as the workers left it.
     pub machine: Machine<'a>,
-    /// The number of events of the machine's history that each worker applied, worker 0 first.
+    /// For each worker, worker 0 first, the number of events of the history that its units did.
     pub counts: Vec<u64>,
     /// Whether the run ended or the budget was used up.
     pub how: How,
