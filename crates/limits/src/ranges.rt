@@ -4,19 +4,20 @@ ghost use Rattle.limits.specs.Limits.{IsUnits, IsWorkers, IsBudget};
 
 use std::marker::Model;
 
-/// The most units of a machine.
+/// The most units that a machine has.
 pub const MOST_UNITS: u32 = 16;
 
-/// The most threads that share a check or serve a run.
+/// The most worker threads that share a check or serve a run.
 pub const MOST_WORKERS: u32 = 16;
 
-/// The most instructions of `seq`, and the most events that a run may ask for.
+/// The largest budget: the most instructions of `seq`, and the most events that a run may ask for.
 pub const MOST_BUDGET: u32 = 1_000_000;
 
-/// The most events of a machine: with as many before it, an event is refused.
+/// The most events in a machine's history: once it has so many, every further event is refused.
 pub const MOST_EVENTS: usize = 1_000_000;
 
-/// How many units a machine has, 1..=16 (the paper's circular queue of units, section 2, has no fixed length).
+/// The number of units of a machine, 1..=16 (the paper's circular queue of units, section 2, has no fixed
+/// length).
 #[derive(Clone, Copy, Debug, PartialEq, Eq)]
 pub struct Units {
     size: u32,
@@ -36,7 +37,7 @@ impl Model for Units {
 }
 
 impl Units {
-    /// This many units; `None` outside 1..=16.
+    /// A machine size of `size` units; `None` outside 1..=16.
     pub fn new(size: u32) -> Option<Units>
         ensures some { IsSome result ↔ IsUnits size }
         ensures value { IfSome result (λ units. units ≡ size) }
@@ -48,7 +49,7 @@ impl Units {
         }
     }
 
-    /// This many units, where the caller knows that they are 1..=16.
+    /// A machine size of `size` units, which the caller knows to be 1..=16.
     pub fn of(size: u32) -> Units
         requires { IsUnits size }
         ensures { result ≡ size }
@@ -66,7 +67,7 @@ impl Units {
     }
 }
 
-/// How many threads share a check or serve a run, 1..=16.
+/// The number of worker threads that share a check or serve a run, 1..=16.
 #[derive(Clone, Copy, Debug, PartialEq, Eq)]
 pub struct Workers {
     count: u32,
@@ -86,7 +87,7 @@ impl Model for Workers {
 }
 
 impl Workers {
-    /// This many workers; `None` outside 1..=16.
+    /// `count` workers; `None` outside 1..=16.
     pub fn new(count: u32) -> Option<Workers>
         ensures some { IsSome result ↔ IsWorkers count }
         ensures value { IfSome result (λ workers. workers ≡ count) }
@@ -98,7 +99,7 @@ impl Workers {
         }
     }
 
-    /// This many workers, where the caller knows that they are 1..=16.
+    /// `count` workers, which the caller knows to be 1..=16.
     pub fn of(count: u32) -> Workers
         requires { IsWorkers count }
         ensures { result ≡ count }
@@ -116,7 +117,7 @@ impl Workers {
     }
 }
 
-/// How far a run goes at most, 1..=1,000,000: instructions for `seq`, events for `run`, `replay` and `curve`.
+/// The most that a run may do, 1..=1,000,000: instructions for `seq`, events for `run`, `replay` and `curve`.
 #[derive(Clone, Copy, Debug, PartialEq, Eq)]
 pub struct Budget {
     most: u32,
@@ -136,7 +137,7 @@ impl Model for Budget {
 }
 
 impl Budget {
-    /// The budget of this size; `None` outside 1..=1,000,000.
+    /// A budget of `most` instructions or events; `None` outside 1..=1,000,000.
     pub fn new(most: u32) -> Option<Budget>
         ensures some { IsSome result ↔ IsBudget most }
         ensures value { IfSome result (λ budget. budget ≡ most) }
@@ -148,7 +149,7 @@ impl Budget {
         }
     }
 
-    /// The budget of this size, where the caller knows that it is 1..=1,000,000.
+    /// A budget of `most` instructions or events, which the caller knows to be 1..=1,000,000.
     pub fn of(most: u32) -> Budget
         requires { IsBudget most }
         ensures { result ≡ most }
@@ -156,7 +157,7 @@ impl Budget {
         Budget { most }
     }
 
-    /// The size, 1..=1,000,000.
+    /// The most instructions or events, 1..=1,000,000.
     pub fn get(self) -> u32
         ensures value { result ≡ self }
         ensures least { 1 ≤ result }

@@ -1,5 +1,5 @@
-//! Files that take a result: they are written whole or not at all, and nobody who may not read the old file sees the
-//! new one while it is written. And writing to a stream, so that it is known what was written where it fails.
+//! Writes a result file whole or not at all: nobody who may not read the old file sees the new one meanwhile.
+//! Also: writing to a stream, so that it is known what was written where it fails.
 #![tactic(auto)]
 
 pub mod folder;

@@ -11,13 +11,14 @@ use std::io::Write;
 // How many names a new file is tried under. A process that a signal ended may have left its file under one of them.
 const MOST_NAMES: u32 = 64;
 
-/// Gives the file of this name these bytes and no others. They are written to a new file beside it, which then
-/// takes its name; so nobody sees a part of them under the name itself.
+/// Makes `bytes` the whole contents of the file `name`. They are written to a new file in the same folder,
+/// which then takes the name; so nobody sees a part of them under the name itself.
 ///
 /// # Errors
 ///
-/// Those of the folder, `OutOfMemory`, `TooLong` where a file can't have so many bytes, and `InTheWay` where 64 names
-/// of the new file are taken. Then the file is as it was, and the new one is removed, as far as the folder allows it.
+/// Those of the folder, `OutOfMemory` where memory was refused, `TooLong` where a file can't have so many
+/// bytes, and `InTheWay` where 64 names of the new file are taken. The file `name` is then as it was, and the
+/// new one is removed, as far as the folder allows it.
 pub fn replace<F: Folder>(
     alloc: Global,
     folder: &mut F,

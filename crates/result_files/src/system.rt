@@ -1,4 +1,4 @@
-//! The files of the system.
+//! The files of the operating system.
 ghost use Rattle.std.specs.Prelude.{None, false};
 
 use crate::folder::Folder;
@@ -13,7 +13,7 @@ use std::os::unix::fs::{MetadataExt, OpenOptionsExt, fchown};
 use std::rt::Files;
 use std::{fs, io};
 
-/// The files of the system, of which nothing is known.
+/// The files of the operating system; contracts know nothing of what they hold.
 #[derive(Drop)]
 pub struct SystemFolder<'a, R> {
     rt: &'a R,
@@ -22,13 +22,13 @@ pub struct SystemFolder<'a, R> {
 }
 
 impl<'a, R> SystemFolder<'a, R> {
-    /// The files that this runtime reaches, for the process of this number.
+    /// The files that the runtime `rt` reaches, for the process of this number.
     pub fn new(rt: &'a R, alloc: Global, number: u32) -> SystemFolder<'a, R> {
         SystemFolder { rt, alloc, number }
     }
 }
 
-/// A new file of the system, of which nothing is known.
+/// A file of the operating system that is being written; contracts know nothing of what it holds.
 #[derive(Drop)]
 pub struct NewFile<F> {
     file: F,

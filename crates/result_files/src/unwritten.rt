@@ -11,16 +11,16 @@ use thiserror::Error;
 /// Why a file is not written, as far as the system reports it.
 #[derive(Debug, Drop, Error)]
 pub enum Unwritten {
-    /// The folder that it is to go into does not exist.
+    /// The folder that the file is to go into does not exist.
     #[error("no such folder")]
     NoSuchFolder,
-    /// Its name is that of a link to the file of this path.
+    /// The name belongs to a link to the file of this path.
     #[error("is a link")]
     Link(String),
-    /// Its name is that of something other than a file: a folder, a link to no file, a device or a pipe.
+    /// The name belongs to something other than a file: a folder, a link to no file, a device or a pipe.
     #[error("is no plain file")]
     NoPlainFile,
-    /// The system does not permit writing it, or making a file beside it.
+    /// The system does not permit writing it, or making a file in its folder.
     #[error("no permission to write")]
     NotPermitted,
     /// It belongs to another, whom the process can't give the new file.
@@ -35,7 +35,7 @@ pub enum Unwritten {
     /// The disk is full.
     #[error("no space left")]
     Full,
-    /// Memory ran out.
+    /// Memory was refused.
     #[error("out of memory")]
     OutOfMemory,
     /// Any other reason.
@@ -89,7 +89,7 @@ impl From<io::Error> for Unwritten {
     }
 }
 
-/// Why a file is not written, for the kind of error that the system reported.
+/// The reason why a file is not written, for the kind of error that the system reported.
 pub fn unwritten_of(kind: ErrorKind) -> Unwritten
     ensures { result ≡ unwritten_of kind }
 {

@@ -6,11 +6,11 @@ ghost use Rattle.result_files.specs.Writing.{Begins, Grows};
 use std::io;
 use std::io::{ErrorKind, Write};
 
-/// Writes a text whole, as `write_bytes` writes its bytes.
+/// Writes all bytes of a text.
 ///
 /// # Errors
 ///
-/// Those of `write_bytes`.
+/// The writer's errors, and `WriteZero` where it takes nothing; what was written is then a prefix of the text.
 pub fn write_text<W: Write>(text: &str, writer: &mut W) -> io::Result<()>
     ensures whole { OnOk result (Appends (W.contents writer.old) (W.contents writer.new) text.now) }
     ensures part { Begins (W.contents writer.old) (W.contents writer.new) text.now }
@@ -18,12 +18,11 @@ pub fn write_text<W: Write>(text: &str, writer: &mut W) -> io::Result<()>
     write_bytes(text.as_bytes(), writer)
 }
 
-/// Writes bytes whole; after an error what was written is a prefix of them. A write that was interrupted is
-/// tried again.
+/// Writes all bytes; a write that was interrupted is tried again.
 ///
 /// # Errors
 ///
-/// Those of the writer; also where it takes nothing.
+/// The writer's errors, and `WriteZero` where it takes nothing; what was written is then a prefix of the bytes.
 pub fn write_bytes<W: Write>(bytes: &[u8], writer: &mut W) -> io::Result<()>
     ensures whole { OnOk result (Appends (W.contents writer.old) (W.contents writer.new) bytes.now) }
     ensures part { Begins (W.contents writer.old) (W.contents writer.new) bytes.now }
@@ -46,7 +45,7 @@ pub fn write_bytes<W: Write>(bytes: &[u8], writer: &mut W) -> io::Result<()>
     Err(io::Error::from(ErrorKind::Interrupted))
 }
 
-/// Writes what a text holds, and empties it, where it has at least `least` bytes.
+/// Writes a text and empties it, where it has at least `least` bytes; a shorter one stays as it is.
 ///
 /// # Errors
 ///

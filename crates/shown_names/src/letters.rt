@@ -33,7 +33,7 @@ fn has_steering(text: &str) -> bool
     text.chars().any(|letter| steers(letter))
 }
 
-/// Whether the bytes above 127 can be shown as the letters that they spell.
+/// Whether the bytes above 127 of a name are UTF-8 that can be shown as the letters that it spells.
 pub fn is_readable(bytes: &[u8]) -> bool
     ensures { result ≡ is_readable bytes.now }
 {
@@ -43,7 +43,7 @@ pub fn is_readable(bytes: &[u8]) -> bool
     }
 }
 
-/// Whether a byte is shown as it is, for whether those above 127 are readable.
+/// Whether a byte of a name is shown as it is; `readable` says whether the name's bytes above 127 are.
 pub fn is_printed(readable: bool, byte: u8) -> bool
     ensures { result ≡ is_printed readable byte }
 {
@@ -54,7 +54,7 @@ pub fn is_printed(readable: bool, byte: u8) -> bool
     }
 }
 
-/// Whether a name is shown as it is.
+/// Whether each byte of a name is shown as it is.
 pub fn is_printable(name: &[u8]) -> bool
     ensures { result ≡ is_printable name.now }
 {
@@ -62,7 +62,7 @@ pub fn is_printable(name: &[u8]) -> bool
     name.iter().all(|byte| is_printed(readable, *byte))
 }
 
-/// What stands for a byte that is not shown as it is: `\x` and its two hexadecimal digits.
+/// What is shown for a byte that is not shown as it is: `\x` and its two hexadecimal digits.
 pub fn escaped(byte: u8) -> [u8; 4]
     ensures { result ≡ escaped byte }
 {

@@ -1,5 +1,4 @@
-//! How names are shown that others gave: files' names and words of a command line. What is shown steers no terminal and
-//! ends no line.
+//! How names that others gave are shown, so that no file's name or command's word steers a terminal or ends a line.
 #![tactic(auto)]
 
 pub mod letters;

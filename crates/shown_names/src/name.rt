@@ -1,4 +1,4 @@
-//! A name as it is shown.
+//! Names as they are shown.
 ghost use Rattle.std.specs.Prelude.{◌≡◌, ◌++◌, IfOk, OnOk};
 ghost use Rattle.std.specs.String.{string_bytes};
 ghost use Rattle.shown_names.specs.Shown.{shown, shown_as, shown_byte};
@@ -6,11 +6,11 @@ ghost use Rattle.shown_names.specs.Shown.{shown, shown_as, shown_byte};
 use crate::letters::{escaped, is_printed, is_readable};
 use std::alloc::{AllocError, Global};
 
-/// A name as it is shown: each byte that is no printable text as `\x` and its two hexadecimal digits.
+/// The name with `\x` and two hexadecimal digits for each byte that is no printable text.
 ///
 /// # Errors
 ///
-/// Memory was refused.
+/// `AllocError` where memory was refused.
 pub fn shown_name(alloc: Global, name: &str) -> Result<String, AllocError>
     ensures { IfOk result (λ text. string_bytes text ≡ shown name.now) }
 {

@@ -8,13 +8,13 @@ use crate::letters::{is_printable, is_readable};
 use crate::name::push_shown;
 use std::alloc::{AllocError, Global};
 
-/// A file's name as a word of a shell's command line, so that the command can be copied from what is shown: as it is where
-/// no byte of it means something to a shell, else between quotes; and with `./` before it where a command would take it
-/// for an option.
+/// A file's name as one word of a shell's command line, so that the command can be copied from what is shown:
+/// as it is where no byte of it means something to a shell, else between quotes; and with `./` before it where
+/// a command would take it for an option.
 ///
 /// # Errors
 ///
-/// Memory was refused.
+/// `AllocError` where memory was refused.
 pub fn shell_word(alloc: Global, name: &str) -> Result<String, AllocError>
     ensures { IfOk result (λ word. string_bytes word ≡ shell_word name.now) }
 {

@@ -9,7 +9,7 @@ ghost use Rattle.threaded_runner.specs.Counts.{retired_by, active_by};
 
 use machine_model::laws::events_count;
 
-/// How many tasks have retired and how many units are at work follows from the history alone.
+/// Law: how many tasks have retired and how many units are at work follows from the history alone.
 pub fn history_counts()
     ensures { (p : Listing) (units : ℕ) (history : List Event) (s : State) → Replays p units history s
         → (retired_by history ≡ length s.commits) × (active_by history ≡ length s.queue) }

@@ -1,4 +1,4 @@
-//! Threads over one machine: one lock, a worker for each unit or for several, bursts away from the lock.
+//! A run by threads over one machine: one lock, a worker for each unit or for several, and bursts away from the lock.
 #![tactic(auto)]
 
 mod away;

@@ -1,9 +1,9 @@
-//! What a run leaves.
+//! The report of a run by threads.
 
 use sequencer::machine::Machine;
 use thiserror::Error;
 
-/// Why there is no report of a run.
+/// Why there is no report of a run; where several hold, the first.
 #[derive(Clone, Copy, Debug, PartialEq, Eq, Error)]
 pub enum RunFault {
     /// 1: not 1 to 16 units, or not 1 to as many workers.
@@ -21,7 +21,7 @@ pub enum RunFault {
     Foreign,
 }
 
-/// How a run ended.
+/// How a run by threads ended.
 #[derive(Clone, Copy, Debug, PartialEq, Eq)]
 pub enum How {
     /// The machine ended: it halted, trapped or continued at an address that is not listed.
@@ -30,13 +30,13 @@ pub enum How {
     OutOfBudget,
 }
 
-/// What a run leaves.
+/// The machine that a run by threads leaves, the events of each worker, and how the run ended.
 #[derive(Drop)]
 pub struct Report<'a> {
     /// The machine as the workers left it.
     pub machine: Machine<'a>,
-    /// How many events of its history belong to each worker.
+    /// For each worker, worker 0 first, the number of events of the history that its units did.
     pub counts: Vec<u64>,
-    /// How the run ended.
+    /// Whether the run ended or the budget was used up.
     pub how: How,
 }

@@ -25,14 +25,16 @@ use std::thread;
 use std::thread::{JoinHandle, Scope, Threads};
 use unit_turns::bell::Bell;
 
-/// Runs the accepted program on a machine with the given number of units, 1 to 16, with one thread for each unit, until
-/// the run has ended or the history has `budget` events, 1 to 1,000,000; a burst that is handed in late may
-/// go beyond. The predictor chooses after a task that has not stopped, and the gate is called around each
-/// burst. The calling thread waits until all others have ended.
+/// Runs the accepted program on a machine with 1 to 16 units, with one thread for each unit, until the run has
+/// ended or the history has `budget` events, 1 to 1,000,000; a burst that is handed in late may go beyond. The
+/// predictor chooses after a task that has not stopped, and the gate is called around each burst. The calling
+/// thread waits until all others have ended.
 ///
 /// # Errors
 ///
-/// `Units`, `Budget` and `OutOfMemory`, in this order. After any of these the predictor and the machine are gone.
+/// `Units` exactly where there are not 1 to 16 units, else `Budget` exactly where the budget is not 1 to
+/// 1,000,000, else `OutOfMemory` where memory or a thread was refused. The predictor and the machine are gone
+/// then.
 pub fn run_threads<'a, P: Predict, G: RunGate, R: Threads + Wait + Sync>(
     rt: &R,
     alloc: Global,
@@ -50,13 +52,14 @@ pub fn run_threads<'a, P: Predict, G: RunGate, R: Threads + Wait + Sync>(
     run_workers(rt, alloc, accepted, units, units, budget, predictor, gate)
 }
 
-/// Like `run_threads`, with a number of threads, 1 to `units`: worker j serves the units u with u modulo `workers`
-/// equal to j, from the head on. With one worker only the head's task is worked on.
+/// Like `run_threads`, with 1 to `units` threads: worker j, from 0, serves the units whose number on the ring
+/// is j modulo `workers`, from the head on. With one worker only the head's task is worked on.
 ///
 /// # Errors
 ///
-/// `Units`, also where the number of workers is not 1 to `units`; `Budget` and `OutOfMemory`, in this order.
-/// After any of these the predictor and the machine are gone.
+/// `Units` exactly where there are not 1 to 16 units, or not 1 to `units` workers; else `Budget` exactly where
+/// the budget is not 1 to 1,000,000; else `OutOfMemory` where memory or a thread was refused. The predictor and
+/// the machine are gone then.
 pub fn run_workers<'a, P: Predict, G: RunGate, R: Threads + Wait + Sync>(
     rt: &R,
     alloc: Global,
@@ -87,12 +90,12 @@ pub fn run_workers<'a, P: Predict, G: RunGate, R: Threads + Wait + Sync>(
     }
 }
 
-/// Runs the accepted program, as `run_workers` does, on a machine with these units, by these threads, up to
-/// this budget.
+/// Runs the accepted program, as `run_workers` does, on a machine of so many units, by so many threads, up to
+/// this budget; there are no more threads than units.
 ///
 /// # Errors
 ///
-/// `AllocError` where memory was refused, or a thread could not be made. Then the predictor and the machine are gone.
+/// `AllocError` where memory or a thread was refused; the predictor and the machine are gone then.
 pub fn run_by<'a, P: Predict, G: RunGate, R: Threads + Wait + Sync>(
     rt: &R,
     alloc: Global,
