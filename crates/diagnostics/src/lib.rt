@@ -1,5 +1,7 @@
-//! What is reported about a program, its marks, its certificate or an event script: as values, which each renderer puts
-//! into its own form, and in the text form of gcc and clang; and which known words are near an unknown one.
+//! Diagnostics: what is reported about a program, its marks, its certificate or an event script.
+//!
+//! They are values, which each renderer puts into its own form; here is the text form of gcc and clang. Here, too, is which
+//! known words are near an unknown one.
 #![tactic(auto)]
 
 pub mod code;

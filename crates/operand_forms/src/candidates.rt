@@ -112,7 +112,7 @@ fn binary_value(bytes: &[u8]) -> Option<u32> {
     Some(value)
 }
 
-/// The texts that may be meant in place of what is wrong in a line.
+/// The texts that may be meant in place of the bytes `meant`, which a fault of this kind is about.
 ///
 /// # Errors
 ///
