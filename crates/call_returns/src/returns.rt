@@ -307,9 +307,9 @@ impl<'a> Seen<'a> {
         }
     }
 
-    /// Adds to where the calls of a function come back. Where the task begins inside of the function, those are all; where it
-    /// begins with the function, those that end their tasks, and of the others it is not seen whether they do; else those in
-    /// the task.
+    /// Adds to where the calls of a function come back. Where the task begins inside of the function, those are all; where
+    /// it begins with the function, those that end their tasks, and of the others it is not seen whether they do; else
+    /// those in the task.
     fn add_returns(&self, jump: &mut Jump, number: usize, register: u8) -> Result<(), AllocError>
         requires { ComesBack self.now.program.now jump.old }
         ensures { OnOk result (ComesBack self.now.program.now jump.new) }

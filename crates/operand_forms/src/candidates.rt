@@ -43,8 +43,8 @@ impl Texts {
         Ok(())
     }
 
-    /// Adds what may be meant by a word that begins no statement; nothing where it begins one in another section, or in other
-    /// assemblers.
+    /// Adds what may be meant by a word that begins no statement; nothing where it begins one in another section, or in
+    /// other assemblers.
     fn add_words(&mut self, word: &[u8]) -> Result<(), AllocError> {
         if shape_of(word).is_some() || instead(word).is_some() {
             return Ok(());
