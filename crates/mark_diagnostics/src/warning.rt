@@ -657,9 +657,9 @@ fn is_silent(list: &[CostlyMark], stops: &[StopRemark], program: &Program) -> bo
 
 /// The warnings about the marks of the program that a text spells. `least` is the program's least certificate.
 ///
-/// First come jumps to addresses in registers that lead where the task lists no target; then where a stop or a way to a
-/// task may be forgotten, and which marks cost speed, those of one create mask or one release in one warning. At most
-/// `MOST_SHOWN` of the latter are shown, then a note has the number of the rest.
+/// First come those where a stop or a way to a task may be forgotten, and those of marks that cost speed, of one create mask
+/// or one release all at once: together at most `MOST_SHOWN`. Then come those about jumps to addresses in registers that
+/// lead where the task lists no target, and last a note with how many of the former are not shown.
 ///
 /// # Errors
 ///
