@@ -24,10 +24,10 @@ use report_texts::unlisted::unlisted_exit;
 use std::alloc::{AllocError, Global};
 use task_descriptor::program::Program;
 
-/// What `demonstrate` writes of a program text: of a program whose annotations are wrong, a run on 2 units, on 3, and
-/// so on, at most `units`, that shows what they do, if one is found among runs of up to `steps` events. The run is
-/// written in words or drawn; all else is in words. The status is 0 where the annotations are right, 1 where a run is
-/// shown or the text is refused, and 3 where none is found.
+/// The report of `demonstrate` on a program text: for a program with wrong marks, a run on 2 units, on 3, and so on, at
+/// most `units`, that shows the harm, if one is found among runs of up to `steps` events. The run is written in words or
+/// drawn; all else is in words. The status is 0 where the marks are right, 1 where a run is shown or the text is refused,
+/// and 3 where none is found.
 ///
 /// # Errors
 ///
