@@ -1,8 +1,7 @@
-//! The harm of a wrong mark, shown by a run: events that the machine allows and that do what the sequential program never
-//! does.
+//! Runs that show the harm of a wrong mark: the machine allows them, and the sequential program never does the same.
 //!
-//! Mostly a retired instruction has then read another value than the sequential program reads there. A law says that no
-//! events show this where the marks are sound. Here, too, is the report of `demonstrate`.
+//! Mostly a retired instruction has read another value than the sequential program reads there. A law says that no events
+//! show this where the marks are sound. Here, too, is the report of `demonstrate`.
 #![tactic(auto)]
 
 mod driven;

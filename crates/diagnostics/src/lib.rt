@@ -1,4 +1,4 @@
-//! Diagnostics: what is reported about a program, its marks, its certificate or an event script.
+//! What is reported about a program, its marks, its certificate or an event script: values, and their text form.
 //!
 //! They are values, which each renderer puts into its own form; here is the text form of gcc and clang. Here, too, is which
 //! known words are near an unknown one.

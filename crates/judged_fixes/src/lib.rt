@@ -1,5 +1,4 @@
-//! Fixes that are judged: what helps propose to write is written into a copy of the text, which is then assembled and
-//! checked.
+//! The trial of fixes: what helps propose is written into a copy of the text, which is assembled and checked.
 //!
 //! The assembler and the checker say of that copy whether its marks are right. How a proposal was found does not matter.
 #![tactic(auto)]

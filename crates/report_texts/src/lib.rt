@@ -1,4 +1,4 @@
-//! The reports of `seq`, `print`, `annotate` and `check`, and the judgement of a program and its certificate.
+//! Job reports: what `seq`, `print`, `annotate` and `check` write, and the judgement of a program and its certificate.
 //!
 //! With this judgement `run`, `replay` and `curve` begin. Here, too, is where a run leaves its tasks.
 #![tactic(auto)]
