@@ -1,6 +1,6 @@
 //! What is reported about a program, its marks, its certificate or an event script: values, and their text form.
 //!
-//! They are values, which each renderer puts into its own form; here is the text form of gcc and clang. Here, too, is which
+//! Each renderer puts the values into its own form; the text form here is the one of gcc and clang. Here, too, is which
 //! known words are near an unknown one.
 #![tactic(auto)]
 

@@ -1,7 +1,6 @@
-//! The speed curve of a program: its runs in steps on 1, 2, 3 units and more, as a table and as a picture.
+//! How far the marks of a program let its tasks overlap: runs in steps on 1, 2, 3 units and more, as table or picture.
 //!
-//! It shows how far the marks of the program let its tasks overlap. The results and their numbers are proved; how they are
-//! written is not. The picture is SVG 1.1.
+//! The results and their numbers are proved; how they are written is not. The picture is SVG 1.1.
 #![tactic(auto)]
 
 pub mod drawing;
