@@ -1,5 +1,5 @@
-//! Whether a list of events shows the harm of a wrong mark: what was read is compared with what the plain machine
-//! reads, and the end of the run with where the plain machine goes on.
+//! The judgement of a list of events: whether it shows the harm of a wrong mark. What was read is compared with what the
+//! sequential machine reads, and the end of the run with where the sequential machine continues.
 
 ghost use Rattle.std.specs.Prelude.{◌≡◌, ℕ, ◌<◌, ◌≤◌, Some, None, IfSome, IfNone, IfOk, IfErr, length, unwrap_or, option_to_list, IsTrue, ◌↔◌};
 ghost use Rattle.mips_plain.specs.PlainMachine.{reads_when};
@@ -31,27 +31,27 @@ use open_machine::machine::OpenMachine;
 use std::alloc::Global;
 use task_descriptor::program::Program;
 
-/// The first read that is not the plain machine's.
+/// The first read of a run that is not what the sequential machine reads there.
 #[derive(Clone, Copy, Debug, PartialEq, Eq)]
 pub struct Stale {
-    /// The number of the instruction, counted from 0 in the order of the sequential program.
+    /// The number of the instruction, from 0, in the order of the sequential run.
     pub number: usize,
     /// What was read.
     pub read: Read,
-    /// What the plain machine reads there; `None` where it has ended before.
+    /// What the sequential machine reads there; `None` where it has ended before.
     pub right: Option<Read>,
 }
 
-/// The end of a run at an exit that the program names and its task does not list.
+/// The end of a run at an exit that the program names and its task does not list. Addresses are in bytes.
 #[derive(Clone, Copy, Debug, PartialEq, Eq)]
 pub struct CutOff {
-    /// The address of the instruction that goes there.
+    /// The address of the instruction with the exit.
     pub from: u32,
-    /// The address at which the task has stopped, and where the plain machine goes on.
+    /// The address at which the task has stopped, and where the sequential machine continues.
     pub at: u32,
 }
 
-/// A word of a register that the plain machine has not, after that many instructions.
+/// A word of a register that differs from the sequential machine's after as many instructions.
 #[derive(Clone, Copy, Debug, PartialEq, Eq)]
 pub struct WrongWord {
     /// How many instructions were executed before.
@@ -60,39 +60,39 @@ pub struct WrongWord {
     pub register: Reg,
     /// Its word.
     pub word: u32,
-    /// The plain machine's.
+    /// The word that the sequential machine has.
     pub right: u32,
 }
 
 /// What a list of events shows that the sequential program never does.
 #[derive(Clone, Copy, Debug, PartialEq, Eq)]
 pub enum Harm {
-    /// An instruction reads something else.
+    /// An instruction reads another value.
     Stale(Stale),
-    /// The run ends where the sequential program goes on.
+    /// The run ends where the sequential program continues.
     CutOff(CutOff),
     /// A task has a wrong word in a register, which none of its instructions has read yet.
     Held(WrongWord),
 }
 
-/// A harm, and the task that it is done to.
+/// A harm, and the task in which it shows.
 #[derive(Clone, Copy, Debug, PartialEq, Eq)]
 pub struct Evidence {
-    /// What is wrong.
+    /// The harm.
     pub harm: Harm,
-    /// The number of the task whose instruction reads, which ends there, or which has the word.
+    /// The number, from 0, of the task whose instruction reads, which ends there, or which has the word.
     pub task: u32,
 }
 
-/// What a list of events shows.
+/// The judgement of a list of events.
 #[derive(Clone, Copy, Debug, PartialEq, Eq)]
 pub enum Judgement {
-    /// The event at this index is not allowed.
+    /// The event at this index, from 0, is not allowed.
     Refused(usize),
-    /// All events are allowed. What was read is what the plain machine reads, the run is not cut off, and no register of
-    /// the head has a wrong word.
+    /// All events are allowed. What was read is what the sequential machine reads, the run is not cut off, and no register
+    /// of the head has a wrong word.
     Right,
-    /// All events are allowed, and this is what they show.
+    /// All events are allowed, and they show this.
     Shown(Evidence),
 }
 
@@ -419,12 +419,12 @@ fn judge_allowed(
     }
 }
 
-/// Looks what a list of events shows of a program on `units` units. Of more than 1,000,000 events the first one above
-/// is not allowed.
+/// Judges what a list of events shows of a program on `units` units, at most 16. Of more than 1,000,000 events the first
+/// one above this number is not allowed.
 ///
 /// # Errors
 ///
-/// `OutOfMemory` where a growth was refused.
+/// `OutOfMemory` where memory was refused.
 pub fn judge(
     alloc: Global,
     program: &Program,

@@ -1,4 +1,5 @@
-//! What no list of events can show.
+//! The theorems about what no list of events can show. Each is the contract of a function that does nothing; to use one,
+//! call it.
 
 ghost use Rattle.task_descriptor.specs.Listing.{IsWellFormed};
 ghost use Rattle.task_graph.specs.Soundness.{Sound};

@@ -1,6 +1,7 @@
-//! What shows the harm of a wrong mark: a list of events that the machine allows, after which a retired instruction
-//! has read something else than the sequential program reads there; the law that with sound marks there is
-//! none; and the report that `demonstrate` writes.
+//! Runs that show the harm of a wrong mark: the machine allows them, and the sequential program never does the same.
+//!
+//! Mostly a retired instruction has read another value than the sequential program reads there. A law says that no events
+//! show this where the marks are sound. Here, too, is the report of `demonstrate`.
 #![tactic(auto)]
 
 mod driven;

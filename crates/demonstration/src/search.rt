@@ -1,5 +1,5 @@
-//! A search for a list of events that shows the harm of a wrong mark. What it answers is shown: the judge says so. Where
-//! it answers none, each of its runs was judged right.
+//! A search for a list of events that shows the harm of a wrong mark. What it finds does show it: the judge says so. Where
+//! it finds none, each of its runs was judged right.
 
 ghost use Rattle.std.specs.Prelude.{◌≡◌, ◌<◌, ◌≤◌, ℕ, [], min, take, IfSome, IfNone, IfOk, OnOk, length};
 ghost use Rattle.mips_plain.specs.PlainView.{IsAfter};
@@ -26,7 +26,7 @@ pub struct Demonstration {
     pub units: u32,
     /// The events, the first one first.
     pub events: Vec<Event>,
-    /// What they show.
+    /// The harm that they show.
     pub evidence: Evidence,
 }
 
@@ -39,13 +39,13 @@ const MOST_REPLAYED: usize = 16_000_000;
 /// A list of more events than these is first made shorter by larger groups.
 const LONG: usize = 16_384;
 
-/// Looks for events that show the harm of a wrong mark, on 2 to `most_units` units, and on one unit for a wrong word
-/// that no instruction reads; in runs of about `steps` events. What it finds has at most 1,000,000 of them. `None`
-/// where all these runs are right.
+/// A list of events that shows the harm of a wrong mark, sought in runs of about `steps` events on 2 to `most_units`
+/// units, and on one unit for a wrong word that no instruction reads. It has at most 1,000,000 events. `None` where all
+/// these runs are right.
 ///
 /// # Errors
 ///
-/// `OutOfMemory` where a growth was refused.
+/// `OutOfMemory` where memory was refused.
 #[tactic(auto, using(crate::proofs::Searching::searched_so))]
 pub fn demonstrate(
     alloc: Global,

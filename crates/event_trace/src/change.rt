@@ -1,4 +1,4 @@
-//! What an event of the machine changed.
+//! The changes that an event of the machine makes.
 
 ghost use Rattle.std.specs.Prelude.{◌≡◌, ◌++◌, ◌∷◌, [], IfOk, OnOk};
 ghost use Rattle.event_trace.specs.declared.change.Change.TheVariants.{AtUnit};
@@ -8,13 +8,12 @@ use machine_model::event::Standing;
 use mips_instructions::number::Reg;
 use std::alloc::{AllocError, Global};
 
-/// What an event changed. A unit is known by its position, which counts from the head of the
-/// queue, the head being 0, and by the number of its task. Instructions are known by their index, and words
-/// are unsigned.
+/// A change that an event made. A unit is known by its position in the queue, 0 for the head, and by the number of its task.
+/// Instructions are known by their code index, words are unsigned, and addresses are in bytes.
 #[derive(Clone, Copy, Debug, PartialEq, Eq)]
 pub enum Change {
-    /// A unit changed. What an instruction did stands after the change of the unit that executed it, and which
-    /// registers arrived after that of the unit that took its task or became the head.
+    /// A unit changed. What an instruction did comes after the change of the unit that executed it, and the registers that
+    /// arrived come after the change of the unit that took its task or became the head.
     AtUnit {
         position: u32,
         task: u32,
@@ -26,12 +25,12 @@ pub enum Change {
         register: Reg,
         word: u32,
     },
-    /// The instruction loaded this word from this address: after its sign or zeros were extended.
+    /// The instruction loaded this word from this address; a byte or half is extended by its sign or by zeros.
     Loaded {
         address: u32,
         word: u32,
     },
-    /// The instruction stored `size` bytes at this address; the word has them, and zeros above them.
+    /// The instruction stored `size` bytes, 1, 2 or 4, at this address; the word has them, and zeros above them.
     Stored {
         address: u32,
         word: u32,
@@ -47,11 +46,11 @@ pub enum Change {
         register: Reg,
         word: u32,
     },
-    /// The instruction put out this word.
+    /// The instruction appended this word to the output.
     PutOut {
         word: u32,
     },
-    /// The unit goes on at the instruction of this index.
+    /// The unit continues at the instruction of this code index.
     MovedTo {
         index: u32,
     },
@@ -59,7 +58,7 @@ pub enum Change {
     StoppedAt {
         address: u32,
     },
-    /// The run ended.
+    /// The run ended in this way.
     Ended {
         standing: Standing,
     },

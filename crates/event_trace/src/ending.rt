@@ -1,4 +1,4 @@
-//! The end of a trace: how the run stands, and what registers and memory hold.
+//! The end of a trace: how the run is, and what registers and memory hold.
 
 ghost use Rattle.std.specs.Prelude.{◌≡◌, ◌++◌, ◌*◌, ◌<◌, ◌^◌, Some, length, slice_index, IfOk, OnOk};
 ghost use Rattle.mips_plain.specs.MemoryMap.{byte_of, number_at};
@@ -14,29 +14,37 @@ use std::alloc::{AllocError, Global};
 /// A register with its word.
 #[derive(Clone, Copy, Debug, PartialEq, Eq)]
 pub struct RegisterWord {
+    /// The register.
     pub register: Reg,
+    /// The word that it holds.
     pub word: u32,
 }
 
 /// A word of data memory with its address.
 #[derive(Clone, Copy, Debug, PartialEq, Eq)]
 pub struct MemoryWord {
+    /// The address, a multiple of 4.
     pub address: u32,
+    /// The word there.
     pub word: u32,
 }
 
-/// How a run stands after some events.
+/// The state of a run after some events, as a trace reports it.
 #[derive(Debug, Drop)]
 pub struct End {
-    /// How it ended, if it has.
+    /// How the run ended, if it has.
     pub standing: Standing,
-    /// The registers of the head that are not 0, the least first.
+    /// The registers of the head that are not 0, by rising numbers.
     pub registers: Vec<RegisterWord>,
-    /// The words of data memory that are not what they were at the start, the lowest first.
+    /// The words of data memory that differ from those at the start, by rising addresses.
     pub memory: Vec<MemoryWord>,
 }
 
-/// How the run of a machine stands, whose data memory began with these bytes. An error says that memory was refused.
+/// The state of a machine's run, whose data memory had the bytes `start` at the start.
+///
+/// # Errors
+///
+/// `AllocError` where memory was refused.
 pub fn end_of(alloc: Global, machine: &Machine<'_>, start: &[u8]) -> Result<End, AllocError>
     ensures { IfOk result (IsEndOf (byte_of start.now) (state machine.now)) }
 {

@@ -1,6 +1,7 @@
-//! The trace of a machine: each event with its answer and what it changed, in words or as lines of JSON, and how the machine
-//! then stands; and a run as a timeline. What an event changed, how a machine stands and what a timeline has is proved; how
-//! these are written is not.
+//! The trace of a machine: each event with its answer and what it changed; and a run as a timeline.
+//!
+//! A trace is in words or in lines of JSON, a timeline in the Trace Event Format, which Perfetto opens. What an event
+//! changed, how a machine is at the end and what a timeline has is proved; how these are written is not.
 #![tactic(auto)]
 
 pub mod change;

@@ -1,4 +1,4 @@
-//! Events, what they changed and how a run stands, as objects of JSON. Each error says that memory was refused.
+//! Events, what they changed and how a run is, as objects of JSON. Each error says that memory was refused.
 
 use crate::change::Change;
 use crate::ending::{End, MemoryWord, RegisterWord};

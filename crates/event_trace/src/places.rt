@@ -1,4 +1,4 @@
-//! Where a program text has its instructions.
+//! The positions of instructions in a program text.
 
 ghost use Rattle.std.specs.Prelude.{◌≡◌, IfOk};
 ghost use Rattle.event_trace.specs.Entries.{places_of};
@@ -8,8 +8,11 @@ use annotated_asm::position::Position;
 use annotated_asm::reading::source_map;
 use std::alloc::{AllocError, Global};
 
-/// Where a program text has its instructions, index 0 first; nowhere if it is no program text. An error says
-/// that memory was refused.
+/// The positions of the instructions in a program text, by code index; none if the text spells no program.
+///
+/// # Errors
+///
+/// `AllocError` where memory was refused.
 pub fn places(alloc: Global, text: &[u8]) -> Result<Vec<Position>, AllocError>
     ensures { IfOk result (λ places. places.items ≡ places_of text.now) }
 {

@@ -1,9 +1,9 @@
-//! The units round the ring.
+//! The numbers of units round the ring.
 
 use sequencer::machine::Machine;
 use std::marker::Model;
 
-/// The units round the ring: the number of the head there, and how many units there are.
+/// The ring of a machine's units: the number of the head there, from 0, and how many units there are.
 #[derive(Debug, Drop)]
 pub struct Ring {
     head: u32,
@@ -34,7 +34,7 @@ impl Ring {
         Ring { head, units }
     }
 
-    /// The ring of a machine of this many units, as its events so far leave it.
+    /// The ring of a machine of `units` units, at least one, as its events so far leave it.
     pub fn of(machine: &Machine<'_>, units: u32) -> Ring
         requires { 0 < units }
         ensures { result ≡ ring_in units (state machine.now) }
@@ -44,7 +44,7 @@ impl Ring {
         Ring::new(head, units)
     }
 
-    /// The number round the ring of the unit at a position from the head.
+    /// The number round the ring, from 0, of the unit at a position in the queue, 0 for the head.
     pub fn number_at(&self, position: u32) -> usize
         ensures { result ≡ number_at self.now position }
     {

@@ -22,7 +22,7 @@ use thiserror::Error;
 /// How many bytes of text are kept, at least, before they are written.
 const LEAST_WRITTEN: usize = 65_536;
 
-/// Why a text was not written whole; a part may have been.
+/// Why a text was not written whole; a part of it may have been.
 #[derive(Clone, Copy, Debug, PartialEq, Eq, Error)]
 pub enum StreamFault {
     /// 1: memory was refused.
@@ -44,12 +44,12 @@ impl From<AllocError> for StreamFault {
     }
 }
 
-/// Writes the trace of some events on a machine of `units` units that is at the start of an accepted program, in a form,
-/// while the events are played. `program_text` is the text of the program. Answers how the run stands after them.
+/// Writes the trace of some events on a machine of `units` units, 1 to 16, at the start of an accepted program, while it
+/// plays them, and returns how the run is after them. `program_text` is the text of the program.
 ///
 /// # Errors
 ///
-/// A part may have been written.
+/// `OutOfMemory` where memory was refused, `Write` where the writer failed. A part of the trace may have been written.
 pub fn stream_trace<W: Write>(
     alloc: Global,
     writer: &mut W,
@@ -86,8 +86,11 @@ pub fn stream_trace<W: Write>(
     Ok(end.standing)
 }
 
-/// The trace of some events, as `stream_trace` writes it, and how the run stands after them. An error says that memory was
-/// refused.
+/// The trace of some events, as `stream_trace` writes it, and how the run is after them.
+///
+/// # Errors
+///
+/// `AllocError` where memory was refused.
 pub fn trace(
     alloc: Global,
     accepted: &Accepted,

@@ -19,18 +19,18 @@ use task_descriptor::program::Program;
 #[derive(Clone, Copy, Debug)]
 pub enum TraceForm<'n> {
     /// Lines for a reader: each event in the words of a script, after its number and with its answer, and under one that
-    /// was allowed what it changed; and how the machine then stands. Instructions are named by the lines of the program
+    /// was allowed what it changed; and how the machine is after them. Instructions are named by the lines of the program
     /// text.
     Words,
-    /// Lines of JSON: an object for what the lines are, one for each event, with its number, its step if the run went in
-    /// steps, its answer and what it changed, and one for how the machine then stands. Instructions are told by their index
-    /// and by the lines of the program text.
+    /// Lines of JSON: an object that says what the lines are, one for each event, with its number, its step if the run is
+    /// in steps, its answer and what it changed, and one that says how the machine is after them. Instructions have their
+    /// code index and the line of the program text.
     Json {
-        /// What the program is called, which stands there as names are shown. It may be empty.
+        /// The name of the program, which is written as names are shown; it may be empty.
         name: &'n str,
-        /// Who chose the events.
+        /// The source of the events.
         source: EventSource,
-        /// Whether the last line says that the budget was spent, and not how the run stands.
+        /// Whether the last line says that the budget was spent, and not how the run is.
         is_out_of_budget: bool,
     },
 }

@@ -1,5 +1,6 @@
-//! Events, what they changed and how a run stands, in words that name the lines of the program text. Each error says
-//! that memory was refused.
+//! Events, what they changed and how a run is, in words that name the lines of the program text.
+//!
+//! Each function adds to a text. Where memory is refused, a part may have been added.
 
 use crate::change::Change;
 use crate::ending::End;
@@ -12,12 +13,20 @@ use mips_instructions::number::Reg;
 use std::alloc::AllocError;
 use task_descriptor::program::Program;
 
-/// Adds an address.
+/// Adds an address in hexadecimal digits after `0x`.
+///
+/// # Errors
+///
+/// `AllocError` where memory was refused.
 pub fn write_address(text: &mut String, address: u32) -> Result<(), AllocError> {
     write!(text, "0x{address:x}")
 }
 
-/// Adds where the instruction of this index stands.
+/// Adds the line of an instruction, given by its code index; the index where `places` lacks it.
+///
+/// # Errors
+///
+/// `AllocError` where memory was refused.
 pub fn write_place(text: &mut String, places: &[Position], index: u32) -> Result<(), AllocError> {
     match places.get(index as usize) {
         Some(place) => {
@@ -28,7 +37,11 @@ pub fn write_place(text: &mut String, places: &[Position], index: u32) -> Result
     }
 }
 
-/// Adds where an exit leads to.
+/// Adds where an exit leads: the line of the instruction at an address, or the address where there is none.
+///
+/// # Errors
+///
+/// `AllocError` where memory was refused.
 pub fn write_exit(
     text: &mut String,
     program: &Program,
@@ -41,13 +54,21 @@ pub fn write_exit(
     }
 }
 
-/// Adds a register with its word.
+/// Adds a register's number with the word that it holds, unsigned: `$8 = 5`; HI is `$32`, LO is `$33`.
+///
+/// # Errors
+///
+/// `AllocError` where memory was refused.
 pub fn write_register(text: &mut String, register: Reg, word: u32) -> Result<(), AllocError> {
     let number = register.get();
     write!(text, "${number} = {word}")
 }
 
-/// Adds how a run stands.
+/// Adds a sentence that says how a run is, without a period.
+///
+/// # Errors
+///
+/// `AllocError` where memory was refused.
 pub fn write_ending(text: &mut String, standing: Standing) -> Result<(), AllocError> {
     match standing {
         Standing::Running => text.push_str("the run goes on"),
@@ -57,7 +78,11 @@ pub fn write_ending(text: &mut String, standing: Standing) -> Result<(), AllocEr
     }
 }
 
-/// Adds a unit, by its number round the ring and by the name of its task.
+/// Adds a unit, by its number round the ring and the name of its task.
+///
+/// # Errors
+///
+/// `AllocError` where memory was refused.
 pub fn write_unit(
     text: &mut String,
     program: &Program,
@@ -68,9 +93,13 @@ pub fn write_unit(
     write!(text, "unit {unit}, task {name}")
 }
 
-/// Adds the event of this number, which the machine took, in the words of a script, and under it what it
-/// changed. `places` has for each instruction of the program where it stands in the program text; one that
-/// it lacks is told by its index. `ring` is the ring before the event.
+/// Adds the event of this number, which the machine allowed, in the words of a script, and under it what it changed.
+/// `places` has the position of each instruction in the program text, by code index; one that it lacks is named by its
+/// index. `ring` is the ring before the event.
+///
+/// # Errors
+///
+/// `AllocError` where memory was refused.
 pub fn write_taken(
     text: &mut String,
     program: &Program,
@@ -92,6 +121,10 @@ pub fn write_taken(
 }
 
 /// Adds the event of this number, which the machine refused, in the words of a script, and the reason.
+///
+/// # Errors
+///
+/// `AllocError` where memory was refused.
 pub fn write_refused(
     text: &mut String,
     program: &Program,

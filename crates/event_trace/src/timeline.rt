@@ -1,4 +1,4 @@
-//! The timeline of a run: the life of each task as a slice of time, and what happens at one time.
+//! The timeline of a run: the life of each task as a slice of time, and events that happen at one time.
 
 ghost use Rattle.std.specs.Prelude.{◌≡◌, ◌+◌, ◌++◌, ◌%◌, ◌<◌, ◌≤◌, ◌^◌, IfOk, OnOk, length, map};
 ghost use Rattle.machine_model.specs.Answer.{most_events};
@@ -22,16 +22,16 @@ use task_lives::lives::lives_of_runs;
 pub struct Slice {
     /// The life.
     pub life: Life,
-    /// The time of its first event.
+    /// The time of its first event, in microseconds.
     pub begin: usize,
-    /// The time of its last event, which counts.
+    /// The time of its last event, in microseconds; the slice includes it.
     pub last: usize,
 }
 
-/// What happens at one time.
+/// An event that happens at one time, in microseconds. Units have their numbers round the ring.
 #[derive(Clone, Copy, Debug, PartialEq, Eq)]
 pub enum Mark {
-    /// In the event of this number a register goes to a unit from the one before it round the ring.
+    /// In the event of this number a register travels to a unit from the one before it round the ring.
     Arrow {
         event: u32,
         register: Reg,
@@ -51,14 +51,17 @@ pub enum Mark {
 pub struct Timeline {
     /// The lives, in the order in which they begin.
     pub slices: Vec<Slice>,
-    /// What happens at one time, in the order of the events.
+    /// The events that happen at one time, in order.
     pub marks: Vec<Mark>,
 }
 
-/// The timeline of a history on `units` units, at least one, whose time counts the steps of a run in steps, and else the
-/// events: the n-th, from 1, takes the n-th microsecond. The history has at most 1,000,000 events, and no event of it is at
-/// a position where there is no unit; so it is with every history of a machine (`task_lives::laws::histories_fit`). An
-/// error says that memory was refused.
+/// The timeline of a history on `units` units, at least one. Its time counts the steps of a run in steps, else the events:
+/// the n-th, from 1, takes the n-th microsecond. The history has at most 1,000,000 events, and no event of it is at a
+/// position where there is no unit, as in every history of a machine (`task_lives::laws::histories_fit`).
+///
+/// # Errors
+///
+/// `AllocError` where memory was refused.
 pub fn timeline_of(
     alloc: Global,
     units: u32,

@@ -1,5 +1,5 @@
 //! A timeline as one object of JSON in the Trace Event Format, which Perfetto and the viewer of Chrome open: the run is a
-//! process, and each unit a thread of it. Each error says that memory was refused.
+//! process, and each unit a thread of it.
 
 ghost use Rattle.std.specs.Prelude.{◌<◌, ◌≤◌, length};
 ghost use Rattle.machine_model.specs.Answer.{most_events};
@@ -15,7 +15,11 @@ use std::alloc::{AllocError, Global};
 use task_descriptor::program::Program;
 use task_lives::life::Ending;
 
-/// The history of a run of a program on `units` units, at least one, as its timeline (`timeline_of`), on a line.
+/// The timeline (`timeline_of`) of a history of a program's run on `units` units, at least one, as one line of JSON.
+///
+/// # Errors
+///
+/// `AllocError` where memory was refused.
 pub fn timeline(
     alloc: Global,
     program: &Program,

@@ -1,12 +1,12 @@
-//! What a walk reports of an event.
+//! The report of a walk on an event.
 
 use crate::change::Change;
 use machine_model::event::Refused;
 
-/// What a walk reports of an event.
+/// The report of a walk on an event.
 #[derive(Debug, Drop)]
 pub enum Told {
-    /// The event was allowed, and changed this.
+    /// The event was allowed, and made these changes.
     Taken(Vec<Change>),
     /// The event was refused for this reason, and changed nothing.
     Refused(Refused),

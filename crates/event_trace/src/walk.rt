@@ -1,4 +1,4 @@
-//! A walk over events: what a machine answers to each, and what the event changes.
+//! A walk over events: the machine's answer to each, and what the event changes.
 
 use crate::changes::changes;
 use crate::foresight::foresee;
@@ -13,7 +13,7 @@ use std::alloc::{AllocError, Global};
 use std::marker::Model;
 use task_descriptor::program::Program;
 
-/// A machine on its way over some events. A contract sees the machine before the next event.
+/// A machine that is given events, one after another. A contract sees the machine before the next event.
 #[derive(Drop)]
 pub struct Walk<'a> {
     accepted: &'a Accepted,
@@ -40,8 +40,11 @@ ghost use Rattle.event_trace.specs.Following.{GoesOn};
 ghost use Rattle.event_trace.specs.Ring.{ring_in};
 
 impl<'a> Walk<'a> {
-    /// A walk that begins at the start of an accepted program, on `units` units. An error says that memory was
-    /// refused.
+    /// A walk from the start of an accepted program, on `units` units, 1 to 16.
+    ///
+    /// # Errors
+    ///
+    /// `AllocError` where memory was refused.
     pub fn new(alloc: Global, accepted: &'a Accepted, units: u32) -> Result<Walk<'a>, AllocError>
         requires some { 0 < units }
         requires few { units ≤ 16 }
@@ -60,8 +63,11 @@ impl<'a> Walk<'a> {
         }
     }
 
-    /// Takes an event, and reports what the machine answers to it and what it changes. An error says that
-    /// memory was refused; the walk ends there.
+    /// Gives the machine an event, and reports its answer and what the event changes.
+    ///
+    /// # Errors
+    ///
+    /// `AllocError` where memory was refused; the walk, which is taken by value, ends there.
     pub fn step(self, alloc: Global, event: &Event) -> Result<(Walk<'a>, Told), AllocError>
         ensures on { IfOk result (λ stepped. GoesOn self.entry event.now stepped.0) }
         ensures told { IfOk result (λ stepped. Tells self.entry.accepted.program (state self.entry) event.now (answer_to self.entry event.now) stepped.1) }
@@ -80,7 +86,7 @@ impl<'a> Walk<'a> {
         Ok((walk, told))
     }
 
-    /// The units round the ring, as the events so far leave them.
+    /// The ring of the units, as the events so far leave it.
     pub fn ring(&self) -> Ring
         ensures { result ≡ ring_in (units_of self.now) (state self.now) }
     {

@@ -1,4 +1,4 @@
-//! Advice as rows of a table: what is said of a place and what to do there, in words that the place gives.
+//! Advice as rows of a table: what is said of a place and what to do there, as templates that names fill.
 
 use diagnostics::diagnostic::{Help, Replacement, Span};
 use diagnostics::listed::Listed;
@@ -7,15 +7,15 @@ use diagnostics::words::Words;
 use mark_subjects::subject::{Made, Subject};
 use std::alloc::Global;
 
-/// What is said of a finding. In each text `{name}` stands for a word that its place gives, and in `help` `{fix}` for
-/// what is written.
+/// A row of a table of advice. Its texts are templates: each `{name}` is replaced by a word that the place gives, and in
+/// `help` `{fix}` by what is written.
 #[derive(Clone, Copy)]
 pub struct Row {
-    /// What is wrong, or could be better.
+    /// The message: what is wrong, or could be better.
     pub says: &'static str,
-    /// What to do.
+    /// The message of the help.
     pub help: &'static str,
-    /// What to write, where that mends it; else empty.
+    /// The text to write, where that mends it; else empty.
     pub fix: &'static str,
 }
 
@@ -26,7 +26,7 @@ struct Word {
     text: Words,
 }
 
-/// The words that a place gives.
+/// The words that fill the templates of a row, by name.
 #[derive(Drop)]
 pub struct Names {
     alloc: Global,
@@ -34,37 +34,58 @@ pub struct Names {
 }
 
 impl Names {
+    /// No words.
     pub fn new(alloc: Global) -> Names {
         let words = Vec::new(alloc);
         Names { alloc, words }
     }
 
-    /// The words of a place in a task: the task's name.
+    /// The word `task` alone: the name of a task.
+    ///
+    /// # Errors
+    ///
+    /// `AllocError` where memory was refused.
     pub fn of_task(subject: &Subject, task: u32) -> Made<Names> {
         let mut names = Names::new(subject.alloc());
         names.add("task", subject.task(task))?;
         Ok(names)
     }
 
-    /// Adds a word.
+    /// Adds a word under a name.
+    ///
+    /// # Errors
+    ///
+    /// `AllocError` where memory was refused; no word is added then.
     pub fn put(&mut self, name: &'static str, text: Words) -> Made<()> {
         self.words.push(Word { name, text })?;
         Ok(())
     }
 
-    /// Adds a word that stays where it is.
+    /// Adds a copy of a word under a name.
+    ///
+    /// # Errors
+    ///
+    /// `AllocError` where memory was refused; no word is added then.
     pub fn add(&mut self, name: &'static str, text: &str) -> Made<()> {
         let text = Words::of(self.alloc, text)?;
         self.put(name, text)
     }
 
-    /// Adds the line of an instruction.
+    /// Adds the line number of an instruction, from 1, under a name.
+    ///
+    /// # Errors
+    ///
+    /// `AllocError` where memory was refused; no word is added then.
     pub fn line(&mut self, name: &'static str, subject: &Subject, index: u32) -> Made<()> {
         let line = subject.span(index).line;
         self.put(name, words!(in self.alloc; "{line}")?)
     }
 
-    /// A template with each `{name}` replaced by its word.
+    /// A template with each `{name}` replaced by its word; by nothing where no word has the name.
+    ///
+    /// # Errors
+    ///
+    /// `AllocError` where memory was refused.
     pub fn filled(&self, template: &str) -> Made<Words> {
         let mut text = String::new(self.alloc);
         for piece in template.split('{') {
@@ -80,7 +101,11 @@ impl Names {
         Ok(Words::new(text))
     }
 
-    /// What to do in words, with these changes.
+    /// The help with a filled template as its message, and these replacements.
+    ///
+    /// # Errors
+    ///
+    /// `AllocError` where memory was refused.
     pub fn help(&self, template: &str, changes: Vec<Replacement>) -> Made<Help> {
         Ok(Help {
             message: self.filled(template)?,
@@ -88,18 +113,30 @@ impl Names {
         })
     }
 
-    /// What to do in words alone.
+    /// The help with a filled template as its message alone.
+    ///
+    /// # Errors
+    ///
+    /// `AllocError` where memory was refused.
     pub fn advice(&self, template: &str) -> Made<Help> {
         self.help(template, Vec::new(self.alloc))
     }
 
-    /// What a row says, and what it says to do, with these changes.
+    /// The message of a row, and its help with these replacements.
+    ///
+    /// # Errors
+    ///
+    /// `AllocError` where memory was refused.
     pub fn said(&self, row: Row, changes: Vec<Replacement>) -> Made<(Words, Help)> {
         let says = self.filled(row.says)?;
         Ok((says, self.help(row.help, changes)?))
     }
 
-    /// What a row says, and what it says to do: to write its text at a place.
+    /// The message of a row, and its help, which writes the row's `fix` at `span`. The word `fix` is added.
+    ///
+    /// # Errors
+    ///
+    /// `AllocError` where memory was refused; the word `fix` may have been added then.
     pub fn fixed(&mut self, row: Row, span: Span) -> Made<(Words, Help)> {
         let mut changes = Vec::new(self.alloc);
         let text = self.filled(row.fix)?;

@@ -1,4 +1,4 @@
-//! Calls, and the places to which a jump to an address in a register may come back.
+//! Calls, and the places to which a jump to an address in a register may return.
 
 use crate::advice::Names;
 use crate::going::{Going, going_on};
@@ -21,7 +21,7 @@ const TO_BEGIN: &str =
 const UNSEEN: &str =
     "add !s, and let a task begin where the jump leads, as a target of task {task}{calls}";
 
-/// The place after an instruction, if that is a call.
+/// The return point of a call, the code index behind it; `None` where no call is at `index`.
 pub fn back(subject: &Subject, index: u32) -> Option<u32> {
     behind(subject.program(), index)
 }
@@ -83,7 +83,11 @@ fn seen_help(subject: &Subject, jump: &Jump) -> Made<Help> {
     names.help(if begin { TO_BEGIN } else { TO_LIST }, changes)
 }
 
-/// What to do about a jump that has to end the task, which this path comes to.
+/// The help for a `jr` or `jalr` that has to end the task; `path` leads to it.
+///
+/// # Errors
+///
+/// `AllocError` where memory was refused.
 pub fn return_help(subject: &Subject, task: u32, index: u32, path: &[u32]) -> Made<Help> {
     let mut names = Names::of_task(subject, task)?;
     match jump_of(subject, task, index) {

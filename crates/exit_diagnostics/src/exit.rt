@@ -1,4 +1,4 @@
-//! Where a task goes: exits that are not listed, edges that lead to no instruction, and targets where no task begins.
+//! Where a task continues: exits that are not listed, edges that lead to no instruction, and targets where no task begins.
 
 ghost use Rattle.std.specs.Prelude.{◌≡◌, ◌||◌, true, false, not, position, IfOk, OnOk};
 ghost use Rattle.mark_subjects.specs.Subjects.{targets_of, is_entry, is_end as is_end_of, exit_end};
@@ -44,6 +44,10 @@ fn beginning_words(subject: &Subject, index: u32) -> Made<Words> {
 }
 
 /// Adds a note on a place, if an instruction is there.
+///
+/// # Errors
+///
+/// `AllocError` where memory was refused; what `notes` then has is not stated.
 #[tactic(auto, using(mark_subjects::proofs::Paths::none_added))]
 pub fn add_place_note(subject: &Subject, notes: &mut Vec<Note>, index: u32) -> Made<()>
     ensures { OnOk result (paths notes.new.items ≡ paths notes.old.items) }
@@ -96,7 +100,11 @@ fn unlisted(subject: &Subject, finding: &Finding, taken: bool) -> Option<u32>
     }
 }
 
-/// The message about a finding's exits to places that are no targets.
+/// The message about a finding's exits to places that the task does not list.
+///
+/// # Errors
+///
+/// `AllocError` where memory was refused.
 pub fn exit_message(subject: &Subject, finding: &Finding) -> Made<Words> {
     let branch = subject.is_branch(finding.index);
     let onward = unlisted(subject, finding, false);
@@ -135,7 +143,11 @@ fn lacking(subject: &Subject, finding: &Finding) -> Made<Vec<u32>>
     both(subject.alloc(), onward, taken)
 }
 
-/// The way to an exit, and the places to which it leads.
+/// The notes that show the path to an exit and the places to which it leads.
+///
+/// # Errors
+///
+/// `AllocError` where memory was refused.
 pub fn exit_notes(subject: &Subject, finding: &Finding, path: &[u32]) -> Made<Vec<Note>>
     ensures { IfOk result (λ notes. paths notes.items ≡ way_paths subject.now finding.now.index path.now) }
 {
@@ -219,8 +231,12 @@ fn listing_help(subject: &Subject, finding: &Finding, places: &[u32]) -> Made<He
     Ok(in_words(alloc, message))
 }
 
-/// What to do about exits to places that are no targets: to list them, or to let a task begin at the first of them where
-/// none begins; there a delay slot or another stop may be meant, or none, if the stop is needless.
+/// The help for exits to places that the task does not list: to list them, or to let a task begin at the first of them where
+/// none does. At such a place it first says that a delay slot or another stop may be meant, or, where `needless`, no stop.
+///
+/// # Errors
+///
+/// `AllocError` where memory was refused.
 pub fn exit_help(subject: &Subject, finding: &Finding, needless: bool) -> Made<Help> {
     let task = finding.task;
     let places = lacking(subject, finding)?;
@@ -248,7 +264,7 @@ fn begin_help(subject: &Subject, task: u32, to: u32, places: &[u32]) -> Made<Hel
     })
 }
 
-/// Where an instruction leads without ending the task, if no instruction is there; else 0.
+/// The code index, past the last instruction, to which an instruction leads inside the task.
 pub fn beyond(subject: &Subject, index: u32) -> u32 {
     let onward = subject.inner(index, false).unwrap_or(0);
     if onward as usize >= subject.code().len() {
@@ -257,7 +273,11 @@ pub fn beyond(subject: &Subject, index: u32) -> u32 {
     subject.inner(index, true).unwrap_or(0)
 }
 
-/// What to do about an edge that leads to no instruction.
+/// The help for an edge that leads past the last instruction.
+///
+/// # Errors
+///
+/// `AllocError` where memory was refused.
 pub fn beyond_help(subject: &Subject, index: u32) -> Made<Help> {
     let alloc = subject.alloc();
     let message = if beyond(subject, index) as usize == subject.code().len() {
@@ -275,7 +295,7 @@ fn exits_to(subject: &Subject, index: u32, to: u32) -> bool
     is_end(subject.exit(index, false), to) || is_end(subject.exit(index, true), to)
 }
 
-/// Whether an exit of an instruction that a task reaches leads to a place.
+/// Whether an exit of an instruction that a task reaches leads to this code index; exits through a register do not count.
 pub fn is_taken(subject: &Subject, task: u32, to: u32) -> bool
     ensures { result ≡ is_taken subject.now task to }
 {
@@ -293,14 +313,14 @@ fn first_wrong(subject: &Subject, task: u32) -> Option<usize>
         .position(|target| !subject.is_entry(target.get()))
 }
 
-/// The number of a task's first target where no task begins; of none, 0.
+/// The number, from 0, of a task's first target where no task begins; 0 where there is none.
 pub fn wrong_number(subject: &Subject, task: u32) -> usize
     ensures { result ≡ wrong_number subject.now task }
 {
     first_wrong(subject, task).unwrap_or(0)
 }
 
-/// A task's first target where no task begins.
+/// The code index of a task's first target where no task begins; of its first target where there is none.
 pub fn wrong_target(subject: &Subject, task: u32) -> u32 {
     match subject.targets(task).get(wrong_number(subject, task)) {
         Some(target) => target.get(),
@@ -308,7 +328,11 @@ pub fn wrong_target(subject: &Subject, task: u32) -> u32 {
     }
 }
 
-/// What to do about targets where no task begins: to let one begin where the task may go on, or not to list them.
+/// The help for targets where no task begins: to let one begin where the task may continue there, or else not to list them.
+///
+/// # Errors
+///
+/// `AllocError` where memory was refused.
 pub fn target_help(subject: &Subject, task: u32) -> Made<Help> {
     let alloc = subject.alloc();
     let wrong = subject.targets(task).iter().find(|target| {

@@ -1,5 +1,5 @@
-//! What lets a task go on to some places: its targets with these, and a line that lets a task begin at each of them where none
-//! does.
+//! The changes that let a task continue at some places: a longer list of targets, and a `.task` for each place that needs
+//! one.
 
 use diagnostics::diagnostic::{Replacement, Span};
 use diagnostics::words;
@@ -9,17 +9,17 @@ use mark_subjects::subject::{Made, Subject, column_after};
 use mark_subjects::targets::targets_with;
 use task_descriptor::program::MOST_TARGETS;
 
-/// What lets a task go on to some places.
+/// The changes that let a task continue at some places.
 #[derive(Drop)]
 pub struct Going {
-    /// Its list of targets.
+    /// The task's new list of targets, `targets=` and names.
     pub targets: Words,
-    /// The changes that write it, and let tasks begin.
+    /// The replacements that write that list and the `.task` lines.
     pub changes: Vec<Replacement>,
 }
 
 impl Going {
-    /// The changes alone.
+    /// The replacements alone.
     pub fn into_changes(self) -> Vec<Replacement> {
         let Going {
             targets: _targets,
@@ -112,8 +112,12 @@ fn targets_named(subject: &Subject, places: &[u32]) -> Made<Words> {
     Ok(Words::new(text))
 }
 
-/// What lets a task go on to some places that are no targets of it; `None` where there would be too many, or where a task has
-/// to begin at a place that can have no label.
+/// The changes that let a task continue at some places that it does not list; `None` where it would have more than 16
+/// targets, or where a task has to begin at a place that can have no label.
+///
+/// # Errors
+///
+/// `AllocError` where memory was refused.
 pub fn going_on(subject: &Subject, task: u32, places: &[u32]) -> Made<Option<Going>> {
     let list = targets_with(subject, task, places)?;
     if list.len() > MOST_TARGETS {

@@ -1,4 +1,4 @@
-//! A halt that may be forgotten: a task that lists no target and comes to no halt runs on into code that others reach, too.
+//! A halt that may be forgotten: a task that lists no target and reaches no halt runs into code that others reach, too.
 
 use crate::advice::Names;
 use crate::slot::{is_halt, is_turning};
@@ -23,7 +23,7 @@ fn to_label(subject: &Subject, path: &[u32]) -> Option<(u32, u32)> {
     None
 }
 
-/// Whether a halt is at an index.
+/// Whether the instruction at a code index is a `halt`.
 pub fn halts(subject: &Subject, index: u32) -> bool {
     match subject.code().get(index as usize) {
         Some(marked) => is_halt(&marked.op),
@@ -55,8 +55,8 @@ fn is_shared(subject: &Subject, task: u32, index: u32) -> bool {
         && subject.mask(other, index).is_some())
 }
 
-/// Whether it is seen that a halt is forgotten before a place: the program has none; or the task is declared as one that only
-/// ends, and no task begins at the place.
+/// Whether it is seen that a halt is forgotten before a place: the program has none; or the task is declared as one that
+/// only ends, and no task begins at the place.
 fn is_forgotten(subject: &Subject, task: u32, place: u32) -> bool {
     !subject.code().iter().any(|marked| is_halt(&marked.op))
         || (creates_nothing(subject, task) && !subject.is_entry(place))
@@ -73,7 +73,11 @@ fn last_before(subject: &Subject, task: u32, path: &[u32]) -> Option<u32> {
     is_last.then_some(from)
 }
 
-/// What to do about a task on a path: first about a halt that may be forgotten.
+/// A help that first advises a forgotten `halt`, where the path of a finding shows one; else `help`.
+///
+/// # Errors
+///
+/// `AllocError` where memory was refused.
 pub fn halt_or(subject: &Subject, task: u32, path: &[u32], help: Help) -> Made<Help> {
     let alloc = subject.alloc();
     let Some(from) = last_before(subject, task, path) else {

@@ -1,4 +1,5 @@
-//! What is said of jumps to addresses in registers: where they lead that is no target, and targets to which no call returns.
+//! Diagnostics about jumps to addresses in registers: where they lead that is no target, and targets to which no call
+//! returns.
 
 ghost use Rattle.std.specs.Prelude.{◌≡◌, true, IfOk, IfSome, OnOk};
 ghost use Rattle.std.specs.List.{All};
@@ -62,10 +63,12 @@ const NO_RETURN: Row = Row {
     fix: "targets={targets}",
 };
 
-/// What a warning is an instance of.
+/// The kind of a warning about a jump.
 #[derive(Clone, Copy)]
 pub enum JumpKind {
+    /// It is seen to lead to a place that its task does not list.
     NotListed,
+    /// Its task lists a target to which no call is seen to return.
     NoReturn,
 }
 
@@ -77,7 +80,7 @@ struct JumpSaid {
     help: Help,
 }
 
-/// The word of an instruction.
+/// The mnemonic of the instruction at a code index; empty where there is none.
 pub fn name_at(subject: &Subject, index: u32) -> &'static str {
     match subject.code().get(index as usize) {
         Some(marked) => marked.op.name(),
@@ -85,7 +88,7 @@ pub fn name_at(subject: &Subject, index: u32) -> &'static str {
     }
 }
 
-/// A jump, as a task reaches it.
+/// What the walk over the calls found of a jump, as this task reaches it; `None` where the task does not reach it.
 pub fn jump_of<'a>(subject: &'a Subject, task: u32, index: u32) -> Option<&'a Jump> {
     let jumps = subject.returns().jumps();
     jumps
@@ -93,7 +96,7 @@ pub fn jump_of<'a>(subject: &'a Subject, task: u32, index: u32) -> Option<&'a Ju
         .find(|jump| jump.task == task && jump.index == index)
 }
 
-/// Whether a place is directly behind a call.
+/// Whether a place is the return point of a call.
 pub fn is_behind(subject: &Subject, place: u32) -> bool {
     is_end(back(subject, place.saturating_sub(1)), place)
 }
@@ -103,8 +106,8 @@ fn lacks(subject: &Subject, jump: &Jump, place: u32) -> bool {
     jump.places.contains(&place) && !is_among(subject.targets(jump.task), place)
 }
 
-/// The jump that is seen to lead to a place which its task does not list: behind a call, first that of the task which comes
-/// back from it.
+/// The first jump that is seen to lead to a place which its task does not list. If the place is the return point of a
+/// call, the jump of the task that returns from the call comes first.
 pub fn missing_at<'a>(subject: &'a Subject, place: u32) -> Option<&'a Jump> {
     let jumps = subject.returns().jumps();
     let coming = if is_behind(subject, place) {
@@ -119,7 +122,7 @@ pub fn missing_at<'a>(subject: &'a Subject, place: u32) -> Option<&'a Jump> {
     }
 }
 
-/// The first jump by which a task leaves that lists no target, where it is not seen where that leads.
+/// The first jump of a task without targets of which it is not seen where it leads.
 pub fn leading_nowhere<'a>(subject: &'a Subject) -> Option<&'a Jump> {
     let jumps = subject.returns().jumps();
     jumps.iter().find(|jump| subject.targets(jump.task).is_empty() && !jump.is_whole)
@@ -136,7 +139,7 @@ fn returns(subject: &Subject, index: u32) -> bool {
     }
 }
 
-/// The first jump that is no return, where it is not seen of all where it leads.
+/// The first jump other than `jr $31` of which not all places are seen to which it leads.
 pub fn leading_anywhere<'a>(subject: &'a Subject) -> Option<&'a Jump> {
     let jumps = subject.returns().jumps();
     jumps
@@ -144,7 +147,11 @@ pub fn leading_anywhere<'a>(subject: &'a Subject) -> Option<&'a Jump> {
         .find(|jump| !jump.is_whole && !returns(subject, jump.index))
 }
 
-/// Adds those places of a jump that its task does not list.
+/// Adds the places of a jump that its task does not list and `missing` does not have.
+///
+/// # Errors
+///
+/// `AllocError` where memory was refused; some of the places may have been added then.
 pub fn add_missing(subject: &Subject, jump: &Jump, missing: &mut Vec<u32>) -> Made<()> {
     for place in &jump.places {
         if !is_among(subject.targets(jump.task), *place) && !missing.contains(place) {
@@ -154,7 +161,11 @@ pub fn add_missing(subject: &Subject, jump: &Jump, missing: &mut Vec<u32>) -> Ma
     Ok(())
 }
 
-/// The places to which the jumps of a task are seen to lead, and which it does not list.
+/// The places to which the jumps of a task are seen to lead and which it does not list, each once.
+///
+/// # Errors
+///
+/// `AllocError` where memory was refused.
 pub fn missing_of(subject: &Subject, task: u32) -> Made<Vec<u32>> {
     let mut missing = Vec::new(subject.alloc());
     for jump in subject.returns().jumps() {
@@ -165,14 +176,14 @@ pub fn missing_of(subject: &Subject, task: u32) -> Made<Vec<u32>> {
     Ok(missing)
 }
 
-/// Whether a task reaches an instruction.
+/// Whether some task reaches an instruction.
 pub fn is_reached(subject: &Subject, index: u32) -> bool {
     let program = subject.program();
     (0..program.tasks().len() as u32).any(|task| subject.mask(task, index).is_some())
 }
 
-/// Whether it is said of a place that no task comes to it: of the task that begins there, which never runs, or of the code behind
-/// a call; and so that this task does not list it. Of a delay slot nothing else is said.
+/// Whether it is said of a place that no task comes to it: of the task that begins there, which never runs, or of the code
+/// behind a call; and so that this task does not list it. Of a delay slot nothing else is said.
 fn is_told(subject: &Subject, task: u32, place: u32) -> bool {
     if is_slot(subject, place) && !is_reached(subject, place) {
         return true;
@@ -184,7 +195,11 @@ fn is_told(subject: &Subject, task: u32, place: u32) -> bool {
     is_lost && missing_at(subject, place).is_some_and(|jump| jump.task == task)
 }
 
-/// The calls that return to some places, in words.
+/// The calls that return to some places, in words: their lines.
+///
+/// # Errors
+///
+/// `AllocError` where memory was refused.
 pub fn back_words(subject: &Subject, jump: &Jump, places: &[u32]) -> Made<Words> {
     let alloc = subject.alloc();
     let mut lines = String::new(alloc);
@@ -245,7 +260,11 @@ fn missing_said(subject: &Subject, jump: &Jump, missing: &[u32]) -> Made<JumpSai
     })
 }
 
-/// To write `halt` in place of a jump.
+/// The help that writes `halt` in place of a jump.
+///
+/// # Errors
+///
+/// `AllocError` where memory was refused.
 pub fn halt_help(subject: &Subject, index: u32, names: &Names) -> Made<Help> {
     let mut changes = Vec::new(subject.alloc());
     changes.push(Replacement {
@@ -330,7 +349,11 @@ pub(crate) fn may_go_on(subject: &Subject, task: u32, place: u32) -> bool {
     is_taken(subject, task, place) || may_jump(subject, task, place)
 }
 
-/// What a row says of some targets that a task is not to list: to write the others.
+/// The message of a row about targets that a task should not list, and its help, which writes the other targets.
+///
+/// # Errors
+///
+/// `AllocError` where memory was refused.
 pub fn targets_without(
     subject: &Subject,
     task: u32,
@@ -480,7 +503,11 @@ fn add_warning(subject: &Subject, first: &Jump, list: &mut Vec<Diagnostic>) -> M
     Ok(())
 }
 
-/// The warnings about jumps to addresses in registers, as far as it is seen where they lead: for each task at most one.
+/// The warnings about jumps to addresses in registers, as far as it is seen where they lead: at most one for each task.
+///
+/// # Errors
+///
+/// `AllocError` where memory was refused.
 pub fn jump_warnings(subject: &Subject) -> Made<Vec<Diagnostic>>
     ensures { IfOk result (λ list. All IsOfJump list.items) }
 {

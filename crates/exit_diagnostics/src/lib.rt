@@ -1,5 +1,7 @@
-//! What is said of a task's exits: where they lead, which stop is missing or on the wrong line, what may be meant as a
-//! delay slot, what a call returns to, and tasks that never run.
+//! Diagnostics about the exits of tasks: where they lead, and which stop is missing or on the wrong line.
+//!
+//! They also tell what may be meant as a delay slot, what a call returns to, and which tasks never run. Instructions and
+//! places are code indexes, tasks are numbers from 0.
 #![tactic(auto)]
 
 pub mod advice;

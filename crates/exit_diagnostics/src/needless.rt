@@ -1,5 +1,4 @@
-//! Whether a stop should not be there: without it, the tasks that reach it go right from there on, as far as exits are
-//! concerned.
+//! Whether a stop should not be there: without it, the exits of all tasks that reach it would be right from there on.
 
 use crate::stop::{is_indirect, stops_always};
 use mark_subjects::subject::{Made, Subject, end_of, is_end};
@@ -260,9 +259,9 @@ fn all_right(subject: &Subject, code: &Instructions, marks: &[bool], task: u32, 
     !some_wrong(subject, code, marks, task) && !some_target_wrong(subject, code, marks, task, index)
 }
 
-/// Whether a task ends at an instruction that should have no stop: without it, this task and each other one that reaches
-/// the instruction go right wherever they come from there, as far as exits are concerned. It searches the program once,
-/// then looks at each instruction once, and at each instruction and each task once more for each target of the task.
+/// Whether a task ends at an instruction that should have no stop: without it, the exits from there on would be right in
+/// this task and in each other one that reaches the instruction. It searches the program once, then looks at each
+/// instruction once, and at each instruction and each task once more for each target of the task.
 ///
 /// # Errors
 ///

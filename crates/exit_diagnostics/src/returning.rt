@@ -1,5 +1,5 @@
 //! What is meant where a task never runs, or no task reaches some code: another task may be meant to end before it, or a
-//! call to come back to it.
+//! call to return to it.
 
 use crate::stop::stops_always;
 use crate::stop_fits::stop_fits;
@@ -12,8 +12,12 @@ fn goes_into(subject: &Subject, index: u32, other: u32) -> bool {
     is_end(into(subject, index, false), other) || is_end(into(subject, index, true), other)
 }
 
-/// The first task that goes on into another, and may end there, and its instruction that does so. It looks at each
-/// instruction once, and in each task at those alone that go on into the other.
+/// The first task that continues into another and may be meant to end there, with the code index of its instruction that
+/// does so. It looks at each instruction once, and in each task at those alone that continue into the other.
+///
+/// # Errors
+///
+/// `AllocError` where memory was refused.
 pub fn step_into(subject: &Subject, other: u32) -> Made<Option<(u32, u32)>> {
     let mut steps = Vec::new(subject.alloc());
     let program = subject.program();
@@ -54,7 +58,8 @@ fn called(subject: &Subject, call: u32) -> Option<u32> {
     }
 }
 
-/// The task that comes back from a call, if it is known.
+/// The task that returns from a call: if the call ends its task, the task that it enters, else a task that reaches the call;
+/// `None` where that is not known, or that task does not leave through `jr`.
 pub fn coming_back(subject: &Subject, call: u32) -> Option<u32> {
     if stops_always(subject.stop(call)) {
         return called(subject, call);

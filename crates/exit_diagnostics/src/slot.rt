@@ -39,8 +39,8 @@ fn begins_anew(subject: &Subject, index: u32) -> bool {
         || subject.label(index).is_some()
 }
 
-/// Whether an instruction stands alone after a branch or a jump, up to where the code begins anew. No compiler puts a release
-/// there.
+/// Whether an instruction may be meant as a delay slot: it is alone between a branch or a jump and the next label, task
+/// entry or end of the code, and is no branch, jump, `halt` or release.
 pub fn is_slot(subject: &Subject, index: u32) -> bool {
     let before = subject.code().get(index.saturating_sub(1) as usize);
     match (before, subject.code().get(index as usize)) {

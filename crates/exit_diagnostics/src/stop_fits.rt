@@ -1,4 +1,4 @@
-//! Where a task may be meant to end: a stop there leaves it at most 16 targets, and each other task ends at a target.
+//! Where a task may be meant to end: a stop there leaves it at most 16 targets, and ends each other task at a target.
 
 ghost use Rattle.std.specs.Prelude.{◌≡◌, length};
 ghost use Rattle.std.specs.List.{list_any, range_with_len};
@@ -23,8 +23,8 @@ fn stops_another(subject: &Subject, task: u32, index: u32) -> bool
         && ends_astray(subject, index, other))
 }
 
-/// Whether a task may be meant to end at an instruction that goes on into another one: it has at most 16 targets then,
-/// and no other task ends where it may not.
+/// Whether a task may be meant to end at an instruction that continues into another one: it has room for the targets that it
+/// would lack, and a stop there would end no other task where that lists no target.
 pub fn stop_fits(subject: &Subject, task: u32, index: u32) -> bool
     ensures { result ≡ stop_fits subject.now task index }
 {

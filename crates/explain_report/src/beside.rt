@@ -1,4 +1,4 @@
-//! What `explain` says of a certificate that is given beside a program.
+//! The diagnostics for a certificate that is given with a program.
 ghost use Rattle.std.specs.Prelude.{◌≡◌, ◌↔◌, ◌≤◌, ◌++◌, [], length, Ok, IfOk};
 ghost use Rattle.std.specs.Option.{option_map};
 ghost use Rattle.std.specs.String.{string_bytes};

@@ -1,4 +1,4 @@
-//! What `explain` says, as diagnostics, of which each form is made.
+//! The diagnostics of `explain`, from which each form of its report is made.
 ghost use Rattle.std.specs.Prelude.{◌≡◌, ◌≢◌, ◌↔◌, ◌&&◌, ◌++◌, [], Ok, Some, true, IfOk};
 ghost use Rattle.std.specs.Option.{option_map};
 ghost use Rattle.std.specs.String.{string_bytes};
@@ -32,7 +32,7 @@ use std::alloc::{AllocError, Global};
 use task_descriptor::program::Program;
 use text_diagnostics::refusal::refusal;
 
-/// The diagnostics for what is given.
+/// The diagnostics for the texts that `explain` is given.
 ///
 /// # Errors
 ///

@@ -1,4 +1,4 @@
-//! The job `explain`: what is said, rendered as text, as a log in SARIF, or as lines of JSON.
+//! The job `explain`: the diagnostics rendered as text, as a log in SARIF, or as lines of JSON.
 ghost use Rattle.std.specs.Prelude.{◌≡◌, ◌×◌, IfOk};
 ghost use Rattle.std.specs.Option.{option_map};
 ghost use Rattle.std.specs.String.{string_bytes};
@@ -23,9 +23,9 @@ use report_texts::report::JobReport;
 use shown_names::shell::shell_word;
 use std::alloc::{AllocError, Global};
 
-/// What `explain` writes in a format of a program text, whose file has this name, and of the texts of a certificate and
-/// of an event script, if a file of one is named. Text has colours only where it is to have them always: who knows the
-/// terminal settles `Auto` before.
+/// The report of `explain`, in a format, on a program text, whose file has this name, and on the texts of a certificate
+/// and of an event script, where a file of one is named. Text has colours only for `Colors::Always`: the caller, who knows
+/// the terminal, settles `Colors::Auto` before.
 ///
 /// # Errors
 ///

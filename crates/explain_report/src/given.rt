@@ -1,4 +1,4 @@
-//! What `explain` is given.
+//! The texts that `explain` is given.
 ghost use Rattle.std.specs.Prelude.{◌≡◌};
 ghost use Rattle.explain_report.specs.Explained.{are_told, final_status};
 
@@ -6,15 +6,15 @@ use crate::explained::status_alone;
 use crate::explanation::Explanation;
 use jobs::job::Warnings;
 
-/// What `explain` is given: a program text, the texts of a certificate and of an event script if a file of one is named,
-/// and what is done about marks that cost speed.
+/// The texts that `explain` is given, a program and, where a file of one is named, a certificate and an event script, and
+/// what it does about marks that cost speed.
 #[derive(Clone, Copy)]
 pub struct Given<'a> {
     /// The name of the program's file.
     pub name: &'a str,
-    /// That of the certificate's.
+    /// The name of the certificate's file; `None` where there is none.
     pub cert_file: &'a Option<String>,
-    /// That of the script's.
+    /// The name of the script's file; `None` where there is none.
     pub script_file: &'a Option<String>,
     /// What is done about marks that cost speed.
     pub warnings: Warnings,

@@ -1,4 +1,4 @@
-//! Laws: each function does nothing, and its contract is a theorem about the definitions alone.
+//! Laws: each function does nothing, and its contract is a theorem about the definitions alone. To use one, call it.
 ghost use Rattle.std.specs.Prelude.{◌≡◌, ◌↔◌, ℕ, Bool, List, [], Option, None, Ok, false};
 ghost use Rattle.task_descriptor.specs.Listing.{Listing};
 ghost use Rattle.task_graph.specs.Soundness.{Sound};
@@ -11,7 +11,7 @@ ghost use Rattle.judged_fixes.specs.declared.judge.Marks.TheVariants.{Right, Unr
 ghost use Rattle.explain_report.specs.Explained.{IsExplained};
 ghost use Rattle.explain_report.specs.Repairs.{IsAuthorsBut, IsRepaired};
 
-/// Where no certificate and no script is named and no warnings are asked for, nothing is said of a program exactly where
+/// Where no certificate and no script is given and no warnings are asked for, a program has no diagnostics exactly where
 /// its marks are sound, and only then the status is 0.
 pub fn silent_where_sound()
     ensures said { (text certificate script : List ℕ) (p : Listing) (explained : Explanation) → parse text ≡ Ok p
@@ -20,8 +20,8 @@ pub fn silent_where_sound()
         → IsExplained None None false text certificate script explained → (explained.status ≡ 0) ↔ Sound p }
 {}
 
-/// What `explain` says of the marks of a text is so: they are right exactly where it spells a program whose marks are
-/// sound, and none exactly where it spells no program.
+/// The verdict of `explain` on the marks of a text holds: they are right exactly where the text spells a program whose
+/// marks are sound, and unread exactly where it spells no program.
 pub fn marks_are_told()
     ensures right { (cert_file script_file : Option (List ℕ)) (warnings : Bool) (text certificate script : List ℕ) (explained : Explanation)
         → IsExplained cert_file script_file warnings text certificate script explained → (explained.marks ≡ Right) ↔ IsRight text }
@@ -29,8 +29,8 @@ pub fn marks_are_told()
         → IsExplained cert_file script_file warnings text certificate script explained → (explained.marks ≡ Unread) ↔ IsUnread text }
 {}
 
-/// What `explain --fix` writes is the author's text but for edits that the helps of its errors propose at their places, and
-/// its marks are said to be right exactly where they are.
+/// The text that `explain --fix` writes is the author's but for edits that the helps of its errors propose at their
+/// places, and its marks are said to be right exactly where they are.
 pub fn repairs_are_proposed()
     ensures authors { (cert_file script_file : Option (List ℕ)) (warnings : Warnings) (text certificate script : List ℕ) (r : Repaired)
         → IsRepaired cert_file script_file warnings text certificate script r → IsAuthorsBut text r.text }

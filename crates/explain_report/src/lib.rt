@@ -1,5 +1,6 @@
-//! What `explain` writes: the diagnostics for a program text, a certificate and an event script, as one list, in text
-//! form, as a log in SARIF, or as lines of JSON; and what `annotate` could not mend.
+//! The report of `explain`: the diagnostics for a program text, a certificate and an event script, as one list.
+//!
+//! It is rendered as text, as a log in SARIF 2.1.0, or as lines of JSON. Here, too, is what `annotate` could not mend.
 #![tactic(auto)]
 
 mod beside;

@@ -1,4 +1,4 @@
-//! A log of what `explain` says of several programs.
+//! A SARIF log of what `explain` finds in several programs.
 ghost use Rattle.std.specs.Prelude.{◌≡◌, [], None, IfOk};
 ghost use Rattle.explain_report.specs.ExplainText.{IsExplainReport};
 
@@ -12,7 +12,7 @@ use jobs::job::{Texts, Warnings};
 use operand_forms::rows::lines_of;
 use std::alloc::{AllocError, Global};
 
-/// A program, and what is said of it.
+/// A program of a log, with its diagnostics.
 #[derive(Debug, Drop)]
 pub struct LoggedProgram {
     name: String,
@@ -20,12 +20,12 @@ pub struct LoggedProgram {
     said: Explanation,
 }
 
-/// Adds what is said of a program text in a file of this name, beside texts that no file is named of, and answers the
-/// status.
+/// Adds a program text in a file of this name, with its diagnostics, and returns the status of `explain` on it, 0 or 1. No
+/// certificate and no script is given with it.
 ///
 /// # Errors
 ///
-/// `AllocError` where memory was refused.
+/// `AllocError` where memory was refused; what `programs` then has is not stated.
 pub fn add_program(
     alloc: Global,
     programs: &mut Vec<LoggedProgram>,
@@ -57,7 +57,7 @@ pub fn add_program(
     Ok(status)
 }
 
-/// The log of some programs, in SARIF, where the program ends with this status.
+/// The SARIF log of some programs, where the program ends with this exit status.
 ///
 /// # Errors
 ///

@@ -23,10 +23,9 @@ use shown_names::name::shown_name;
 use std::alloc::{AllocError, Global};
 use task_descriptor::program::Program;
 
-/// What is left to mend by hand in the text that `annotate` proposes for a program text, which stands in a file of
-/// this name. `written` is what the job wrote, with its status; where that is a certificate, the text is the one that
-/// `annotate --emit marks` writes. `None` exactly where the job is no `annotate`, or what it proposes is a refusal or
-/// no program.
+/// What is left to mend by hand in the text that `annotate` proposes for a program text in a file of this name. `written`
+/// and `status` are the job's report; where that is a certificate, the text is the one that `annotate --emit marks`
+/// writes. `None` exactly where the job is no `annotate`, or what it proposes is a refusal or no program.
 ///
 /// # Errors
 ///

@@ -1,18 +1,18 @@
-//! A program's text with fixes, and what is said of it.
+//! The result of `explain --fix`.
 
 use diagnostics::listed::Listed;
 use judged_fixes::judge::Marks;
 
-/// What `explain --fix` writes.
+/// The result of `explain --fix`: a program's text with fixes, and the reports on it.
 #[derive(Debug, Drop)]
 pub struct Repaired {
-    /// What `explain` says of the text as it was.
+    /// The report of `explain` on the text as it was.
     pub said: Vec<u8>,
-    /// The text with the fixes that were judged; as it was where there is none.
+    /// The text with the judged fixes; as it was where none were made.
     pub text: Listed<u8>,
-    /// What its marks are.
+    /// The verdict on its marks.
     pub marks: Marks,
-    /// The status of `explain` of it.
+    /// The exit status of `explain` on it.
     pub status: u8,
     /// The line for standard error: how many fixes were made, and what is left.
     pub line: Vec<u8>,

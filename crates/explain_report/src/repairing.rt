@@ -18,8 +18,8 @@ use judged_fixes::judge::Marks;
 use shown_names::name::shown_name;
 use std::alloc::{AllocError, Global};
 
-/// What `explain --fix` writes of a program text, whose file has this name, as `explain` explains it: beside the texts of a
-/// certificate and of an event script, if a file of one is named.
+/// The result of `explain --fix` on a program text, whose file has this name, and on the texts of a certificate and of an
+/// event script, where a file of one is named.
 ///
 /// # Errors
 ///

@@ -1,4 +1,4 @@
-//! What is wrong with a certificate that is given beside a program.
+//! Diagnostics for a certificate that is given with a program.
 
 ghost use Rattle.std.specs.Prelude.{IfOk};
 ghost use Rattle.input_diagnostics.specs.CertificateErrors.{AreCertificateErrors};
@@ -12,21 +12,23 @@ use mask_certificate::reading::read;
 use std::alloc::{AllocError, Global};
 use task_descriptor::program::Program;
 
-/// The lines of a program text, each without its LF, and where each instruction stands in them, index 0 first; of a
-/// place that is missing no line is named.
+/// The lines of a program text, and the places of its instructions in them.
 #[derive(Clone, Copy)]
 pub struct ProgramLines<'a> {
-    /// The lines.
+    /// The lines, line 1 first, each without its LF.
     pub rows: &'a [&'a [u8]],
-    /// The places.
+    /// The places of the instructions, by code index; where one is missing, no line is named.
     pub code: &'a [Span],
 }
 
-/// What is wrong with the text of a certificate that is given beside a program, of which these are the lines and the least
-/// certificate: why the text is refused; or that it is of another text, where a task has another number of instructions; or an
-/// error for each mask that lacks registers, with the least mask to write, and for each mask that is missing, at most 1,000,
-/// and how many more there are. There is none exactly where the text is a certificate in which the rules 1 to 4 find nothing:
-/// those are the rules that judge it alone. So a mask that has more registers than it needs is no error.
+/// The errors of a certificate's text that is given with a program; `lines` and `least` are the program's lines and its
+/// least certificate.
+///
+/// There is one error where the text is refused, or where it is of another program text, which shows in a task with
+/// another number of instructions. Else there is one for each mask that lacks registers, with the least mask to write, and
+/// for each mask that is missing: at most 1,000, and a note with the number of the rest. There is none exactly where the
+/// text is a certificate that breaks none of the rules 1 to 4, which judge it alone; so a mask that is larger than it
+/// needs to be is no error.
 ///
 /// # Errors
 ///

@@ -1,5 +1,6 @@
-//! Diagnostics about the texts that stand beside a program: a certificate and an event script. Each kind of mistake is a
-//! row of advice.
+//! Diagnostics about the texts that are given with a program: a certificate and an event script.
+//!
+//! Each kind of mistake is a row of advice.
 #![tactic(auto)]
 
 mod advice;

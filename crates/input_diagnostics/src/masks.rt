@@ -1,5 +1,5 @@
-//! Diagnostics for a certificate that can be read, beside the program's least one: it is of another text, or some masks
-//! lack registers.
+//! Diagnostics for a certificate that can be read, compared with the program's least one: it is of another text, or some
+//! masks lack registers.
 
 ghost use Rattle.std.specs.Prelude.{◌≡◌, ◌↔◌, ◌<◌, ◌≤◌, ◌^◌, [], length, IfOk};
 ghost use Rattle.diagnostics.specs.declared.diagnostic.Source.TheVariants.{Certificate};

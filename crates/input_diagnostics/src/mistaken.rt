@@ -19,7 +19,7 @@ pub(crate) const VERBS: [&str; 8] = [
     "assign", "exec", "transfer", "drain", "squash", "retire", "fault", "drop",
 ];
 
-/// What a text is that was given as a program.
+/// The kind of a text that was given as a program and is none.
 #[derive(Clone, Copy, Debug, PartialEq, Eq)]
 pub enum Mistaken {
     /// A certificate.
@@ -51,7 +51,8 @@ fn is_one_of(word: &[u8], words: &[&str]) -> bool
     false
 }
 
-/// What a text is that was given as a program, by how it begins: a certificate, a script of events, or neither.
+/// The kind of a text that was given as a program, by its beginning; `None` where it begins neither as a certificate, with
+/// `cert `, nor as an event script, with the name of an event.
 pub fn mistaken_kind(text: &[u8]) -> Option<Mistaken>
     ensures { result ≡ mistaken_kind text.now }
 {
@@ -64,7 +65,7 @@ pub fn mistaken_kind(text: &[u8]) -> Option<Mistaken>
     None
 }
 
-/// The diagnostic for a text that is no program, but a certificate or a script of events.
+/// The diagnostic for a text of this kind that was given as a program.
 ///
 /// # Errors
 ///

@@ -1,4 +1,4 @@
-//! What is wrong with the text of an event script.
+//! Diagnostics for the text of an event script.
 
 ghost use Rattle.std.specs.Prelude.{◌≡◌, IfOk, IsSomeAnd, slice_get};
 ghost use Rattle.diagnostics.specs.declared.diagnostic.Source.TheVariants.{Script};
@@ -306,9 +306,9 @@ fn errors_in(
     Ok(list)
 }
 
-/// What is wrong with the text of an event script for a program: an error for each line that spells no event, but only
-/// one for all lines that end with CR, and one for all that have what only `replay --strict` reads; of the first 1,000
-/// such lines, and how many more there are. Of a trace, that it is one.
+/// The errors in the text of an event script for a program: one for each line that spells no event, but only one for all
+/// lines that end with CR, and one for all that have what only `replay --strict` reads. They are of the first 1,000 such
+/// lines; a note has the number of the rest. For a trace there is one error, that it is a trace.
 ///
 /// # Errors
 ///

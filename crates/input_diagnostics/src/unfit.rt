@@ -58,9 +58,9 @@ fn first_shown<'f>(
     None
 }
 
-/// The diagnostic for a certificate, read from this text, with which the checker has these findings, and fewer,
-/// `wanted`, with the least one. Of the first 100 findings, the first whose task has a mask with its register for no
-/// reason gives the place, the first such mask; if there is none, the diagnostic has no place.
+/// The diagnostic for a certificate, read from this text, with which the checker has these findings, and with the least
+/// one only `wanted`. Its place is the first mask that has a register for no reason, in the task of the first of the
+/// findings, among 100, for which there is one; if there is none, the diagnostic has no place.
 ///
 /// # Errors
 ///

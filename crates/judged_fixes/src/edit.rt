@@ -2,13 +2,13 @@
 
 use diagnostics::words::Words;
 
-/// A part of a text, and what is written in its place.
+/// A change of a text: a part of it, and what is written in its place.
 #[derive(Debug, Drop)]
 pub struct Edit {
-    /// Where the part begins, in bytes of the text, from 0.
+    /// The offset of the part's first byte in the text, from 0.
     pub from: usize,
-    /// Where it ends: the byte behind it.
+    /// The offset of the byte behind the part.
     pub to: usize,
-    /// What is written.
+    /// The bytes that are written.
     pub text: Words,
 }

@@ -1,4 +1,4 @@
-//! The judge of a text.
+//! The judge of a text: the assembler and the checker.
 
 ghost use Rattle.std.specs.Prelude.{◌≡◌, ◌↔◌, IfOk};
 ghost use Rattle.judged_fixes.specs.declared.judge.Marks.TheVariants.{Right, Unread};
@@ -14,14 +14,14 @@ use mark_checker::finding::Finding;
 use std::alloc::{AllocError, Global};
 use task_descriptor::program::Program;
 
-/// What the marks of a text are.
+/// The verdict on the marks of a text.
 #[derive(Clone, Copy, Debug, PartialEq, Eq)]
 pub enum Marks {
-    /// Right.
+    /// The text spells a program whose marks are right.
     Right,
-    /// Wrong.
+    /// It spells a program whose marks are wrong.
     Wrong,
-    /// None: the text spells no program.
+    /// It spells no program, so it has no marks.
     Unread,
 }
 
@@ -29,7 +29,7 @@ impl Marks {
     ghost use Rattle.std.specs.Prelude.{◌≡◌, ◌↔◌, true};
     ghost use Rattle.judged_fixes.specs.declared.judge.Marks.TheVariants.{Right};
 
-    /// Whether they are right.
+    /// Whether the verdict is that the marks are right.
     pub fn are_right(self) -> bool
         ensures { (result ≡ true) ↔ (self ≡ Right) }
     {
@@ -37,7 +37,7 @@ impl Marks {
     }
 }
 
-/// Whether the marks of a text are right.
+/// The verdict on the marks of a text: it is assembled and, if it spells a program, checked.
 ///
 /// # Errors
 ///

@@ -19,18 +19,18 @@ use mask_certificate::certificate::Cert;
 use std::alloc::{AllocError, Global};
 use task_descriptor::program::Program;
 
-/// How many fixes are judged alone at most, where the fixes together do not make the marks right.
+/// The most fixes that are judged one by one, where all together do not make the marks right.
 pub const MOST_ALONE: usize = 15;
 
 /// How much the runs of the checker that judge fixes alone look at in all: bytes of the text, and entries of certificates.
 const MOST_READ: usize = 1_000_000;
 
-/// The errors of a text, as they are said, and the text with the fixes made that were judged.
+/// The errors of a text, and the text with those fixes that the judge confirmed.
 #[derive(Debug, Drop)]
 pub struct Judged {
-    /// The errors. One whose fix leaves it in place is told as words alone.
+    /// The errors. One whose fix was judged not to help has its help in words alone.
     pub errors: Vec<Diagnostic>,
-    /// The text with fixes; `None` where there is none to make.
+    /// The text with fixes; `None` where none were made.
     pub fixed: Option<Fixed>,
 }
 
@@ -173,9 +173,11 @@ fn says_right(fixed: &Option<Fixed>) -> bool
     }
 }
 
-/// Judges the fixes that the errors of a program's marks propose: those of a proposal together, which are taken if they make
-/// the marks right; and else some of them alone, of which those are made that make their error go: at most `MOST_ALONE`, and
-/// fewer of a long text.
+/// Judges the fixes that the errors of a program's marks propose. `least` is the program's least certificate, `all` the
+/// proposal of all errors.
+///
+/// The fixes of `all` are made together if that makes the marks right. Else some are judged one by one, at most
+/// `MOST_ALONE`, and fewer of a long text; those are made that remove their error.
 ///
 /// # Errors
 ///

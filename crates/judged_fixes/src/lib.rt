@@ -1,5 +1,6 @@
-//! Fixes that are judged. What helps propose to write is written into a copy of the text, and the assembler and the
-//! checker say of that copy whether its marks are right. How a proposal was found does not matter.
+//! The trial of fixes: what helps propose is written into a copy of the text, which is assembled and checked.
+//!
+//! The assembler and the checker say of that copy whether its marks are right. How a proposal was found does not matter.
 #![tactic(auto)]
 
 pub mod edit;

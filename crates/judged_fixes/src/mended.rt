@@ -20,8 +20,8 @@ fn around<'a>(rest: &'a [u8], at: usize, edit: &Edit) -> Option<(&'a [u8], &'a [
     Some((&rest[..from], &rest[to..]))
 }
 
-/// A text with these edits made; `None` where they do not rise by their places, none beginning before the one ahead of it
-/// ends, or one is not in the text.
+/// A copy of a text with these edits made; `None` if an edit is not within the text or begins before the one ahead of it
+/// ends.
 ///
 /// # Errors
 ///

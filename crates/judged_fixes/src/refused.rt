@@ -1,4 +1,4 @@
-//! The fix of what is wrong first in a text that the assembler refuses.
+//! The fix of the first fault in a text that the assembler refuses.
 
 ghost use Rattle.std.specs.Prelude.{◌≡◌, ◌↔◌, false, true, None, Some, IfOk, IfSome};
 ghost use Rattle.std.specs.List.{find, list_any, position};
@@ -157,8 +157,8 @@ fn fixed_further(
     made_further(alloc, text, first, said, &places)
 }
 
-/// Judges what the first of the errors that tell a refused text's first fault proposes to write: it is made in a copy of the
-/// text, in which the assembler is to come further. Where it does not, that error is told in words alone.
+/// Judges the fix of a refused text's first fault: the first of the errors that tell this fault proposes it. It is made in
+/// a copy of the text, in which the assembler must come further; if it does not, that error has its help in words alone.
 ///
 /// # Errors
 ///

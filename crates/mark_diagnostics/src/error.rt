@@ -1,4 +1,4 @@
-//! What is wrong with a program's marks, as diagnostics.
+//! The errors in a program's marks, as diagnostics.
 
 ghost use Rattle.std.specs.Prelude.{◌≡◌, [], map as each, slice_get, Ok, IfOk};
 ghost use Rattle.std.specs.List.{All, AllZip};
@@ -38,8 +38,7 @@ use mask_certificate::certificate::Cert;
 use std::alloc::{AllocError, Global};
 use task_descriptor::program::Program;
 
-/// The most diagnostics that are shown of what is wrong with the marks of a program, or could be better; of the rest
-/// only the number is shown.
+/// The most errors, and the most warnings, about the marks of a program that are shown; of the rest only the number is.
 pub const MOST_SHOWN: usize = 1_000;
 
 /// The code of a rule.
@@ -326,9 +325,9 @@ fn told_diagnostics(
     Ok(list)
 }
 
-/// What is wrong with the marks of the program that a text spells: an error for each finding that is reported, at
-/// most `MOST_SHOWN` of them, and how many more there are; nothing exactly where the marks are sound. `least` is
-/// the program's least certificate.
+/// The errors in the marks of the program that a text spells: one for each finding that is reported, at most `MOST_SHOWN`,
+/// and a note with the number of the rest; none exactly where the marks are sound. `least` is the program's least
+/// certificate.
 ///
 /// # Errors
 ///

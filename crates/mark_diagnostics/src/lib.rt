@@ -1,5 +1,4 @@
-//! Diagnostics about a program's marks: what is wrong with them, with a path that shows it and a remedy, and what could
-//! be better.
+//! Diagnostics about a program's marks: errors, each with a path that shows it and a remedy, and warnings.
 #![tactic(auto)]
 
 pub mod error;

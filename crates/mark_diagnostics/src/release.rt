@@ -1,4 +1,4 @@
-//! A release that is written anew, with fewer registers.
+//! The replacement that writes a release with fewer registers.
 
 use diagnostics::diagnostic::Replacement;
 use diagnostics::words;

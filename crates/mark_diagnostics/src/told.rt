@@ -1,4 +1,4 @@
-//! The findings of a program that are reported, and those that are reported together with each.
+//! The findings of a program that are reported, and which others are reported together with each.
 
 ghost use Rattle.std.specs.Prelude.{◌≡◌, ◌<◌, ◌-◌, ◌++◌, ◌&&◌, filter, not, take, length, IfOk, OnOk};
 ghost use Rattle.std.specs.List.{find};
@@ -106,6 +106,10 @@ fn add_first(list: &mut Vec<Finding>, found: &[Finding], most: usize) -> Made<()
 
 /// The first findings to report of a surveyed program with its least certificate, at most `most`, and how many there are in
 /// all. It holds the findings of one task at a time.
+///
+/// # Errors
+///
+/// `AllocError` where memory was refused.
 pub fn first_told(
     alloc: Global,
     survey: &Survey<'_>,

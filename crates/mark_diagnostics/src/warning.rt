@@ -1,4 +1,4 @@
-//! What could be better about a program's marks, as diagnostics.
+//! The warnings about a program's marks, as diagnostics.
 
 ghost use Rattle.std.specs.Prelude.{◌≡◌, ◌<◌, ◌++◌, ◌&&◌, ◌==◌, true, [], not, slice_get, map as each, Ok, IfOk, OnOk};
 ghost use Rattle.std.specs.List.{AllZip, list_any};
@@ -445,8 +445,8 @@ fn name_jump(subject: &Subject, names: &mut Names, jump: &Jump) -> Made<()> {
     names.line("from", subject, jump.index)
 }
 
-/// What is said of a task that never runs, to which a jump leads whose task does not list it: behind a call, which returns, or
-/// not.
+/// What is said of a task that never runs, to which a jump leads whose task does not list it: behind a call, which
+/// returns, or not.
 fn jumped_to(
     subject: &Subject,
     mut names: Names,
@@ -655,9 +655,11 @@ fn is_silent(list: &[CostlyMark], stops: &[StopRemark], program: &Program) -> bo
     }
 }
 
-/// What could be better about the marks of the program that a text spells: where a stop or a way to a task may be
-/// forgotten, and which marks cost speed, of one create mask or one release all at once; of the first `MOST_SHOWN`,
-/// and how many more there are; before that, where jumps to addresses in registers lead that is not listed. `least` is the program's least certificate.
+/// The warnings about the marks of the program that a text spells. `least` is the program's least certificate.
+///
+/// First come those where a stop or a way to a task may be forgotten, and those of marks that cost speed, of one create mask
+/// or one release all at once: together at most `MOST_SHOWN`. Then come those about jumps to addresses in registers that
+/// lead where the task lists no target, and last a note with how many of the former are not shown.
 ///
 /// # Errors
 ///

@@ -1,5 +1,4 @@
-//! The program `multiscalar`. What it does is in `program_edge`; here it is given its two streams, and the files that it
-//! may write.
+//! The program `multiscalar`: it gives `program_edge` its two streams and the files that it may write.
 #![tactic(auto)]
 
 use program_edge::coloring::is_colorful;

@@ -1,4 +1,4 @@
-//! What the numbers stand for that a caller passes.
+//! The meaning of the numbers that a caller passes.
 ghost use Rattle.std.specs.Prelude.{◌≡◌, MatchResult, None, Some, slice_get, ◌⊎◌};
 ghost use Rattle.multiscalar_c.specs.Codes.{curve_emits, emits, formats, prediction_of, replay_emits, run_emits, source_of, warnings_of};
 ghost use Rattle.multiscalar_c.specs.declared.answer.Fault.TheVariants.{Memory, Range};

@@ -1,4 +1,4 @@
-//! The calls.
+//! The calls. The crate's own comment lists what they return, and what `out` and `len` then have.
 ghost use Rattle.std.specs.Prelude.{◌≡◌, ⊤, IsSome, slice_get};
 ghost use Rattle.multiscalar_c.specs.Answers.{Answers, Made};
 ghost use Rattle.multiscalar_c.specs.Codes.{curve_emits, emits, run_emits};
@@ -65,8 +65,8 @@ fn print_of(alloc: Global, program: &[u8]) -> Result<JobReport, Fault>
     Ok(print(alloc, program)?)
 }
 
-/// `annotate`: proposes marks. `emit` is 0 for the annotated program, 1 for its certificate, 2 for the
-/// certificate of the program as it stands, 3 for the author's text with the proposed marks.
+/// `annotate`: proposes marks. `emit` is 0 for the annotated program, 1 for its certificate, 2 for the least certificate
+/// of the given program, 3 for the author's text with the proposed marks.
 #[unsafe(no_mangle)]
 pub extern "C" fn multiscalar_c_annotate(
     alloc: Global,
@@ -87,7 +87,7 @@ fn annotate_of(alloc: Global, emit: u32, program: &[u8]) -> Result<JobReport, Fa
     Ok(annotate(alloc, emit, program)?)
 }
 
-/// `check`: judges the marks of a program by the text of its certificate, or by the least one.
+/// `check`: judges the marks of a program by the text of its certificate, or, if `is_least`, by the least certificate.
 #[unsafe(no_mangle)]
 pub extern "C" fn multiscalar_c_check(
     alloc: Global,
@@ -114,9 +114,9 @@ fn check_of(
     Ok(check_alone(alloc, codes::source(is_least), &texts)?)
 }
 
-/// `explain`: says what is wrong with a program, whose file has this name, and with the text of a certificate, if
-/// there is one. Names are UTF-8. `format` is 0 for text, 1 for SARIF, 2 for lines of JSON; `warnings` also reports
-/// marks that are right but cost speed.
+/// `explain`: reports what is wrong with a program, whose file has this name, and, if `has_certificate`, with the text of
+/// a certificate. Names are UTF-8. `format` is 0 for text, 1 for SARIF, 2 for lines of JSON; `warnings` also reports marks
+/// that are right but cost speed.
 #[unsafe(no_mangle)]
 pub extern "C" fn multiscalar_c_explain(
     alloc: Global,
@@ -174,9 +174,9 @@ fn explain_of(
     Ok(explain(alloc, format, title, &file, &none, warnings, never, &texts)?)
 }
 
-/// `replay`: plays a script of events on a machine of this many units, 1..=16. `emit` is 0 for the answers, 1 for
-/// the summary, 2 for the picture, 3 for the trace, 4 for lines of JSON, 5 for the timeline, 6 for how the machine and
-/// its units stand.
+/// `replay`: plays a script of events on a machine of `units` units, 1..=16. If `is_least`, the certificate is the least
+/// one. `emit` is 0 for the answers, 1 for the summary, 2 for the picture, 3 for the trace, 4 for lines of JSON, 5 for the
+/// timeline, 6 for the state of the machine and its units.
 #[unsafe(no_mangle)]
 pub extern "C" fn multiscalar_c_replay(
     alloc: Global,
@@ -212,7 +212,8 @@ fn replay_of(
     Ok(replay(alloc, codes::source(is_least), units, emit, None, &texts)?)
 }
 
-/// `replay --strict`: judges a script with expectations on a machine of this many units, 1..=16.
+/// `replay --strict`: judges a script with expectations on a machine of `units` units, 1..=16. If `is_least`, the
+/// certificate is the least one.
 #[unsafe(no_mangle)]
 pub extern "C" fn multiscalar_c_replay_strictly(
     alloc: Global,
@@ -246,11 +247,13 @@ fn replay_strictly_of(
     Ok(replay_strictly(alloc, source, units, false, VerdictFormat::Text, &texts)?)
 }
 
-/// `run --schedule steps`: runs the program in steps on this many units, 1..=16, until it ends or `budget` events,
-/// 1..=1,000,000, are spent. `predict` is 0 for the first target, 1 for the last, 2 for those at the positions of
-/// the list: 1 to 64 numbers, each 0..=15. `emit` is 0 for the output words and the end, 1 for the script, 2 for the
-/// summary, 3 for the picture, 4 for the trace, 5 for lines of JSON, 6 for the script with what each event did, 7 for
-/// the table of waits, 8 for the waveform, 9 for the timeline, 10 for the picture by steps.
+/// `run --schedule steps`: runs the program in steps on `units` units, 1..=16, until it ends or `budget` events,
+/// 1..=1,000,000, are spent. If `is_least`, the certificate is the least one.
+///
+/// `predict` is 0 for the first target, 1 for the last, 2 for the targets at the positions in `list`, from 0: 1 to 64
+/// numbers, each 0..=15. `emit` is 0 for the output words and the end, 1 for the script, 2 for the summary, 3 for the
+/// picture, 4 for the trace, 5 for lines of JSON, 6 for the script with what each event did, 7 for the table of waits, 8
+/// for the waveform, 9 for the timeline, 10 for the picture by steps.
 #[unsafe(no_mangle)]
 pub extern "C" fn multiscalar_c_run_steps(
     alloc: Global,
@@ -310,8 +313,8 @@ fn run_of(
     Ok(run_alone(alloc, &steps, codes::source(is_least), &texts)?)
 }
 
-/// `curve`: runs the program in steps on 1, 2, 3 units and more, up to this many, each run up to `budget` events.
-/// `emit` is 0 for a table, 1 for a picture; the other numbers are as for `multiscalar_c_run_steps`.
+/// `curve`: runs the program in steps on 1, 2, 3 units and more, up to `units`, each run up to `budget` events. `emit` is
+/// 0 for a table, 1 for a picture; the other numbers are as for `multiscalar_c_run_steps`.
 #[unsafe(no_mangle)]
 pub extern "C" fn multiscalar_c_curve(
     alloc: Global,
@@ -366,8 +369,8 @@ fn curve_of(
     Ok(curve(alloc, units, budget, &predict, emit, source, &texts)?)
 }
 
-/// `demonstrate`: looks for a run that shows what a wrong mark does, on machines of 2 units, of 3, and so on up to
-/// this many, 1..=16, each run up to `steps` events, 1..=1,000,000.
+/// `demonstrate`: looks for a run that shows the harm of a wrong mark, on machines of 2 units, of 3, and so on up to
+/// `units`, 1..=16, each run up to `steps` events, 1..=1,000,000.
 #[unsafe(no_mangle)]
 pub extern "C" fn multiscalar_c_demonstrate(
     alloc: Global,

@@ -30,13 +30,14 @@ use std::thread::Threads;
 use verdict_report::fault::ServeFault;
 use verdict_report::serve::serve;
 
-/// Does the job that was asked for, with the texts of its files: its report goes to `output`, or to the file of
-/// `folder` that was asked for, and the status is the report's. A text that is refused gives no result, and so
-/// changes no file. Where `errors` is a terminal, a report that refuses a text, or that is of a run that trapped or
-/// ended as unlisted, gets one line there; and there, or where it is asked for, what `annotate` leaves to mend by
-/// hand is written; and where it is asked for, a line for each run of `curve` when it is done. Of `explain` a file of
-/// `folder` may take the text with fixes beside the report; a line says there how many. The first fault ends it, and is
-/// reported. `check` and `run` make threads.
+/// Does the job that was asked for, with the texts of its files: its report goes to `output`, or to the file of `folder`
+/// that was asked for, and the status is the report's. A text that is refused gives no result, and so changes no file.
+/// `check` and `run` make threads. The first fault ends it, and is reported.
+///
+/// Some jobs also write to `errors`. Where it is a terminal, a report that refuses a text, or on a run that trapped or is
+/// unlisted, gets one line there. There, or where it is asked for, goes what `annotate` leaves to mend by hand; and where
+/// it is asked for, a line for each finished run of `curve`. With `explain --fix` a file of `folder` takes the text with
+/// fixes, and a line says how many there are.
 pub fn answer_reader<F: NamedFiles, D: Folder, O: Write, E: Write, R: Threads + Wait + Sync>(
     rt: &R,
     alloc: Global,

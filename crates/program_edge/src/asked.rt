@@ -1,4 +1,4 @@
-//! What the words of the command line ask for.
+//! The request of a process.
 ghost use Rattle.std.specs.Prelude.{◌≡◌, ◌≤◌, length, map};
 ghost use Rattle.std.specs.List.{sum_by};
 ghost use Rattle.std.specs.String.{string_bytes};
@@ -12,10 +12,14 @@ use command_line::request::Request;
 use command_line::words::{UsageFault, request_of};
 use std::alloc::{AllocError, Global};
 
-/// The name of standard input. A file of this name is `./-`.
+/// The name by which the words mean standard input. A file of this name is `./-`.
 pub const STANDARD_INPUT: &str = "-";
 
-/// What the words of a process ask for, or why they ask for nothing.
+/// The request of the words of a process.
+///
+/// # Errors
+///
+/// The fault of reading the words, or of `asked_by`.
 pub fn asked<W: ProcessWords>(alloc: Global, process: &W) -> Result<Request, Fault>
     ensures { IsAskedOf (W.known_words process.now) result }
 {
@@ -25,12 +29,12 @@ pub fn asked<W: ProcessWords>(alloc: Global, process: &W) -> Result<Request, Fau
     }
 }
 
-/// What words ask for, or their fault. The first word is the program's own name.
+/// The request of some words, of which the first is the program's own name.
 ///
 /// # Errors
 ///
-/// `InputTwice` exactly where the words ask for a job of which more than one file is standard input; else
-/// what `fault_of` gives for the fault of `request_of`.
+/// `InputTwice` exactly where the words ask for a job of which more than one file is standard input; else what `fault_of`
+/// gives for the fault of `request_of`.
 pub fn asked_by(alloc: Global, words: &[String]) -> Result<Request, Fault>
     ensures { IsAskedBy (map string_bytes words.now) result }
 {
@@ -75,7 +79,7 @@ fn input(name: &str) -> u32
     u32::from(name == STANDARD_INPUT)
 }
 
-/// The fault that is reported for one of these words. `OutOfMemory` may come in place of a text.
+/// The fault that is reported for a usage fault of these words; `OutOfMemory` where memory for its text was refused.
 pub fn fault_of(alloc: Global, words: &[String], fault: UsageFault) -> Fault
     ensures { IsFaultOf fault result }
 {

@@ -1,4 +1,4 @@
-//! Whether the lines for a person have colours, where that is left to what the program finds.
+//! Whether lines for a person have colours, where the options leave that to the program.
 ghost use Rattle.program_edge.specs.Colouring.{IsButColors, IsSettled};
 
 use crate::fault::Fault;
@@ -7,8 +7,7 @@ use jobs::job::{Colors, Job};
 use std::env;
 use std::env::{Env, VarError};
 
-/// Whether a terminal may show colours, as the environment says: `NO_COLOR` is not set, or is empty, and `TERM` is not
-/// `dumb`.
+/// Whether the environment permits colours on a terminal: `NO_COLOR` is not set, or is empty, and `TERM` is not `dumb`.
 pub fn is_colorful<R: Env + AllocGlobal>(rt: &R) -> bool {
     let is_allowed = match env::var(rt, "NO_COLOR") {
         Ok(value) => value.as_str().is_empty(),

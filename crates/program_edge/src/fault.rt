@@ -1,11 +1,11 @@
-//! Why the program does no job.
+//! The reason why the program does no job.
 
 use crate::unread::Unread;
 use crate::usage::UsageText;
 use result_files::unwritten::Unwritten;
 use verdict_report::fault::ServeFault;
 
-/// Why the program does no job: it says so, and ends with status 2, or with 0 for help and the version.
+/// The reason why the program does no job. It reports the reason, and ends with status 2, or 0 for help and the version.
 #[derive(Debug, Drop)]
 pub enum Fault {
     /// The words ask for help or for the version, which is this text.
@@ -14,13 +14,13 @@ pub enum Fault {
     Words(UsageText),
     /// A word is no text.
     NoText,
-    /// `--predict` has no such value.
+    /// `--predict` has a value that is none.
     Predict,
-    /// `--emit` has no such value.
+    /// `--emit` has a value that is none.
     Emit,
-    /// `--predict` has no such value; the message lists those that it has.
+    /// `--predict` has a value that is none; the message lists the right ones.
     PredictValues,
-    /// `--emit` has no such value; the message lists those that it has.
+    /// `--emit` has a value that is none; the message lists the right ones.
     EmitValues,
     /// Memory ran out before the files were read.
     OutOfMemory,
@@ -35,6 +35,6 @@ pub enum Fault {
     NoProgram(Unread),
     /// The job was not done.
     Serve(ServeFault),
-    /// The file of this path does not take the result.
+    /// The result could not be written to the file of this path.
     NotWritten(String, Unwritten),
 }

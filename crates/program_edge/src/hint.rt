@@ -1,4 +1,4 @@
-//! The hint on standard error beside a result, where that is a terminal.
+//! The hint that standard error gets in addition to a result, where it is a terminal.
 ghost use Rattle.std.specs.Prelude.{◌≡◌, IfOk};
 ghost use Rattle.program_edge.specs.Hints.{IsHint, explains};
 
@@ -9,9 +9,11 @@ use shown_names::name::shown_name;
 use shown_names::shell::shell_word;
 use std::alloc::{AllocError, Global};
 
-/// The line that standard error gets beside the result of a job with this status, of a program of this name and text:
-/// that a text is refused, with the command that says more, or how a run ended that did not halt, and where that is
-/// unlisted, which task went where. Empty for any other result, and where standard error is no terminal.
+/// The hint for the result of a job with this status, on a program of this name and text: one line for standard error, or
+/// nothing for most results and where standard error is no terminal.
+///
+/// It says that a text is refused, with the command that says more, or how a run ended that did not halt, and for an
+/// unlisted one from where to where its task continued.
 ///
 /// # Errors
 ///

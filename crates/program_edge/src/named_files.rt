@@ -37,14 +37,14 @@ pub trait NamedFiles {
         ensures { IsUnreadOpen (known self.now name.now) result };
 }
 
-/// The files of the system, of which nothing is known; `-` is standard input.
+/// The files of the system, of whose contents nothing is assumed; `-` is standard input.
 #[derive(Drop)]
 pub struct SystemFiles<'a, R> {
     rt: &'a R,
 }
 
 impl<'a, R> SystemFiles<'a, R> {
-    /// The files that this runtime reaches.
+    /// The files that a runtime reaches.
     pub fn new(rt: &'a R) -> SystemFiles<'a, R> {
         SystemFiles { rt }
     }

@@ -12,8 +12,8 @@ use std::marker::Sync;
 use std::sync::Wait;
 use std::thread::Threads;
 
-/// Runs the program on the words and the files of a process, and answers its status, 0 to 3. A result may go to a
-/// file of `folder`; `is_terminal` says whether `errors` is a terminal, and `shows_colors` whether `output` is one that
+/// Runs the program on the words and the files of a process, and returns its exit status, 0 to 3. A result may go to a
+/// file of `folder`. `is_terminal` tells whether `errors` is a terminal, and `shows_colors` whether `output` is one that
 /// shows colours.
 pub fn run<
     R: ProcessWords + NamedFiles + AllocGlobal + Threads + Wait + Sync,

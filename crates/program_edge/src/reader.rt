@@ -1,4 +1,4 @@
-//! Who reads standard error, and what is written there beside a report.
+//! The reader of standard error, and what is written there in addition to a report.
 ghost use Rattle.std.specs.Prelude.{◌≡◌, ◌||◌, IfOk};
 ghost use Rattle.program_edge.specs.Beside.{IsBeside, IsRest, is_played, rest_said};
 ghost use Rattle.program_edge.specs.Hints.{IsHint};

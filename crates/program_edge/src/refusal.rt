@@ -1,11 +1,11 @@
-//! Whether what a job says is that a text was refused.
+//! Whether the report of a job is a refusal.
 ghost use Rattle.std.specs.Prelude.{◌≡◌};
 ghost use Rattle.program_edge.specs.Refusals.{is_refusal, judges, last_line, refuses};
 
 use jobs::job::Job;
 
-/// Whether what a job says is that a text was refused, so that there is no result. What `check` and `explain` say
-/// is always one.
+/// Whether the report of a job, with this status and text, says that a text was refused, so that there is no result. For
+/// `check` and `explain` a report is always a result.
 pub fn is_refusal(job: &Job, status: u8, text: &[u8]) -> bool
     ensures { result ≡ is_refusal job.now status text.now }
 {

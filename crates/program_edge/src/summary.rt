@@ -4,7 +4,7 @@ ghost use Rattle.program_edge.specs.Summaries.{all_of, counted, judged_by, no_pr
 
 use std::alloc::{AllocError, Global};
 
-/// What is known of one of several programs.
+/// The verdict on one of several programs.
 #[derive(Clone, Copy, Debug, PartialEq, Eq)]
 pub enum ProgramVerdict {
     /// The status of its report is 0.
@@ -15,7 +15,7 @@ pub enum ProgramVerdict {
     Unjudged,
 }
 
-/// What the status of its report says of a program.
+/// The verdict on a program whose report has this status.
 pub fn judged_by(status: u8) -> ProgramVerdict
     ensures { result ≡ judged_by status }
 {
@@ -29,15 +29,15 @@ pub fn judged_by(status: u8) -> ProgramVerdict
 /// How many of several programs are right, wrong, and not judged.
 #[derive(Clone, Copy, Debug, PartialEq, Eq)]
 pub struct ProgramTally {
-    /// Those that are right.
+    /// The number of programs that are right.
     pub right: usize,
-    /// Those that are wrong.
+    /// The number of programs that are wrong.
     pub wrong: usize,
-    /// Those that are not judged.
+    /// The number of programs that are not judged.
     pub unjudged: usize,
 }
 
-/// The tally of no program.
+/// The tally of no programs.
 pub fn empty_tally() -> ProgramTally
     ensures { result ≡ no_program }
 {
@@ -48,7 +48,7 @@ pub fn empty_tally() -> ProgramTally
     }
 }
 
-/// A tally with one program more.
+/// A tally with one more program.
 pub fn count(tally: ProgramTally, judged: ProgramVerdict) -> ProgramTally
     requires { all_of tally + 1 ≤ usize.MAX }
     ensures { result ≡ counted tally judged }
@@ -69,7 +69,7 @@ pub fn count(tally: ProgramTally, judged: ProgramVerdict) -> ProgramTally
     }
 }
 
-/// The worst status of the programs: 2 where one is not judged, else 1 where one is wrong, else 0.
+/// The exit status for several programs: 2 where one is not judged, else 1 where one is wrong, else 0.
 pub fn worst_status(tally: ProgramTally) -> u8
     ensures { result ≡ worst_status tally }
 {
@@ -86,7 +86,7 @@ pub fn worst_status(tally: ProgramTally) -> u8
 ///
 /// # Errors
 ///
-/// Memory ran out.
+/// `AllocError` where memory was refused.
 pub fn summary_line(alloc: Global, tally: ProgramTally) -> Result<String, AllocError>
     requires { all_of tally ≤ usize.MAX }
 {

@@ -18,13 +18,13 @@ use text_pieces::serial::fetch;
 use text_pieces::shared::fetch_shared;
 use text_pieces::text::Text;
 
-/// The most bytes of a program text.
+/// The most bytes that a program text may have.
 pub const MOST_PROGRAM: u64 = MOST_TEXT as u64;
 
-/// The most bytes of any other file.
+/// The most bytes that any other file may have: 128 MiB.
 pub const MOST_FILE: u64 = 134_217_728;
 
-/// The texts of a job, and the name of its program's file.
+/// The texts of a job, with the name of its program's file.
 #[derive(Drop)]
 pub struct NamedTexts {
     /// The name, as the words have it.
@@ -33,9 +33,12 @@ pub struct NamedTexts {
     pub texts: Texts,
 }
 
-/// The texts of a job, from the files that its paths name, or the first file, in the order program,
-/// certificate, script, that can't be read or is too long, and why. A program text that is too long is cut
-/// after the first byte too many, and is for the assembler to refuse.
+/// The texts of a job, from the files that its paths name. Of a program text that is too long only the bytes up to the
+/// first one too many are read, so that the assembler refuses it.
+///
+/// # Errors
+///
+/// The first file, in the order program, certificate, script, that cannot be read or is too long, and why.
 pub fn read_texts<F: NamedFiles, R: Threads + Sync>(
     rt: &R,
     alloc: Global,
@@ -111,7 +114,7 @@ fn copied(alloc: Global, name: &str) -> Result<String, UnreadReason>
     }
 }
 
-/// The name that pictures give the program in the file of this path: its last part. Standard input has none.
+/// The name that pictures give the program in the file of this path: the last part of the path; empty for standard input.
 pub fn program_name(path: &str) -> &str
     ensures { result.now ≡ program_name path.now }
 {

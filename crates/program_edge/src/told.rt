@@ -1,4 +1,4 @@
-//! What the program says of a fault, and its status.
+//! The messages about faults, and the exit status.
 ghost use Rattle.std.specs.Prelude.{OnOk, IfSome};
 ghost use Rattle.std.specs.Io.KnownBytes.{Appends};
 ghost use Rattle.result_files.specs.Writing.{Begins};
@@ -12,7 +12,7 @@ use result_files::writing::write_text;
 use std::io;
 use std::io::Write;
 
-/// How the program ends.
+/// The end of the program: its exit status, and whether it could say all that it had to say.
 #[derive(Clone, Copy, Debug, PartialEq, Eq)]
 pub struct Answered {
     /// The status, 0 to 3.
@@ -21,8 +21,8 @@ pub struct Answered {
     pub is_told: bool,
 }
 
-/// Says what a fault is: help on standard output, any other fault on standard error. The status is 0 for help that
-/// was written whole, else 2. Where the writer fails, what went out is a beginning of it.
+/// Reports a fault: help on standard output, any other fault on standard error. The status is 0 for help that was written
+/// whole, else 2. Where the writer fails, a beginning of the message was written.
 pub fn tell<O: Write, E: Write>(fault: &Fault, output: &mut O, errors: &mut E) -> Answered
     ensures { IsTold fault.now result.status result.is_told (O.contents output.old)
         (O.contents output.new) (E.contents errors.old) (E.contents errors.new) }

@@ -1,11 +1,11 @@
-//! Why a file gives no text.
+//! The reason why a file gives no text.
 ghost use Rattle.std.specs.Prelude.{◌≡◌, ◌≢◌};
 ghost use Rattle.program_edge.specs.FileTexts.{opening_reason};
 
 use std::io::ErrorKind;
 use text_pieces::serial::FetchFault;
 
-/// Why a file gives no text, as far as the system reports it.
+/// The reason why a file gives no text, as far as the system reports it.
 #[derive(Clone, Copy, Debug, PartialEq, Eq)]
 pub enum UnreadReason {
     /// There is no file of this name.
@@ -24,7 +24,7 @@ pub enum UnreadReason {
 }
 
 impl UnreadReason {
-    /// The reason in words.
+    /// The reason in words, for a message.
     pub fn words(self) -> &'static str {
         match self {
             UnreadReason::NoSuchFile => "no such file",
@@ -37,16 +37,16 @@ impl UnreadReason {
     }
 }
 
-/// A file that gives no text, and why.
+/// A file that gives no text, with the reason.
 #[derive(Debug, Drop)]
 pub struct Unread {
-    /// The file's name, as the words have it.
+    /// The name of the file, as the command line has it.
     pub path: String,
-    /// Why it gives no text.
+    /// The reason why it gives no text.
     pub reason: UnreadReason,
 }
 
-/// Why a file is not opened, for the kind of error that the system reported.
+/// The reason why a file was not opened, for the kind of error that the system reported.
 pub fn reason_of_opening(kind: ErrorKind) -> UnreadReason
     ensures { result ≡ opening_reason kind }
 {
@@ -59,7 +59,7 @@ pub fn reason_of_opening(kind: ErrorKind) -> UnreadReason
     }
 }
 
-/// Why an open file is not read: no file is too long for that. It is there, whatever a read says.
+/// The reason why an open file was not read. It is never that the file is missing or too long.
 pub fn reason_of_reading(fault: FetchFault) -> UnreadReason
     ensures { result ≢ UnreadReason.TooLong }
 {

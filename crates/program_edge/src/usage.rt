@@ -1,4 +1,4 @@
-//! What `clap` says of words that give no job.
+//! The texts of `clap` for words that give no job.
 ghost use Rattle.std.specs.Prelude.{◌≡◌, IfOk};
 ghost use Rattle.std.specs.String.{string_bytes};
 ghost use Rattle.clap.specs.Values.{kind_of};
@@ -13,7 +13,7 @@ use std::fmt::Display;
 // What is said where the words, as they are shown, have no fault of their own.
 const UNPRINTABLE: &str = "error: an argument of the command line is not printable text\n";
 
-/// What `clap` says of one of its faults. It is made of the fault itself, so no other text is one.
+/// The text of one of `clap`'s faults. It is made from the fault itself, so no other text is one.
 #[derive(Debug, Drop)]
 pub struct UsageText {
     error: clap::Error,
@@ -21,11 +21,11 @@ pub struct UsageText {
 }
 
 impl UsageText {
-    /// The text of this fault of these words; it has the words as they are shown.
+    /// The text of a fault of these words, which it has as they are shown.
     ///
     /// # Errors
     ///
-    /// Memory ran out.
+    /// `AllocError` where memory was refused.
     pub fn new(alloc: Global, words: &[String], error: clap::Error) -> Result<UsageText, AllocError>
         ensures { IfOk result (λ usage. usage.error ≡ error) }
     {
@@ -40,7 +40,7 @@ impl UsageText {
         self.text.as_str()
     }
 
-    /// Whether it is help or the version, which were asked for, and no mistake.
+    /// Whether the text is help or the version, which were asked for, and not a mistake.
     pub fn is_shown(&self) -> bool
         ensures { result ≡ is_shown (kind_of self.now.error) }
     {

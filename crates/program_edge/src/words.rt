@@ -6,7 +6,7 @@ use std::alloc::{AllocError, Global};
 use std::env;
 use std::io::ErrorKind;
 
-/// What has the words of a command line.
+/// A source of the words of a command line.
 pub trait ProcessWords {
     // What is known of the words.
     ghost known_words: { Self → KnownWords };

@@ -15,7 +15,11 @@ use mask_certificate::writing::write;
 use std::alloc::{AllocError, Global};
 use task_descriptor::program::Program;
 
-/// What `annotate` writes for a program text.
+/// The report of `annotate` on a program text.
+///
+/// # Errors
+///
+/// `AllocError` where memory was refused.
 pub fn annotate(alloc: Global, emit: Emit, text: &[u8]) -> Result<JobReport, AllocError>
     ensures { IfOk result (λ report. IsAnnotateReport emit text.now report) }
 {

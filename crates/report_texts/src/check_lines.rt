@@ -1,4 +1,4 @@
-//! What `check` writes, as lines of JSON: they are made of the lines of its text.
+//! The report of `check` as lines of JSON, which are made from the lines of its text.
 ghost use Rattle.std.specs.Prelude.{◌≡◌, IfOk};
 
 use crate::listing::line_numbers;
@@ -6,7 +6,7 @@ use crate::report::JobReport;
 use json_text::{JsonText, Written};
 use std::alloc::{AllocError, Global};
 
-/// A report of `check` about a program of this name and text as lines of JSON, with the same status: an object for each
+/// A text report of `check` on a program of this name and text as lines of JSON, with the same status: an object for each
 /// finding, and then one for the verdict.
 ///
 /// # Errors

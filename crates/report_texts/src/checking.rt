@@ -28,8 +28,12 @@ use std::thread::Threads;
 use task_descriptor::program::Program;
 use text_pieces::text::Text;
 
-/// What `check` writes for a program text and the text of its certificate. This many threads share the
-/// work, and it is the same for any number of them. One thread alone makes the least certificate.
+/// The report of `check` on a program text and the text of its certificate. `workers` threads share the work, and the
+/// report is the same for any number of them. One thread alone makes the least certificate.
+///
+/// # Errors
+///
+/// `AllocError` where memory was refused.
 pub fn check<R: Threads + Sync>(
     rt: &R,
     alloc: Global,

@@ -1,4 +1,4 @@
-//! What `replay` and `run` do first.
+//! The judgement with which `replay`, `run` and `curve` begin.
 ghost use Rattle.std.specs.Prelude.{◌≡◌, ◌≢◌, ◌⊎◌, [], map, Err, IfOk};
 ghost use Rattle.mask_certificate.specs.CertificateReading.{cert_parse, names_of};
 ghost use Rattle.mark_checker.specs.Rules.{all_rules};
@@ -24,17 +24,21 @@ use std::alloc::{AllocError, Global};
 use task_descriptor::program::Program;
 use text_pieces::text::Text;
 
-/// What a job with a certificate continues with.
+/// The judgement of a program and its certificate.
 #[derive(Debug, Drop)]
 pub enum Judged {
-    /// A text is refused, or the rules find something: what the job writes.
+    /// A text is refused, or the checker finds something: the report of the job.
     Refused(JobReport),
-    /// The program with its certificate, in which nothing is found.
+    /// The checker accepts the program with its certificate.
     Accepted(accept::Accepted),
 }
 
-/// Judges a program text, then the text of its certificate, and then the one by the other. With the least
+/// Judges a program text, then the text of its certificate, and then the program by the certificate. With the least
 /// certificate the result is the same as with the text that `annotate --emit keep` writes.
+///
+/// # Errors
+///
+/// `AllocError` where memory was refused. A text that is refused is no error, but a judgement.
 pub fn judge(alloc: Global, source: CertificateSource, texts: &Texts) -> Result<Judged, AllocError>
     ensures { IfOk result (λ judged. OfCertificate source texts.now.program.items texts.now.certificate (λ certificate.
         as_judgement judged ≡ judgement texts.now.program.items certificate)) }
@@ -80,7 +84,11 @@ fn judge_program(alloc: Global, program: Program, certificate: &Text) -> Result<
     }
 }
 
-/// What the text of a certificate gives for a program: the certificate, or the fault of its text.
+/// The certificate of a program that a text spells.
+///
+/// # Errors
+///
+/// The fault of the text; `CertFault::OutOfMemory` where memory was refused.
 pub fn read(alloc: Global, certificate: &Text, program: &Program) -> Result<Cert, CertFault>
     ensures { (result ≡ Err CertFault.OutOfMemory) ⊎ (result ≡ cert_parse certificate.now (names_of program.now)) }
 {

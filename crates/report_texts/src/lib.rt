@@ -1,5 +1,6 @@
-//! What `seq`, `print`, `annotate` and `check` write, where a run leaves its tasks, and the judgement
-//! of a program and its certificate that `run`, `replay` and `curve` begin with.
+//! Job reports: what `seq`, `print`, `annotate` and `check` write, and the judgement of a program and its certificate.
+//!
+//! With this judgement `run`, `replay` and `curve` begin. Here, too, is where a run leaves its tasks.
 #![tactic(auto)]
 
 pub mod annotating;

@@ -1,4 +1,4 @@
-//! `print --listing`: a program's instructions, with their addresses, lines, tasks and masks.
+//! The job `print --listing`: a program's instructions, with their addresses, lines, tasks and masks.
 ghost use Rattle.std.specs.Prelude.{◌≡◌, IfOk};
 ghost use Rattle.annotated_asm.specs.ProgramText.{parse};
 ghost use Rattle.report_texts.specs.PrintText.{IsListed};
@@ -14,8 +14,8 @@ use mips_instructions::number::{Place, RegSet};
 use std::alloc::{AllocError, Global};
 use task_descriptor::program::Program;
 
-/// What `print --listing` writes for a program text: a row for each instruction of each task. `mask` is the task's from
-/// there on in the least certificate.
+/// The report of `print --listing` on a program text: a row for each instruction of each task. The column `mask` has the
+/// mask of the instruction in the least certificate: the registers that the task may still write from there on.
 ///
 /// # Errors
 ///

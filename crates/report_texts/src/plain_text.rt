@@ -1,4 +1,4 @@
-//! The text of a plain run.
+//! The text of a run of the sequential machine.
 ghost use Rattle.std.specs.Prelude.{◌≡◌, ◌++◌, OnOk};
 ghost use Rattle.std.specs.String.{string_bytes};
 ghost use Rattle.report_texts.specs.OutputTexts.{words_text, closing_text, closing_status};
@@ -6,7 +6,11 @@ ghost use Rattle.report_texts.specs.OutputTexts.{words_text, closing_text, closi
 use mips_plain::outcome::Outcome;
 use std::alloc::AllocError;
 
-/// Adds output words to a text, unsigned decimal, one on a line.
+/// Adds output words to a text, unsigned and decimal, each on a line of its own.
+///
+/// # Errors
+///
+/// `AllocError` where memory was refused; a part may have been added.
 pub fn write_words(text: &mut String, words: &[u32]) -> Result<(), AllocError>
     ensures { OnOk result (string_bytes text.new ≡ string_bytes text.old ++ words_text words.now) }
 {
@@ -16,7 +20,11 @@ pub fn write_words(text: &mut String, words: &[u32]) -> Result<(), AllocError>
     Ok(())
 }
 
-/// Adds the last line of a plain run of this many instructions.
+/// Adds the last line on a sequential run of `count` instructions.
+///
+/// # Errors
+///
+/// `AllocError` where memory was refused; a part may have been added.
 pub fn write_closing(text: &mut String, outcome: Outcome, count: u64) -> Result<(), AllocError>
     ensures { OnOk result (string_bytes text.new ≡ string_bytes text.old ++ closing_text outcome count) }
 {
@@ -27,7 +35,7 @@ pub fn write_closing(text: &mut String, outcome: Outcome, count: u64) -> Result<
     }
 }
 
-/// The status of a plain run.
+/// The exit status for a sequential run: 0 if it halted, 1 if it trapped, 3 if it is out of budget.
 pub fn closing_status_of(outcome: Outcome) -> u8
     ensures { result ≡ closing_status outcome }
 {

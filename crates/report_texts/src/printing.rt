@@ -7,7 +7,11 @@ use annotated_asm::assembler::assemble;
 use annotated_asm::fault::AsmFault;
 use std::alloc::{AllocError, Global};
 
-/// What `print` writes for a program text.
+/// The report of `print` on a program text: the canonical text of the program.
+///
+/// # Errors
+///
+/// `AllocError` where memory was refused.
 pub fn print(alloc: Global, text: &[u8]) -> Result<JobReport, AllocError>
     ensures { IfOk result (λ report. report ≡ print_text text.now) }
 {

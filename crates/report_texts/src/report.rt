@@ -1,4 +1,4 @@
-//! What a job writes and the status, and the texts of refusals.
+//! The report of a job, and the reports of refusals.
 ghost use Rattle.std.specs.Prelude.{◌≡◌, IfOk};
 ghost use Rattle.report_texts.specs.OutputTexts.{program_refused};
 
@@ -6,7 +6,7 @@ use annotated_asm::fault::AsmFault;
 use std::alloc::{AllocError, Global};
 use std::marker::Model;
 
-/// What a job writes, and the status that the program ends with.
+/// The report of a job: the bytes that it writes, and the exit status of the program.
 #[derive(Debug, Drop)]
 pub struct JobReport {
     bytes: Vec<u8>,
@@ -22,21 +22,21 @@ impl Model for JobReport {
 }
 
 impl JobReport {
-    /// These bytes with this status.
+    /// The report with these bytes and this status.
     pub fn new(bytes: Vec<u8>, status: u8) -> JobReport
         ensures { result ≡ record { bytes = bytes.items; status = status } }
     {
         JobReport { bytes, status }
     }
 
-    /// The bytes.
+    /// The bytes that the job writes.
     pub fn bytes(&self) -> &[u8]
         ensures { result.now ≡ self.now.bytes }
     {
         self.bytes.as_slice()
     }
 
-    /// The status.
+    /// The exit status, 0 to 3.
     pub fn status(&self) -> u8
         ensures { result ≡ self.now.status }
     {
@@ -44,7 +44,11 @@ impl JobReport {
     }
 }
 
-/// What every job writes for a text that is no program.
+/// The report of every job on a text that spells no program, for this fault; its status is 1.
+///
+/// # Errors
+///
+/// `AllocError` where memory was refused.
 pub fn refused_program(alloc: Global, fault: AsmFault) -> Result<JobReport, AllocError>
     ensures { IfOk result (λ report. report ≡ program_refused fault) }
 {

@@ -11,7 +11,11 @@ use mips_plain::outcome::OutOfMemory;
 use std::alloc::{AllocError, Global};
 use task_descriptor::program::Program;
 
-/// What `seq` writes for a program text.
+/// The report of `seq` on a program text: the output words and the end of a sequential run of at most `budget` instructions.
+///
+/// # Errors
+///
+/// `AllocError` where memory was refused.
 pub fn seq(alloc: Global, budget: Budget, text: &[u8]) -> Result<JobReport, AllocError>
     ensures { IfOk result (λ report. report ≡ seq_text budget text.now) }
 {

@@ -1,4 +1,4 @@
-//! Where the run of a program leaves its tasks.
+//! Where a run leaves a task by an exit that the task does not list.
 
 use crate::listing::line_numbers;
 use annotated_asm::assembler::assemble;
@@ -20,8 +20,8 @@ struct Exit {
     to: u32,
 }
 
-/// Of a text whose program runs until a task goes to a place that is none of its targets, in words, which task that is,
-/// and from which line to which line, or to which address where none is. `None` of any other text.
+/// The words for the exit at which a program's run ends as unlisted: the task that continues at a place which is none of its
+/// targets, and from which line to which line, or to which address where no instruction is. `None` for any other text.
 ///
 /// # Errors
 ///

@@ -1,4 +1,4 @@
-//! The texts of a certificate that is refused, and of a verdict.
+//! The reports on a certificate that is refused, and the verdicts of the checker.
 ghost use Rattle.std.specs.Prelude.{◌≡◌, ◌++◌, slice_get, OnOk, IfOk};
 ghost use Rattle.std.specs.String.{string_bytes};
 ghost use Rattle.report_texts.specs.VerdictTexts.{certificate_refused, finding_text, name_at, program_accepted, program_found, register_text};
@@ -11,7 +11,11 @@ use mips_instructions::number::Reg;
 use std::alloc::{AllocError, Global};
 use task_descriptor::program::Program;
 
-/// What every job with a certificate writes for a text that is none.
+/// The report of every job with a certificate on a text that spells none, for this fault; its status is 1.
+///
+/// # Errors
+///
+/// `AllocError` where memory was refused.
 pub fn refused_certificate(alloc: Global, fault: CertFault) -> Result<JobReport, AllocError>
     ensures { IfOk result (λ report. report ≡ certificate_refused fault) }
 {
@@ -69,7 +73,11 @@ fn write_findings(
     Ok(())
 }
 
-/// What every job with a certificate writes for findings, of which there is at least one.
+/// The report of every job with a certificate on findings of the checker, of which there is at least one; its status is 1.
+///
+/// # Errors
+///
+/// `AllocError` where memory was refused.
 pub fn found_program(
     alloc: Global,
     program: &Program,
@@ -84,7 +92,11 @@ pub fn found_program(
     Ok(JobReport::new(text.into_bytes(), 1))
 }
 
-/// What `check` writes where there are no findings.
+/// The report of `check` on a program without findings; its status is 0.
+///
+/// # Errors
+///
+/// `AllocError` where memory was refused.
 pub fn accepted_program(alloc: Global, program: &Program) -> Result<JobReport, AllocError>
     ensures { IfOk result (λ report. report ≡ program_accepted program.now) }
 {

@@ -1,4 +1,4 @@
-//! What a picture is called: the program, if it has a name, and how many units and events or steps there are.
+//! The title of a picture: the program, if it has a name, and how many units and events or steps there are.
 
 use crate::shape::Axis;
 use crate::shape_text::word_of_counted;
@@ -8,8 +8,11 @@ use std::alloc::AllocError;
 /// How many bytes of a name are shown.
 const MOST_SHOWN: usize = 60;
 
-/// Writes what a picture is called: the program's name, unless that is empty, and how many units and events or steps there
-/// are. An error means that memory was refused.
+/// Adds the title of a picture: the program's name, unless that is empty, and how many units and events or steps there are.
+///
+/// # Errors
+///
+/// `AllocError` where memory was refused; a part may have been added.
 pub fn write_title(text: &mut String, name: &str, axis: Axis) -> Result<(), AllocError> {
     let between = if name.is_empty() { ": " } else { ", " };
     if name.is_empty() {
@@ -27,8 +30,12 @@ pub fn write_title(text: &mut String, name: &str, axis: Axis) -> Result<(), Allo
     )
 }
 
-/// Writes a name; of a long one, its first bytes and two periods. A byte that has a meaning in SVG is written by its name
-/// there, and one that does not print as `\x` and two hexadecimal digits. An error means that memory was refused.
+/// Adds a name; of a long one, its first bytes and two periods. A byte that has a meaning in SVG is written as its entity,
+/// and one that does not print as `\x` and two hexadecimal digits.
+///
+/// # Errors
+///
+/// `AllocError` where memory was refused; a part may have been added.
 pub fn write_name(text: &mut String, name: &[u8]) -> Result<(), AllocError> {
     for byte in &name[..name.len().min(MOST_SHOWN)] {
         match *byte {

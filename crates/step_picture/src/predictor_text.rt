@@ -1,4 +1,4 @@
-//! What the picture calls a predictor.
+//! The name of a predictor in a picture.
 
 use jobs::job::Prediction;
 use std::alloc::AllocError;
@@ -6,7 +6,11 @@ use std::alloc::AllocError;
 /// How many numbers of a list are named.
 const MOST_NAMED: usize = 24;
 
-/// Writes what a predictor is called; of a long list, the first numbers. An error means that memory was refused.
+/// Adds the name of a predictor; of a long list, the first numbers.
+///
+/// # Errors
+///
+/// `AllocError` where memory was refused; a part may have been added.
 pub fn write_predictor(text: &mut String, predict: &Prediction) -> Result<(), AllocError> {
     let numbers = match predict {
         Prediction::First => return text.push_str("first"),

@@ -1,4 +1,4 @@
-//! Judging a script with expectations.
+//! The judgement of a script with expectations.
 
 ghost use Rattle.std.specs.Prelude.{◌≡◌, ◌<◌, ◌≤◌, None, IfOk, length};
 ghost use Rattle.event_script.specs.EventScript.{names_in};
@@ -18,18 +18,18 @@ use sequencer::machine::Machine;
 use std::alloc::{AllocError, Global};
 use task_descriptor::program::Program;
 
-/// An event, with the ring before it and what was told of it.
+/// An event that was played, with the ring before it and the report on it.
 #[derive(Drop)]
 pub struct Played {
     /// The event.
     pub event: Event,
     /// The ring before it.
     pub ring: Ring,
-    /// What was told of it.
+    /// The report on it: the answer and the changes.
     pub told: Told,
 }
 
-/// Where the judging of a script ended.
+/// The machine where the judgement of a script ended, and the event there.
 #[derive(Drop)]
 pub struct Scene<'a> {
     /// The event of the line that departs; `None` where it spells none, and at the script's end.
@@ -38,14 +38,14 @@ pub struct Scene<'a> {
     pub machine: Machine<'a>,
 }
 
-/// What a script comes to.
+/// The verdict on a script.
 #[derive(Drop)]
 pub struct Verdict<'a> {
     /// The first line that departs from the machine; `None` where each is as the machine does it.
     pub departed: Option<Departed>,
-    /// How many effects of its events the script does not list, up to that line.
+    /// How many changes of its events, up to that line, the script does not list.
     pub lacking: usize,
-    /// Where the judging ended.
+    /// Where the judgement ended.
     pub scene: Scene<'a>,
 }
 
@@ -180,8 +180,8 @@ fn count_lacking(content: &[u8], told: &Told) -> usize {
     }
 }
 
-/// Judges a script with expectations on a machine of `units` units at the start of an accepted program: each of its
-/// events is allowed and has done what is expected, or which line is the first that departs. A complete script must also
+/// Judges a script with expectations on a machine of `units` units, 1 to 16, at the start of an accepted program: each of
+/// its events is allowed and did what is expected, or which line is the first that departs. A complete script must also
 /// list all that its events did, and end its run.
 ///
 /// # Errors

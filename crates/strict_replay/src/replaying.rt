@@ -14,8 +14,8 @@ use report_texts::report::JobReport;
 use std::alloc::{AllocError, Global};
 use task_descriptor::program::Program;
 
-/// What `replay --strict` writes of a program text, the text of its certificate and the text of a script, on a
-/// machine of `units` units. A complete script lists all that its events did, and ends its run.
+/// The report of `replay --strict` on a program text, the text of its certificate and the text of a script, on a machine of
+/// `units` units. A complete script lists all that its events did, and ends its run.
 ///
 /// # Errors
 ///

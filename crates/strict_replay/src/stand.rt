@@ -1,4 +1,4 @@
-//! How the units of a machine stand.
+//! The state of a machine's units, in words.
 
 use crate::text::write_stand;
 use event_trace::places::places;
@@ -7,9 +7,13 @@ use sequencer::machine::Machine;
 use std::alloc::{AllocError, Global};
 use task_descriptor::program::Program;
 
-/// How the units of a machine stand that runs a program with this text, after a line that says so, the head first: the
-/// task of each and its line in the text; the registers that it has, that arrived and that it sent, with their words
-/// unless these are 0; and the registers that it waits for. The ring names the units. An error says that memory was refused.
+/// The state of the units of a machine that runs a program with this text, after a line that introduces it, the head
+/// first: the task of each and its line in the text; the registers that it has, that arrived and that it sent, with their
+/// words unless these are 0; and the registers that it waits for. `ring` gives the units their numbers.
+///
+/// # Errors
+///
+/// `AllocError` where memory was refused.
 pub fn stand(
     alloc: Global,
     program: &Program,

@@ -1,4 +1,4 @@
-//! Writing a script with expectations: events with what each of them did.
+//! The text of a script with expectations: events with what each of them did.
 
 ghost use Rattle.std.specs.Prelude.{◌<◌, ◌≤◌};
 
@@ -12,8 +12,8 @@ use machine_model::event::{Event, Standing};
 use mark_checker::accept::Accepted;
 use std::alloc::{AllocError, Global};
 
-/// Events on a machine of `units` units at the start of an accepted program, each with what it did, one on a line. One
-/// that is refused changes nothing, and is a comment.
+/// The script of some events on a machine of `units` units, 1 to 16, at the start of an accepted program: each event on a
+/// line, with what it did. An event that is refused changes nothing, and is a comment.
 ///
 /// # Errors
 ///

@@ -1,10 +1,10 @@
-//! Public calls of the libraries, each made again where memory was refused.
+//! Tests of public calls of the libraries, each made again where memory was refused.
 //!
-//! `CALL PROGRAM CERTIFICATE SCRIPT UNITS WORKERS` makes one call, named CALL, on the texts of three files.
-//! `begin` is written before the call, and `end` after it, each as one write, so that another process can refuse
-//! growths in between. Then a line says `refused: unchanged`, `refused: changed`, or that there was another fault;
-//! the call is made again until it is not refused. After the line `answer` comes what it answered, with the state
-//! that it left. Lines that begin with `note` tell what differs from run to run.
+//! `CALL PROGRAM CERTIFICATE SCRIPT UNITS WORKERS` makes one call, named CALL, on the texts of three files. `begin` is
+//! written before the call, and `end` after it, each as one write, so that another process can refuse growths in between.
+//! Then a line says `refused: unchanged`, `refused: changed`, or that there was another fault; the call is made again
+//! until it is not refused. After the line `answer` comes what it returned, with the state that it left. Lines that begin
+//! with `note` tell what differs from run to run.
 #![tactic(auto)]
 
 mod bursts;

@@ -76,7 +76,7 @@ pub struct HeldFile {
 }
 
 impl HeldFile {
-    /// A file with these bytes.
+    /// A file with these bytes, which is read from its beginning.
     pub fn new(bytes: Vec<u8>) -> HeldFile {
         HeldFile {
             bytes,

@@ -1,6 +1,7 @@
-//! Tests of what no row of a table can show of the program: readers, writers and files in memory that fail. A writer
-//! that keeps back what is not flushed shows that reports and messages about faults arrive. Files in memory show that a
-//! result that goes to a file is there whole, or that the file is as it was.
+//! Tests of what no row of a table can show of the program: readers, writers and files in memory that fail.
+//!
+//! A writer that keeps back what is not flushed shows that reports and messages about faults arrive. Files in memory show
+//! that a result that goes to a file is there whole, or that the file is as it was.
 #![tactic(auto)]
 
 #[cfg(test)]

@@ -21,7 +21,7 @@ pub struct HeldBack {
 }
 
 impl HeldBack {
-    /// A writer to which nothing was written, and which fails after this many calls.
+    /// A writer to which nothing was written, and which fails after `room` calls, writes and flushes.
     pub fn new(alloc: Global, room: u32) -> HeldBack {
         HeldBack {
             held: Vec::new(alloc),

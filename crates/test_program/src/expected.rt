@@ -1,8 +1,8 @@
-//! What a stream is to get.
+//! The text that a stream is expected to get.
 
 use std::alloc::{AllocError, Global};
 
-/// A text that is expected: the whole text, or how it begins and how it ends.
+/// An expected text: the whole text, or its beginning and its end.
 #[derive(Drop)]
 pub struct Expected {
     beginning: Vec<u8>,
@@ -20,11 +20,11 @@ impl Expected {
         }
     }
 
-    /// Adds a line of a table to what is expected.
+    /// Adds a line of a table to the expected text.
     ///
     /// # Errors
     ///
-    /// If memory runs out.
+    /// `AllocError` where memory was refused; a part may have been added.
     pub fn push(&mut self, line: &str) -> Result<(), AllocError> {
         match &mut self.end {
             Some(end) => push_line(end, line),
@@ -32,7 +32,7 @@ impl Expected {
         }
     }
 
-    /// Anything may stand here: what is added from here on is how the text ends. False if this was called before.
+    /// Permits any text here: what is added from here on is how the text ends. False if this was called before.
     pub fn skip(&mut self) -> bool {
         if self.end.is_some() {
             return false;
@@ -59,11 +59,11 @@ impl Expected {
     }
 }
 
-/// Adds a line of a table to a text: it ends in LF, but where `\` stands at its end.
+/// Adds a line of a table to a text: with an LF, unless the line ends in `\`, which is left out.
 ///
 /// # Errors
 ///
-/// If memory runs out.
+/// `AllocError` where memory was refused; a part may have been added.
 pub fn push_line(text: &mut Vec<u8>, line: &str) -> Result<(), AllocError> {
     match line.strip_suffix('\\') {
         Some(rest) => text.extend_from_slice(rest.as_bytes()),

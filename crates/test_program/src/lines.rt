@@ -1,6 +1,6 @@
 //! The lines of a table of examples.
 
-/// What a line of a table says. Its first word says which it is, and the rest stands after one blank.
+/// The meaning of a line of a table. Its first word is its kind, and the rest comes after one blank.
 #[derive(Clone, Copy)]
 pub enum Line<'a> {
     /// `# ..`, or an empty line: nothing.
@@ -9,7 +9,7 @@ pub enum Line<'a> {
     File(&'a str),
     /// `| TEXT`: the next line of that file.
     Text(&'a str),
-    /// `* COUNT TEXT`: its next lines, so many, each with its number from 0 on in the place of `{}`.
+    /// `* COUNT TEXT`: its next COUNT lines, each with its number, from 0, in place of `{}`.
     Texts(u32, &'a str),
     /// `$ WORDS`: a command line.
     Command(&'a str),
@@ -17,17 +17,17 @@ pub enum Line<'a> {
     OnTerminal(&'a str),
     /// `> TEXT`: the next line that standard output is to get.
     Output(&'a str),
-    /// `>...`: anything may stand here on standard output.
+    /// `>...`: any text on standard output.
     AnyOutput,
     /// `! TEXT`: the next line that standard error is to get.
     Errors(&'a str),
-    /// `!...`: anything may stand here on standard error.
+    /// `!...`: any text on standard error.
     AnyErrors,
     /// `= STATUS`: the status, and so the end of the row.
     Status(u8),
 }
 
-/// What a line says; `None` if it is no line of a table.
+/// The meaning of a line; `None` if it is no line of a table.
 pub fn line_of(line: &str) -> Option<Line<'_>> {
     if line.is_empty() {
         return Some(Line::Remark);

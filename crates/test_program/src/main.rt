@@ -1,8 +1,9 @@
-//! The program on the command lines of tables of examples. The folder `rows` has the tables. For each of them a line
-//! says how many command lines were run; before it stands each command line whose output differs from its row, with
-//! the actual output. The table `wrong` has rows that are wrong on purpose, and lines that are no rows. Where all is as
-//! it should be, the program does last what its own words ask for, on the two streams of the process and with its
-//! status: a file is missing, so it writes nothing to standard output.
+//! Tests of the program on the command lines of tables of examples, which are in the folder `rows`.
+//!
+//! For each table a line says how many command lines were run; before it comes each command line whose output differs from
+//! its row, with the actual output. The table `wrong` has rows that are wrong on purpose, and lines that are no rows.
+//! Where all is as it should be, the program does last what its own words ask for, on the two streams of the process and
+//! with its status: a file is missing, so it writes nothing to standard output.
 #![tactic(auto)]
 
 mod expected;

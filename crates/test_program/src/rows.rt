@@ -12,18 +12,18 @@ use std::marker::Sync;
 use std::sync::Wait;
 use std::thread::Threads;
 
-/// What the program may do beside reaching files and taking memory: make threads, and wait.
+/// A runtime that can make threads and wait.
 pub trait Runtime: Threads + Wait + Sync {}
 
 impl<R: Threads + Wait + Sync> Runtime for R {}
 
-/// The number of the process, by which new files are named.
+/// The process number by which the program names new files in the tests.
 pub const NUMBER: u32 = 1;
 
 /// A command line of a table.
 #[derive(Clone, Copy)]
 pub struct Command<'a> {
-    /// The number of its line.
+    /// The number of its line in the table, from 1.
     pub number: usize,
     /// The words after the program's name.
     pub words: &'a str,
@@ -51,7 +51,7 @@ struct Written {
 }
 
 impl<'a> TableRow<'a> {
-    /// A row with nothing in it.
+    /// An empty row.
     pub fn new(alloc: Global) -> TableRow<'a> {
         TableRow {
             commands: Vec::new(alloc),
@@ -60,11 +60,11 @@ impl<'a> TableRow<'a> {
         }
     }
 
-    /// Runs each command line, and reports those whose output differs from the row; answers whether there is none.
+    /// Runs each command line, and reports those whose output differs from the row; returns whether there is none.
     ///
     /// # Errors
     ///
-    /// If memory runs out, or the report cannot be written.
+    /// The error of the system where the report cannot be written, or memory was refused.
     pub fn run(
         &self,
         host: &HostRuntime,

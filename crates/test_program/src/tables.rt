@@ -22,13 +22,14 @@ struct Table<'a, R> {
     is_right: bool,
 }
 
-/// Runs the rows of the table of this name in the order in which they stand. Reports the command lines whose output
-/// differs from their row, the lines that it does not understand, and last how many command lines it ran. False if
-/// there was a difference or such a line.
+/// Runs the rows of the table of this path in their order. It reports the command lines whose output differs from their
+/// row, the lines that it does not understand, and last how many command lines it ran. False if there was a difference or
+/// such a line.
 ///
 /// # Errors
 ///
-/// If the table cannot be read, a file of its rows or the report cannot be written, or memory runs out.
+/// The error of the system where the table or a file of its rows cannot be read, the report cannot be written, or memory was
+/// refused.
 pub fn run_table(
     host: &HostRuntime,
     rt: &impl Runtime,

@@ -1,5 +1,6 @@
-//! What is wrong with a text that spells no program, as diagnostics: all of it, each with its place, what else shows it,
-//! and what to do.
+//! Diagnostics for a text that spells no program: all that is wrong with it.
+//!
+//! Each has its place, what else shows it, and what to do.
 #![tactic(auto)]
 
 mod advice;

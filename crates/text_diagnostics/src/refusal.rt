@@ -253,7 +253,7 @@ fn is_of_program(said: &Diagnostic) -> bool
     matches!(said.source, Source::Program)
 }
 
-/// Whether a diagnostic is the error that reports a fault, at its token.
+/// Whether a diagnostic is the error that reports a fault, at the place of its token.
 pub fn tells(fault: AsmFault, token: Option<Span>, said: &Diagnostic) -> bool
     ensures { result ≡ tells fault token said.now }
 {
@@ -317,7 +317,8 @@ fn with_first(
     Ok(list)
 }
 
-/// The token of a text that is to blame for its first fault, where a line cannot be read.
+/// The place of the token that is to blame for a text's first fault; `None` where the fault is not about a line that
+/// cannot be read.
 ///
 /// # Errors
 ///
@@ -329,8 +330,8 @@ pub fn first_token(alloc: Global, text: &[u8], fault: AsmFault) -> Result<Option
     token_of(alloc, &rows, fault)
 }
 
-/// All that is wrong with a text whose first fault this is: an error for each of at most 1,000 mistakes in the
-/// order of the text, and how many more there are; the first fault is always among them.
+/// The errors in a text whose first fault is `fault`: one for each of at most 1,000 mistakes, in the order of the text,
+/// and a note with the number of the rest. The first fault is always among them.
 ///
 /// # Errors
 ///
@@ -353,8 +354,7 @@ pub fn refusal(alloc: Global, text: &[u8], fault: AsmFault) -> Result<Vec<Diagno
     Ok(list)
 }
 
-/// All that is wrong with a text: nothing exactly where it spells a program, and else among it the fault at which the
-/// assembler stops.
+/// The errors in a text: none exactly where it spells a program, else among them the fault at which the assembler stops.
 ///
 /// # Errors
 ///

@@ -1,4 +1,4 @@
-//! The jobs that may take threads, done on the caller's: they need no runtime.
+//! The jobs that may use threads, done on the caller's thread: they need no runtime.
 ghost use Rattle.std.specs.Prelude.{◌≡◌, IfOk};
 ghost use Rattle.jobs.specs.declared.job.Schedule.TheVariants.{Steps};
 ghost use Rattle.report_texts.specs.CertificateTexts.{OfCertificate};
@@ -15,7 +15,7 @@ use report_texts::report::JobReport;
 use report_texts::verdict_text::accepted_program;
 use std::alloc::{AllocError, Global};
 
-/// What `check` writes for a program text and the text of its certificate.
+/// The report of `check` on a program text and the text of its certificate, made on the caller's thread.
 ///
 /// # Errors
 ///
@@ -34,20 +34,21 @@ pub fn check_alone(
     }
 }
 
-/// How a run in steps is made, and what is written for it.
+/// The parameters of a run in steps.
 #[derive(Clone, Copy)]
 pub struct StepsRun<'a> {
-    /// How many units the machine has.
+    /// The number of units of the machine.
     pub units: Units,
-    /// The most events.
+    /// The most events of the run.
     pub budget: Budget,
-    /// How the next task is guessed.
+    /// How the sequencer predicts the next task.
     pub predict: &'a Prediction,
-    /// What is written.
+    /// The text that is written for the run.
     pub emit: RunEmit,
 }
 
-/// What `run --schedule steps` writes for a program text, the name of the program and the text of its certificate.
+/// The report of `run --schedule steps` on a program text, the name of the program and the text of its certificate, made
+/// on the caller's thread.
 ///
 /// # Errors
 ///

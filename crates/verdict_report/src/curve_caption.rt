@@ -1,4 +1,4 @@
-//! What stands above the picture of a curve.
+//! The caption above the picture of a curve.
 
 use jobs::job::Prediction;
 use run_picture::title::write_name;

@@ -24,8 +24,12 @@ use speed_curve::table::write;
 use std::alloc::{AllocError, Global};
 use std::io::Write;
 
-/// What `curve` writes for a program text and the text of its certificate: a table or a picture of its runs in steps
-/// on 1, 2, 3 units and more, up to `units`.
+/// The report of `curve` on a program text and the text of its certificate: a table or a picture of the program's runs in
+/// steps on 1, 2, 3 units and more, up to `units`.
+///
+/// # Errors
+///
+/// `AllocError` where memory was refused.
 pub fn curve(
     alloc: Global,
     units: Units,
@@ -54,17 +58,21 @@ pub fn curve(
     Ok(told.report)
 }
 
-/// What a job writes, and whether all lines about its progress were written.
+/// The report of a job that also told its progress.
 #[derive(Debug, Drop)]
 pub struct ToldReport {
-    /// What it writes.
+    /// The report.
     pub report: JobReport,
     /// Whether all lines about its progress were written.
     pub is_told: bool,
 }
 
-/// Like `curve`, but `errors` gets a line for each run when it is done, with the name of the program. Once a line
-/// cannot be written, none is tried again, and the runs continue.
+/// The report of `curve`, while a line for each finished run, with the name of the program, is written to `errors`. After
+/// a line that cannot be written no other is tried, and the runs continue.
+///
+/// # Errors
+///
+/// `AllocError` where memory was refused; some of the lines may have been written then.
 pub fn curve_told<E: Write>(
     alloc: Global,
     units: Units,

@@ -1,4 +1,4 @@
-//! The texts of a script that is refused, and of what a machine answers to events.
+//! The reports on a script that is refused, and the text of a machine's answers to events.
 ghost use Rattle.std.specs.Prelude.{◌≡◌, ◌++◌, OnOk, IfOk};
 ghost use Rattle.std.specs.String.{string_bytes};
 ghost use Rattle.verdict_report.specs.ReplayText.{answer_line, answers_text, script_refused};
@@ -8,7 +8,11 @@ use machine_model::event::Refused;
 use report_texts::report::JobReport;
 use std::alloc::{AllocError, Global};
 
-/// What `replay` writes for a text that is no script.
+/// The report of `replay` on a text that is no event script, for this fault.
+///
+/// # Errors
+///
+/// `AllocError` where memory was refused.
 pub fn refused_script(alloc: Global, fault: ScriptFault) -> Result<JobReport, AllocError>
     ensures { IfOk result (λ report. report ≡ script_refused fault) }
 {
@@ -17,7 +21,11 @@ pub fn refused_script(alloc: Global, fault: ScriptFault) -> Result<JobReport, Al
     Ok(JobReport::new(text.into_bytes(), 1))
 }
 
-/// Adds what a machine answers to each event of a script, in order.
+/// Adds the machine's answer to each event of a script, in order.
+///
+/// # Errors
+///
+/// `AllocError` where memory was refused; a part may have been added.
 pub fn write_answers(text: &mut String, answers: &[Result<(), Refused>]) -> Result<(), AllocError>
     ensures { OnOk result (string_bytes text.new ≡ string_bytes text.old ++ answers_text answers.now) }
 {

@@ -1,9 +1,9 @@
-//! Why a job is not done.
+//! The reason why a job was not done.
 
 use std::alloc::AllocError;
 use thiserror::Error;
 
-/// Why a job was not done.
+/// The reason why a job was not done.
 #[derive(Clone, Copy, Debug, PartialEq, Eq, Error)]
 pub enum ServeFault {
     /// 1: memory ran out, or a thread of `run` could not be made; nothing was written.

@@ -1,7 +1,7 @@
-//! What each job of the program writes, and its status.
+//! The report of each job of the program, and its exit status.
 //!
-//! To add a job, add what it writes to `specs/`, with its line in `IsReportOf`, the module that writes
-//! it, and its arm in `serve`.
+//! To add a job, add what it writes to `specs/`, with its line in `IsReportOf`, the module that writes it, and its arm in
+//! `serve`.
 #![tactic(auto)]
 
 pub mod alone;

@@ -1,4 +1,4 @@
-//! The text of how a machine of units stands.
+//! The text of a multiscalar machine's state.
 ghost use Rattle.std.specs.Prelude.{◌≡◌, ◌++◌, OnOk};
 ghost use Rattle.std.specs.String.{string_bytes};
 ghost use Rattle.sequencer.specs.Machines.{state, units_of};
@@ -38,7 +38,11 @@ fn write_retired(text: &mut String, machine: &Machine<'_>) -> Result<(), AllocEr
     writeln!(text, "retired {tasks} c {committed} h {executed}")
 }
 
-/// Adds the output words of a machine, what retired, and how its run stands.
+/// Adds the output words of a machine, how many tasks and instructions retired, and how its run is.
+///
+/// # Errors
+///
+/// `AllocError` where memory was refused; a part may have been added.
 pub fn write_machine(text: &mut String, machine: &Machine<'_>) -> Result<(), AllocError>
     ensures { OnOk result (string_bytes text.new ≡ string_bytes text.old ++ machine_text (state machine.now)) }
 {
@@ -48,7 +52,11 @@ pub fn write_machine(text: &mut String, machine: &Machine<'_>) -> Result<(), All
     writeln!(text, "")
 }
 
-/// The summary of how the tasks of this machine's history ended.
+/// The summary of a machine's history: how often each task was assigned, and how that ended.
+///
+/// # Errors
+///
+/// `AllocError` where memory was refused.
 pub fn summary_of(
     alloc: Global,
     units: Units,
@@ -63,8 +71,12 @@ pub fn summary_of(
     task_lives::summary::write(alloc, program, &lives)
 }
 
-/// The history of a machine of `units` units, which runs this program, as a picture that gives the program this name, and
-/// that says how the run stands, and beside that this text of SVG.
+/// The picture of the history of a machine of `units` units, which runs this program: it gives the program this name, says
+/// how the run is, and has `said`, which is SVG text, to the right of the legend.
+///
+/// # Errors
+///
+/// `AllocError` where memory was refused.
 pub fn picture_of(
     alloc: Global,
     units: Units,
@@ -89,7 +101,11 @@ pub fn picture_of(
     Ok(picture.into_bytes())
 }
 
-/// The history of a machine of `units` units, which runs this program, as a timeline.
+/// The timeline of the history of a machine of `units` units, which runs this program, as JSON.
+///
+/// # Errors
+///
+/// `AllocError` where memory was refused.
 pub fn timeline_of(
     alloc: Global,
     units: Units,
@@ -105,7 +121,7 @@ pub fn timeline_of(
     Ok(timeline.into_bytes())
 }
 
-/// The status of a run with this standing.
+/// The exit status for a machine's run: 0 if it halted or has not ended, 1 if it trapped or is unlisted.
 pub fn standing_status_of(standing: Standing) -> u8
     ensures { result ≡ standing_status standing }
 {

@@ -42,8 +42,12 @@ pub(crate) enum Prepared {
     Told(ToldForm, Accepted, Vec<Event>),
 }
 
-/// What `replay` writes for a program text, the name of the program, the text of its certificate and the text of a
+/// The report of `replay` on a program text, the name of the program, the text of its certificate and the text of a
 /// script, on a machine of `units` units: for all events, or for the first `until`.
+///
+/// # Errors
+///
+/// `AllocError` where memory was refused.
 pub fn replay(
     alloc: Global,
     source: CertificateSource,

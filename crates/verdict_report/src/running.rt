@@ -34,12 +34,12 @@ use threaded_runner::report::How;
 use unit_waits::waveform::waveform;
 use wait_table::text::table;
 
-/// What `run` writes for a program text, the name of the program and the text of its certificate. Of the forms that no
-/// clause names only the status is known.
+/// The report of `run` on a program text, the name of the program and the text of its certificate. For each form that no
+/// clause names, only the status is proved.
 ///
 /// # Errors
 ///
-/// `OutOfMemory`, also where a thread can't be made.
+/// `OutOfMemory` where memory was refused, or a thread could not be made.
 pub fn run<R: Threads + Wait + Sync>(
     rt: &R,
     alloc: Global,

@@ -25,7 +25,7 @@ use unit_turns::runner::run_steps_on;
 ///
 /// # Errors
 ///
-/// `OutOfMemory`, also where a thread can't be made.
+/// `OutOfMemory` where memory was refused, or a thread could not be made.
 pub fn run_scheduled<'a, R: Threads + Wait + Sync>(
     rt: &R,
     alloc: Global,

@@ -40,10 +40,14 @@ use std::sync::Wait;
 use std::thread::Threads;
 use strict_replay::replaying::replay_strictly;
 
-/// Does a job: builds its text whole, writes it, and returns the status of the program, 0 to 3. What `replay` tells of
-/// each event is written while the events are played, so that it takes no memory that grows with them. Memory may
-/// run out at any point; nothing is written then, unless the fault is `PartWritten`. Where the writer fails, what was
-/// written is a beginning of the text. `check` and `run` make threads.
+/// Does a job: builds its text whole, writes it, and returns the exit status, 0 to 3. What `replay` tells of each event is
+/// written while the events are played, so that it takes no memory that grows with them. `check` and `run` make threads.
+///
+/// # Errors
+///
+/// `OutOfMemory` where memory was refused or a thread could not be made; nothing was written then. `Write` where the
+/// writer failed, and `PartWritten` where memory was refused while a text was written: what was written is then a
+/// beginning of the text.
 pub fn serve<W: Write, R: Threads + Wait + Sync>(
     rt: &R,
     alloc: Global,
@@ -152,9 +156,13 @@ fn write_report<W: Write>(writer: &mut W, report: &JobReport) -> Result<u8, Serv
     Ok(report.status())
 }
 
-/// What a job writes, as `serve` writes it; meanwhile `errors` is told how far it is: `curve` writes a line for each
-/// run when it is done, with the name of the program. Once a line cannot be written, none is tried again, and the job
+/// The report of a job, as `serve` writes it. Meanwhile the job's progress is written to `errors`: `curve` writes a line
+/// for each finished run, with the name of the program. After a line that cannot be written no other is tried, and the job
 /// continues.
+///
+/// # Errors
+///
+/// `OutOfMemory` where memory was refused or a thread could not be made; some of the lines may have been written then.
 pub fn report_told<E: Write, R: Threads + Wait + Sync>(
     rt: &R,
     alloc: Global,

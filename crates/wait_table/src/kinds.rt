@@ -1,4 +1,4 @@
-//! How many waits there are of each kind of reason.
+//! The kinds of reasons for which units wait, and how many waits there are of each.
 
 ghost use Rattle.std.specs.Prelude.{◌≡◌, ◌≤◌};
 ghost use Rattle.unit_waits.specs.Counts.{all_waits as all_waits_of};
@@ -7,16 +7,16 @@ ghost use Rattle.wait_table.specs.Kinds.{is_for_head as is_for_head_of, is_for_s
 use unit_waits::count::Count;
 use unit_waits::waiting::Reason;
 
-/// What waits are for.
+/// The kind of a wait's reason.
 #[derive(Clone, Copy, Debug, PartialEq, Eq)]
 pub enum Kind {
-    /// A register that was not sent.
+    /// A register that was not sent yet.
     Unsent,
-    /// A register on its way.
+    /// A register that is on its way.
     Sent,
-    /// The turn to be the head.
+    /// The unit's turn to be the head.
     Head,
-    /// Anything.
+    /// Any reason.
     Any,
 }
 

@@ -1,5 +1,6 @@
-//! The waits of a run, counted: how often which task waited where, and for what; and their table. The counts are proved,
-//! how they are written is not.
+//! The waits of a run, counted: how often which task waited where, and for what; and their table.
+//!
+//! The counts are proved, how they are written is not.
 #![tactic(auto)]
 
 pub mod kinds;

@@ -14,24 +14,28 @@ use std::alloc::{AllocError, Global};
 use unit_waits::count::Count;
 use unit_waits::counts::count_waits;
 
-/// The waits of a run, counted.
+/// The waits of a run, counted. A wait is a step in which a unit after the head does nothing.
 #[derive(Debug, Drop)]
 pub struct WaitTable {
-    /// Those of one task, at one place and for one reason together, the most frequent first, and of two that are as
-    /// frequent the one that came first.
+    /// The waits of one task, at one place and for one reason together, the most frequent first; of equal counts the one
+    /// that began first.
     pub counts: Vec<Count>,
-    /// Those for registers that were not sent.
+    /// The number of waits for registers that were not sent.
     pub unsent: u32,
-    /// Those for registers on their way.
+    /// The number of waits for registers on their way.
     pub sent: u32,
-    /// Those for the head's turn.
+    /// The number of waits for the unit's turn to be the head.
     pub head: u32,
-    /// All.
+    /// The number of all waits.
     pub all: u32,
 }
 
-/// The waits in the steps of a history of `units` units, 1 to 16, at the start of an accepted program. Each event of the
-/// history is allowed where it comes, and there are at most 1,000,000. An error says that memory was refused.
+/// The waits in the steps of a history of `units` units, 1 to 16, at the start of an accepted program, counted. Each event
+/// of the history is allowed when it occurs, and there are at most 1,000,000.
+///
+/// # Errors
+///
+/// `AllocError` where memory was refused.
 pub fn table_of(
     alloc: Global,
     accepted: &Accepted,

@@ -1,4 +1,4 @@
-//! The text of the table. Each error says that memory was refused.
+//! The text of the table.
 
 ghost use Rattle.std.specs.Prelude.{◌<◌, ◌≤◌, length};
 ghost use Rattle.machine_model.specs.Machine.{State};
@@ -21,6 +21,10 @@ use unit_waits::waiting::{Owed, Reason};
 /// The table of the waits in the steps of a history (`table_of`): a heading; a row for the waits of one task, at one place
 /// and for one reason; a row for each kind of reason; and a row for all. `program_text` is the text of the program:
 /// instructions are named by its lines.
+///
+/// # Errors
+///
+/// `AllocError` where memory was refused.
 pub fn table(
     alloc: Global,
     accepted: &Accepted,
