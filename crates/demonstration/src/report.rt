@@ -77,7 +77,7 @@ fn demonstrate_program(
 
 /// What is written of a text whose marks are right; where its run ends as unlisted, that it does, too.
 fn nothing_wrong(alloc: Global, text: &[u8]) -> Result<Vec<u8>, AllocError> {
-    let mut said = String::from_str(alloc, "the annotations are right: no run shows anything\n")?;
+    let mut said = String::from_str(alloc, "the marks are right: no run shows anything\n")?;
     if let Some(exit) = unlisted_exit(alloc, text)? {
         writeln!(said, "but the run ends as unlisted: {exit}")?;
     }
@@ -101,7 +101,7 @@ fn nothing_found(
     let event_s = plural(steps);
     writeln!(
         text,
-        "no run found on up to {units} unit{unit_s}, of up to {steps} event{event_s}; explain says which annotations are wrong"
+        "no run found on up to {units} unit{unit_s}, of up to {steps} event{event_s}; explain says which marks are wrong"
     )?;
     write_first_finding(alloc, &mut text, program, places)?;
     Ok(JobReport::new(text.into_bytes(), 3))
