@@ -12,6 +12,7 @@ two comments, `made: NAME` and `end of NAME`, in a page, the man page or a compl
 With PROGRAM, the built `multiscalar`, its `--help` must have each option and each text of the table.
 """
 import argparse
+import difflib
 import functools
 import pathlib
 import re
@@ -136,11 +137,32 @@ def instructions():
     return table("Text", "Effect", ((spelled(kind), EFFECTS[kind]) for kind in rows))
 
 
+def examples():
+    """The rows of the table of the rules: for each rule, and 0 for the marks that are right, its files, and what each subcommand says."""
+    found, files = [], {}
+    for part in re.split(r"^# Rule .*$", source("test_program/data/rows/rules"), flags=re.M):
+        files = files | {name: re.findall(r"^\| (.*)$", lines, re.M) for name, lines in re.findall(r"^@ (.*)\n((?:\|.*\n)*)", part, re.M)}
+        said = re.findall(r"^\$ (\w+).*\n((?:>.*\n)*)= (\d)$", part, re.M)
+        found.append((files, {name: (re.findall("^> (.*)$", lines, re.M), status) for name, lines, status in said}))
+    return found
+
+
+def accepted():
+    """The program and the certificate that each example of a rule changes."""
+    files, said = examples()[0]
+    blocks = (line for lines in files.values() for line in ("```", *lines, "```", ""))
+    return "\n".join([f"This program and this certificate are accepted (`{said['check'][0][0]}`):", "", *blocks]).rstrip()
+
+
 def example(rule):
-    """What `explain` says of the program of a rule, from the rows of test_program."""
-    rows = source("test_program/data/rows/explain").split("# One program for each of the rules 5 to 12", 1)[1].split("\n@ ")
-    said = next(re.findall(r"^> (.*)$", it, re.M) for it in rows if f" [rule {rule}]" in it)
-    return "\n".join(["```", *(it for it in said if not it.startswith(("to look for a run", "with this fix"))), "```"])
+    """What is changed to break a rule, the finding, the error and the help of `explain`, and what a run shows."""
+    (right, _), (wrong, said) = (examples()[it] for it in (0, rule))
+    changes = [line for name in right for line in difflib.ndiff(right[name], wrong[name]) if line[0] in "+-"]
+    finding, counted = said["check"][0]
+    assert f" rule {rule} " in finding and counted == "refused 1", f"the row of rule {rule}"
+    told = [it for it in said["explain"][0] if re.match(r"\S+: (error|help): ", it)] if "explain" in said else []
+    shown, status = said.get("demonstrate", ([], "3"))
+    return "\n".join(["```", *changes, "", finding, *told, *(shown[-1:] if status == "1" else []), "```"])
 
 
 def limits():
@@ -291,7 +313,8 @@ def fish_options():
 
 # ---------------------------------------------------------------- the whole
 PARTS = {
-    "limits": limits, "instructions": instructions, **{f"rule {it}": functools.partial(example, it) for it in range(5, 13)}, "crates": crates, "requires": required, "commands": commands,
+    "limits": limits, "instructions": instructions, "accepted marks": accepted,
+    **{f"rule {it}": functools.partial(example, it) for it in range(1, 13)}, "crates": crates, "requires": required, "commands": commands,
     "exit status": lambda: table("Status", "When", ((number, one_line(said)) for number, said in status()[0])),
     "traps": lambda: faults("mips_plain/src/outcome.rt", "Trap"),
     "faults of a text": lambda: faults("annotated_asm/src/fault.rt", "AsmFault"),
