@@ -7,11 +7,13 @@
 Options and subcommands come from the table of `--help` (crates/command_line/src/table.rt), values from job.rt there,
 instructions and their operands from the instruction table of mips_instructions (what each does, in words, is below), faults
 from the enums, limits from the constants, crates from crates.txt and the first sentence of each, the examples of the rules
-from the rows of test_program, and what a caller must ensure (docs/REQUIRES.txt) from the contracts. A made part is between
-two comments, `made: NAME` and `end of NAME`, in a page, the man page or a completion; the first line of such a page says so.
+from the rows of test_program, what a caller must ensure (docs/REQUIRES.txt) from the contracts, and figures of bench/ and
+fuzz/ from their results.txt. A made part is between two comments, `made: NAME` and `end of NAME`, in a page, the man page or
+a completion; the first line of such a page says so.
 With PROGRAM, the built `multiscalar`, its `--help` must have each option and each text of the table.
 """
 import argparse
+import difflib
 import functools
 import pathlib
 import re
@@ -136,11 +138,32 @@ def instructions():
     return table("Text", "Effect", ((spelled(kind), EFFECTS[kind]) for kind in rows))
 
 
+def examples():
+    """The rows of the table of the rules: for each rule, and 0 for the marks that are right, its files, and what each subcommand says."""
+    found, files = [], {}
+    for part in re.split(r"^# Rule .*$", source("test_program/data/rows/rules"), flags=re.M):
+        files = files | {name: re.findall(r"^\| (.*)$", lines, re.M) for name, lines in re.findall(r"^@ (.*)\n((?:\|.*\n)*)", part, re.M)}
+        said = re.findall(r"^\$ (\w+).*\n((?:>.*\n)*)= (\d)$", part, re.M)
+        found.append((files, {name: (re.findall("^> (.*)$", lines, re.M), status) for name, lines, status in said}))
+    return found
+
+
+def accepted():
+    """The program and the certificate that each example of a rule changes."""
+    files, said = examples()[0]
+    blocks = (line for lines in files.values() for line in ("```", *lines, "```", ""))
+    return "\n".join([f"This program and this certificate are accepted (`{said['check'][0][0]}`):", "", *blocks]).rstrip()
+
+
 def example(rule):
-    """What `explain` says of the program of a rule, from the rows of test_program."""
-    rows = source("test_program/data/rows/explain").split("# One program for each of the rules 5 to 12", 1)[1].split("\n@ ")
-    said = next(re.findall(r"^> (.*)$", it, re.M) for it in rows if f" [rule {rule}]" in it)
-    return "\n".join(["```", *(it for it in said if not it.startswith(("to look for a run", "with this fix"))), "```"])
+    """What is changed to break a rule, the finding, the error and the help of `explain`, and what a run shows."""
+    (right, _), (wrong, said) = (examples()[it] for it in (0, rule))
+    changes = [line for name in right for line in difflib.ndiff(right[name], wrong[name]) if line[0] in "+-"]
+    finding, counted = said["check"][0]
+    assert f" rule {rule} " in finding and counted == "refused 1", f"the row of rule {rule}"
+    told = [it for it in said["explain"][0] if re.match(r"\S+: (error|help): ", it)] if "explain" in said else []
+    shown, status = said.get("demonstrate", ([], "3"))
+    return "\n".join(["```", *changes, "", finding, *told, *(shown[-1:] if status == "1" else []), "```"])
 
 
 def limits():
@@ -152,6 +175,32 @@ def limits():
             ("units of a machine", "limits", "MOST_UNITS", ""), ("workers", "limits", "MOST_WORKERS", ""),
             ("events of a machine", "limits", "MOST_EVENTS", ""), ("`--budget`", "limits", "MOST_BUDGET", ""))
     return "\n".join(f"- {what}: {of[crate, name]:,}{unit}" for what, crate, name, unit in rows)
+
+
+# The rows of bench/results.txt that compare with a program without proofs, by the beginnings of their names.
+SPEEDS = {"`seq` of five kernels": ("seq of the five",), "`print` of the largest program": ("print of",), "the largest certificate, read and checked": ("the certificate",),
+          "one event of the machine": ("Exec of", "the same of registers", "the same of loop"), "a burst of 64 steps": ("a burst of 64 with lease and check-in:",),
+          "short tasks that send": ("sending",)}
+
+
+def speeds():
+    """What bench/results.txt has, in short."""
+    text = (TOP / "bench/results.txt").read_text()
+    rows = [re.split(r" *\| *", line.strip("| ")) for line in re.findall(r"^\|.*\|$", text, re.M)]
+    figures = lambda names, column: [it for row in rows if row[0].startswith(names) for it in re.findall(r"[\d.]+", row[column])]
+    of = lambda *given: " to ".join(dict.fromkeys((min(found := figures(*given), key=float), max(found, key=float))))
+    date = re.search(r"^\(a\), \(b\): unproved.py, ([\w ]+),", text, re.M)[1]
+    low, _, high = of(SPEEDS["one event of the machine"], 1).partition(" to ")
+    return "\n".join([f"[results.txt](results.txt) has all, measured on {date} on a virtual machine with four cores. Compared with a program without proofs that does the same work:", "",
+                      table("", "Times as long", ((what, of(names, 3)) for what, names in SPEEDS.items())), "",
+                      f"`seq` takes {of(('seq of the kernels, beside QEMU',), 3)} times as long as QEMU's user mode. A machine executes an instruction in {float(low):.0f} to {float(high):.0f} ns."])
+
+
+def search():
+    """How many runs looked for bugs, by the figures that reliability.py wrote."""
+    text = (TOP / "fuzz/results.txt").read_text()
+    date, (runs, differences) = re.search(r"^# figures\n([\d-]+),", text, re.M)[1], re.search(r"^\| all \| ([\d,]+) \|.*\| (\d+) \|$", text, re.M).groups()
+    return f"writes [results.txt](results.txt): {runs} runs on {date}, {differences} difference{'s' if differences != '1' else ''}."
 
 
 def crates():
@@ -291,7 +340,9 @@ def fish_options():
 
 # ---------------------------------------------------------------- the whole
 PARTS = {
-    "limits": limits, "instructions": instructions, **{f"rule {it}": functools.partial(example, it) for it in range(5, 13)}, "crates": crates, "requires": required, "commands": commands,
+    "limits": limits, "instructions": instructions, "accepted marks": accepted,
+    **{f"rule {it}": functools.partial(example, it) for it in range(1, 13)}, "crates": crates, "requires": required, "commands": commands,
+    "speeds": speeds, "search": search,
     "exit status": lambda: table("Status", "When", ((number, one_line(said)) for number, said in status()[0])),
     "traps": lambda: faults("mips_plain/src/outcome.rt", "Trap"),
     "faults of a text": lambda: faults("annotated_asm/src/fault.rt", "AsmFault"),
@@ -348,7 +399,7 @@ def main():
     options.add_argument("--check", action="store_true")
     options.add_argument("program", metavar="PROGRAM", nargs="?", type=pathlib.Path)
     given = options.parse_args()
-    files = [TOP / "man/multiscalar.1", *sorted((TOP / "completions").iterdir()), *sorted((TOP / "docs").glob("*.md")), TOP / "docs/REQUIRES.txt"]
+    files = [TOP / "man/multiscalar.1", *sorted((TOP / "completions").iterdir()), *sorted((TOP / "docs").glob("*.md")), TOP / "docs/REQUIRES.txt", TOP / "bench/README.md", TOP / "fuzz/README.md"]
     found = list(differences(given.program and given.program.resolve()))
     for path in files:
         new = made(path.read_text())

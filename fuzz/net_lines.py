@@ -186,7 +186,7 @@ def add_texts_of_repository(net):
 
 # ---------------------------------------------------------------- one wrong mark for each rule
 def changes_of_rules(text, certificate):
-    """For each rule the program of docs/RULES.md, or its certificate, with the change that the page names."""
+    """For each rule the program of docs/RULES.md, or its certificate, with a change that breaks it."""
     change = lambda old, new, where=text: where.replace(old, new, 1)
     for rule, old, new in ((1, "3 0000000000000000\n4 0000000000000000\n", ""), (2, "1 0000000000000200\n", ""),
                            (3, "1 0000000000000200", "1 0000000000000000"), (4, "0 0000000000000300", "0 0000000000000100")):
