@@ -1,6 +1,7 @@
 //! The job `replay --strict`.
 
-ghost use Rattle.std.specs.Prelude.{IfOk};
+ghost use Rattle.std.specs.Prelude.{◌≡◌, IfOk};
+ghost use Rattle.std.specs.Option.{option_map_or};
 ghost use Rattle.report_texts.specs.CertificateTexts.{OfCertificate};
 ghost use Rattle.strict_replay.specs.StrictReplay.{IsStrictReport};
 
@@ -35,10 +36,20 @@ pub fn replay_strictly(
         Judged::Refused(report) => Ok(report),
         Judged::Accepted(accepted) => {
             let verdict = judge_script(alloc, &accepted, units.get(), &texts.script, is_complete)?;
-            let status = if verdict.departed.is_some() { 1 } else { 0 };
-            let said = said_of(alloc, accepted.program(), units, format, texts, &verdict)?;
+            let status = status_of(&verdict);
+            let said = said_of(alloc, accepted.program(), units, format, texts, verdict)?;
             Ok(JobReport::new(said, status))
         }
+    }
+}
+
+/// The status of a verdict: 1 where a line departs.
+fn status_of(verdict: &Verdict<'_>) -> u8
+    ensures { result ≡ option_map_or (λ departed. 1) verdict.now.departed 0 }
+{
+    match verdict.departed {
+        Some(_) => 1,
+        None => 0,
     }
 }
 
@@ -49,7 +60,7 @@ fn said_of(
     units: Units,
     format: VerdictFormat,
     texts: &Texts,
-    verdict: &Verdict<'_>,
+    verdict: Verdict<'_>,
 ) -> Result<Vec<u8>, AllocError> {
     let program_text = texts.program.as_slice();
     let places = places(alloc, program_text)?;
@@ -62,7 +73,7 @@ fn said_of(
         units,
     };
     match format {
-        VerdictFormat::Text => Ok(page.text_of(verdict)?.into_bytes()),
-        VerdictFormat::Json => page.object_of(verdict),
+        VerdictFormat::Text => Ok(page.text_of(&verdict)?.into_bytes()),
+        VerdictFormat::Json => page.object_of(&verdict),
     }
 }
