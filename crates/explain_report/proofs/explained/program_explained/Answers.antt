@@ -11,8 +11,8 @@ use Rattle.explain_report.proofs.explained.program_explained.Goals as goal
 pub returns : goal.returns
 returns c =
     let asked : c.is_asked-asked.result ≡ (are_told c.args.given.now.warnings && is_silent c.in_ok-errors.errors.items) =
-        c.is_asked-asked.ensures ∙ ap (λ ds. c.are_told.result && is_silent ds) c.deref.ensures.value
-        ∙ ap (λ (b : Bool). b && is_silent c.in_ok-errors.errors.items) c.are_told.ensures in
+    c.is_asked-asked.ensures ∙ ap (λ ds. c.are_told.result && is_silent ds) c.deref.ensures.value
+    ∙ ap (λ (b : Bool). b && is_silent c.in_ok-errors.errors.items) c.are_told.ensures in
     record {
       errors = c.in_ok-errors.errors.items;
       wrong = c.in_ok-errors.ensures;
