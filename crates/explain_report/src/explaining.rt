@@ -1,5 +1,5 @@
 //! The job `explain`: the diagnostics rendered as text, as a log in SARIF, or as lines of JSON.
-ghost use Rattle.std.specs.Prelude.{◌≡◌, ◌×◌, IfOk};
+ghost use Rattle.std.specs.Prelude.{◌≡◌, IfOk};
 ghost use Rattle.std.specs.Option.{option_map};
 ghost use Rattle.std.specs.String.{string_bytes};
 ghost use Rattle.explain_report.specs.ExplainText.{IsExplainReport};
@@ -83,20 +83,35 @@ pub(crate) fn written(
             rows: &events,
         },
     };
-    let diagnostics = explained.said.as_slice();
-    let mends = mends(explained);
+    said_in(alloc, format, asked, &files, given.warnings, explained)
+}
+
+// What is said of the texts in these files, in a format.
+fn said_in(
+    alloc: Global,
+    format: Format,
+    asked: Colors,
+    files: &Files<'_>,
+    warnings: Warnings,
+    explained: &Explanation,
+) -> Result<Vec<u8>, AllocError> {
     match format {
         Format::Sarif => {
-            let logged = Logged {
-                files,
-                diagnostics,
-                mends,
-            };
-            let status = final_status(given.warnings, explained);
-            log_text(alloc, &[logged], status)
+            let mut list = Vec::new(alloc);
+            list.push(logged(*files, explained))?;
+            log_text(alloc, &list, final_status(warnings, explained))
         }
-        Format::Json => lines_text(alloc, &files, diagnostics, mends),
-        Format::Text => text_for(alloc, asked, &files, explained),
+        Format::Json => lines_text(alloc, files, explained.said.as_slice(), mends(explained)),
+        Format::Text => text_for(alloc, asked, files, explained),
+    }
+}
+
+/// A program of a log, with what is said of it.
+pub(crate) fn logged<'a>(files: Files<'a>, explained: &'a Explanation) -> Logged<'a> {
+    Logged {
+        files,
+        diagnostics: explained.said.as_slice(),
+        mends: mends(explained),
     }
 }
 

@@ -10,14 +10,14 @@ use operand_forms::rows::lines_of;
 use std::alloc::{AllocError, Global};
 use text_pieces::text::Text;
 
-/// A program text in a file of this name, with these lines, alone.
-pub(crate) fn program_alone<'a>(name: &'a str, rows: &'a [&'a [u8]]) -> Files<'a> {
+/// The files of a command that has the file of a program alone.
+pub(crate) fn alone<'a>(program: TextFile<'a>) -> Files<'a> {
     let none = TextFile {
         name: "",
         rows: &[],
     };
     Files {
-        program: TextFile { name, rows },
+        program,
         certificate: none,
         script: none,
     }

@@ -3,11 +3,12 @@ ghost use Rattle.std.specs.Prelude.{◌≡◌, [], None, IfOk};
 ghost use Rattle.explain_report.specs.ExplainText.{IsExplainReport};
 
 use crate::explained::explained;
-use crate::explaining::mends;
+use crate::explaining::logged;
 use crate::explanation::Explanation;
 use crate::given::{Given, final_status};
-use crate::inputs::{joined, program_alone};
+use crate::inputs::{alone, joined};
 use diagnostic_log::sarif::{Logged, log_text};
+use diagnostics::files::TextFile;
 use jobs::job::{Texts, Warnings};
 use operand_forms::rows::lines_of;
 use std::alloc::{AllocError, Global};
@@ -71,13 +72,28 @@ pub fn log_of(
     for program in programs {
         rows.push(lines_of(alloc, &program.text)?)?;
     }
+    let list = logged_programs(alloc, programs, &rows)?;
+    log_text(alloc, &list, status)
+}
+
+// Programs of a log, of whose texts these are the lines.
+fn logged_programs<'a, 'b>(
+    alloc: Global,
+    programs: &'b [LoggedProgram],
+    rows: &'b [Vec<&'a [u8]>],
+) -> Result<Vec<Logged<'b>>, AllocError> {
     let mut list = Vec::new(alloc);
     for (program, rows) in programs.iter().zip(rows.iter()) {
-        list.push(Logged {
-            files: program_alone(program.name.as_str(), rows.as_slice()),
-            diagnostics: program.said.said.as_slice(),
-            mends: mends(&program.said),
-        })?;
+        list.push(logged_lines(program, rows.as_slice()))?;
     }
-    log_text(alloc, &list, status)
+    Ok(list)
+}
+
+// A program of a log, of whose text these are the lines.
+fn logged_lines<'a, 'b>(program: &'b LoggedProgram, rows: &'b [&'a [u8]]) -> Logged<'b> {
+    let file = TextFile {
+        name: program.name.as_str(),
+        rows,
+    };
+    logged(alone(file), &program.said)
 }

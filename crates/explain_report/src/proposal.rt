@@ -4,7 +4,7 @@ ghost use Rattle.annotated_asm.specs.ProgramText.{parse};
 ghost use Rattle.annotator.specs.Least.{IsLeast};
 ghost use Rattle.explain_report.specs.LeftOvers.{IsFindingCount, IsLeftIn, IsLeftOf, IsLeftOver};
 
-use crate::inputs::program_alone;
+use crate::inputs::alone;
 use crate::left::LeftOver;
 use crate::order::in_order;
 use annotated_asm::assembler::assemble;
@@ -12,6 +12,7 @@ use annotated_asm::fault::AsmFault;
 use annotator::certify::certify;
 use diagnostics::colour::Colour;
 use diagnostics::diagnostic::Diagnostic;
+use diagnostics::files::TextFile;
 use diagnostics::text::text_of;
 use finding_paths::shown::shown_findings;
 use jobs::job::{Emit, Job};
@@ -100,7 +101,7 @@ fn said_of(
     errors: &[Diagnostic],
     count: usize,
 ) -> Result<Vec<u8>, AllocError> {
-    let files = program_alone(name, rows);
+    let files = alone(TextFile { name, rows });
     let mut said = text_of(alloc, &files, errors, Colour::Never)?;
     let name = shown_name(alloc, name)?;
     if count == 0 {

@@ -1,5 +1,5 @@
 -- Each part is what its call says.
-use Rattle.std.proofs.Common.{rules, ◌≡◌, ◌↔◌, ◌∙◌, ap, sym, subst, Bool, List, []}
+use Rattle.std.proofs.Common.{rules, ◌≡◌, ◌↔◌, ◌∙◌, ap, subst, Bool, List, []}
 use Rattle.diagnostics.specs.declared.diagnostic.Diagnostic.{Diagnostic}
 use Rattle.judged_fixes.specs.declared.judge.Marks.TheVariants.{Right}
 use Rattle.std.specs.Prelude.{◌&&◌}
