@@ -4,7 +4,7 @@
 Takes random programs whose marks are right, and plants wrong marks. The events that are written must be allowed
 by the model's machine, each where it comes, and what the last line says must be so: the first word that was read and
 is not the plain run's, the exit that is not listed, or the word of the head; and where the right word was written. Of right marks it must say that they are
-right. The model looks for a harm of its own, in the run in which one task follows another: what of this is not
+right, and where the run ends as unlisted, from where to where it goes. The model looks for a harm of its own, in the run in which one task follows another: what of this is not
 shown is counted, since a unit that executes ahead may put the right word over a wrong one. Programs whose code can run
 off its end, or with a jump to a register that does not end its task, are passed over: the model has none. PROGRAM is the
 built `multiscalar`.
@@ -111,6 +111,25 @@ def origin(program, text, register, steps):
     return "as at the start" if last is None else f"written at line {line_of(text, last)}"
 
 
+def unlisted_line(program, text):
+    """What is said of right marks where the run ends as unlisted; nothing where it does not, and None where it is too long for the model."""
+    machine = Machine(program, 1)
+    for _ in range(EVENTS):
+        event = machine.head_event()
+        if event is None:
+            break
+        machine.apply(event)
+    if machine.outcome == "running":
+        return None
+    if not isinstance(machine.outcome, tuple):
+        return ""
+    address = machine.outcome[1]
+    index, odd = divmod(address - CODE0, 4)
+    to = f"0x{address:08x}" if odd or not 0 <= index < len(program.code) else f"line {line_of(text, address)}"
+    task, last = program.tasks[machine.queue[0].task][0], line_of(text, seen(machine)[-1][0])
+    return f"but the run ends as unlisted: task {task} goes from line {last} to {to}, which is none of its targets\n"
+
+
 def told(program, text, machine, plain, stale, line):
     """Whether the last line says what the events show."""
     if found := READS.fullmatch(line):
@@ -157,7 +176,10 @@ class Bench:
         said, status = self.call(text)
         if not findings:
             self.counts["right"] += 1
-            return None if (said, status) == ("the marks are right: no run shows anything\n", 0) else "right marks"
+            first, unlisted = "the marks are right: no run shows anything\n", unlisted_line(program, text)
+            self.counts["of these the run ends as unlisted"] += bool(unlisted)
+            is_right = said.startswith(first) if unlisted is None else said == first + unlisted
+            return None if is_right and status == 0 else "right marks"
         harm = own_harm(program)
         self.counts["wrong"] += 1
         self.counts["of these the model shows"] += harm is not None

@@ -3,7 +3,9 @@
 use crate::listing::line_numbers;
 use annotated_asm::assembler::assemble;
 use annotated_asm::fault::AsmFault;
+use mips_instructions::number::Reg;
 use mips_plain::outcome::{OutOfMemory, Outcome};
+use mips_plain::plain::Plain;
 use std::alloc::{AllocError, Global};
 use task_descriptor::program::Program;
 use task_graph::edges::ends_task;
@@ -71,16 +73,16 @@ fn first_exit(alloc: Global, program: &Program) -> Result<Option<Exit>, AllocErr
         let Some(from) = program.index(machine.pc()) else {
             return Ok(None);
         };
-        let after = machine.pc().wrapping_add(4);
         if machine.count() > u64::from(MOST_STEPS) {
             return Ok(None);
         }
+        let is_left = is_left(program, &machine, from);
         machine.step().map_err(|_: OutOfMemory| AllocError)?;
         if machine.outcome() != Outcome::Running {
             return Ok(None);
         }
         let to = machine.pc();
-        if !is_left(program, from, to != after) {
+        if !is_left {
             continue;
         }
         match next_task(program, task, to) {
@@ -91,11 +93,21 @@ fn first_exit(alloc: Global, program: &Program) -> Result<Option<Exit>, AllocErr
     Ok(None)
 }
 
-// Whether a task ends after the instruction of this index; a branch is taken or not.
-fn is_left(program: &Program, index: u32, is_taken: bool) -> bool {
-    match program.code().get(index as usize) {
-        Some(marked) => ends_task(marked.stop, is_taken),
-        None => false,
+// Whether a task ends after the instruction of this index, which is the next one of the machine.
+fn is_left(program: &Program, machine: &Plain, index: u32) -> bool {
+    let Some(marked) = program.code().get(index as usize) else {
+        return false;
+    };
+    let (first, second) = marked.op.sources();
+    let is_taken = marked.op.taken(word(machine, first), word(machine, second));
+    ends_task(marked.stop, is_taken)
+}
+
+// The word of an operand; 0 where there is none.
+fn word(machine: &Plain, register: Option<Reg>) -> u32 {
+    match register {
+        Some(register) => machine.reg(register),
+        None => 0,
     }
 }
 
