@@ -287,7 +287,7 @@ def differs(program, text, results):
             return f"the sentence of {error}"
         if removes_wrongly(program, error, result):
             return f"the stop of {error}"
-        advice = [it for it in [advice_of(result)] if STOP.match(it)]
+        advice = [it for it in [HALT.sub("", advice_of(result), count=1)] if STOP.match(it)]
         in_short = bool(advice) and error != next(it for it in errors if it[0] == error[0])
         if any(("; if it is meant to go on, " in it) == in_short for it in advice):
             return f"what to do about {error}"
@@ -345,6 +345,8 @@ def right_line(results):
     return f"with {which} the marks are right"
 
 
+# What comes before other advice where a halt may be forgotten.
+HALT = re.compile(r"write halt after line \d+, if the program ends there; else ")
 STOP = re.compile(r"(?:put !s[tn]?|write !s[tn]? in place of !s[tn]?) on line (\d+)(?: and write targets=\S+)?, where ")
 
 
@@ -570,7 +572,7 @@ class Bench:
                 continue
             left = told(changed_program)
             alike = lambda errors: sum((it[0], *it[2:]) == (error[0], *error[2:]) for it in errors)
-            is_left = alike(left) >= alike(told(program)) if len(changed_program.code) < len(program.code) else error in left
+            is_left = alike(left) >= alike(told(program)) if len(changed_program.code) != len(program.code) else error in left
             if any(it[0] == error[0] and it[2] in MASK for it in left) if error[2] in MASK else is_left:
                 return f"{error} is there after its fix:\n{after}"
             self.counts["fixes that mend"] += 1

@@ -55,14 +55,14 @@ def in_lines(result, text):
 
 
 def in_c(result, text):
-    """The file and the line of C that the comment at the end of a result's line names."""
+    """The file and the line of C, of 32 bits, that the comment at the end of a result's line names."""
     region = result["locations"][0]["physicalLocation"].get("region", {"startLine": 0})
     line = ["", *text.split("\n")][region["startLine"]].encode("latin-1")
     try:
         named = re.search(r"# at ((?:(?!# at ).)+):([1-9][0-9]*)\s*$", line.decode("utf-8"))
     except UnicodeDecodeError:
         named = None
-    return [(named[1], int(named[2]))] if named else []
+    return [(named[1], int(named[2]))] if named and int(named[2]) < 2 ** 32 else []
 
 
 def told_in_c(result):

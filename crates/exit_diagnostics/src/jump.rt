@@ -106,8 +106,13 @@ fn lacks(subject: &Subject, jump: &Jump, place: u32) -> bool {
     jump.places.contains(&place) && !is_among(subject.targets(jump.task), place)
 }
 
-/// The first jump that is seen to lead to a place which its task does not list. If the place is the return point of a
-/// call, the jump of the task that returns from the call comes first.
+/// Whether a jump is seen to lead to a place which its task does not list, and the task does not begin there itself.
+fn misses(subject: &Subject, jump: &Jump, place: u32) -> bool {
+    lacks(subject, jump, place) && entry_of(subject, jump.task) != place
+}
+
+/// The first jump that is seen to lead to a place which its task does not list, of a task that does not begin there itself.
+/// If the place is the return point of a call, the jump of the task that returns from the call comes first.
 pub fn missing_at<'a>(subject: &'a Subject, place: u32) -> Option<&'a Jump> {
     let jumps = subject.returns().jumps();
     let coming = if is_behind(subject, place) {
@@ -115,10 +120,10 @@ pub fn missing_at<'a>(subject: &'a Subject, place: u32) -> Option<&'a Jump> {
     } else {
         None
     };
-    let first = jumps.iter().find(|jump| lacks(subject, jump, place) && is_end(coming, jump.task));
+    let first = jumps.iter().find(|jump| misses(subject, jump, place) && is_end(coming, jump.task));
     match first {
         Some(jump) => Some(jump),
-        None => jumps.iter().find(|jump| lacks(subject, jump, place)),
+        None => jumps.iter().find(|jump| misses(subject, jump, place)),
     }
 }
 
