@@ -59,8 +59,8 @@ function stepsTable(one, other) {
   const cells = rows => numbers.map(units => make('td', {}, String(rows.find(it => it.units === units)?.steps ?? '–')));
   return make('table', {}, make('caption', {}, 'Steps'),
     make('tr', {}, make('th', { scope: 'col' }, 'units'), numbers.map(it => make('th', { scope: 'col' }, String(it)))),
-    make('tr', {}, make('th', { scope: 'row' }, '● this program'), cells(one)),
-    make('tr', {}, make('th', { scope: 'row' }, '■ the other'), cells(other)));
+    make('tr', {}, make('th', { scope: 'row' }, '● ', make('span', { class: 'side-name' }, 'this program')), cells(one)),
+    make('tr', {}, make('th', { scope: 'row' }, '■ ', make('span', { class: 'side-name' }, 'the other')), cells(other)));
 }
 
 // The lines of one text, with their numbers; those that the other text lacks are of a kind of their own.

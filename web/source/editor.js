@@ -255,9 +255,12 @@ export class Editor {
     this.scrolled();
     bubble.style.left = `${find('editor').scrollLeft + 8}px`;
     bubble.style.width = `${Math.min(540, find('editor').clientWidth - find('gutter').offsetWidth - 16)}px`;
-    const below = this.topOf(chosen.place.line + 1);
-    bubble.style.top = `${below + 4}px`;
     const place = find('editor');
+    const after = line => this.topOf(line + 1);
+    // Below the lines that it names, if it is seen there; else below its own.
+    const last = after(Math.max(chosen.place.line, ...noteRanges(chosen).map(it => it.line)));
+    const below = last + bubble.offsetHeight + 12 <= place.scrollTop + place.clientHeight ? last : after(chosen.place.line);
+    bubble.style.top = `${below + 4}px`;
     if (below > place.scrollTop + place.clientHeight || below < place.scrollTop) this.scrollToLine(chosen.place.line);
     place.scrollTop = Math.max(place.scrollTop, below + bubble.offsetHeight + 12 - place.clientHeight);
   }

@@ -18,6 +18,7 @@ const LIST = [
 ];
 
 const IS_TEXT = 'textarea, input:not([type="range"]):not([type="file"]):not([type="checkbox"])';
+const KNOWS_OPEN = CSS.supports('selector(:open)');
 
 export class Keys {
   // `actions` has what a key does that is no arrow; `arrow` takes the arrows; `isTyped` says whether a text takes them itself.
@@ -25,7 +26,7 @@ export class Keys {
     this.actions = actions;
     this.arrow = arrow;
     this.isTyped = isTyped;
-    this.open = null; // a list of choices that is open takes its keys itself
+    this.open = null; // where the browser does not tell it: the list of choices that is open
     put(find('keys-list'), LIST.map(([key, says]) => [make('dt', {}, make('kbd', {}, key)), make('dd', {}, says)]).flat());
     find('keys-button').addEventListener('click', () => this.show());
     find('keys-close').addEventListener('click', () => find('keys').close());
@@ -43,7 +44,7 @@ export class Keys {
     const { target, key } = event;
     const isText = target.matches?.(IS_TEXT);
     if (key === 'Escape') return this.actions.Escape(event);
-    if (target.matches?.('select')) return this.keyOnList(event);
+    if (target.matches?.('select') && this.isForList(event)) return undefined;
     if (key === 'ArrowLeft' || key === 'ArrowRight') return !this.isTyped(target) && this.arrow(event);
     if (isText) return;
     const action = this.actions[key.length === 1 ? key.toLowerCase() : key];
@@ -52,22 +53,23 @@ export class Keys {
     action(event);
   }
 
-  // On a closed list of choices left and right step, and up and down open it; none of them changes what is chosen.
-  keyOnList(event) {
+  // A list of choices that is open takes its keys itself. On a closed one Enter, the space bar, up and down open it; the
+  // keys of the page are those of the page, and change nothing of what is chosen.
+  isForList(event) {
     const { target, key } = event;
-    if (this.open === target) {
+    if (KNOWS_OPEN ? target.matches(':open') : this.open === target) {
       if (key === 'Enter' || key === 'Tab') this.open = null;
-      return;
+      return true;
     }
     if (key === 'Enter' || key === ' ') this.open = target;
-    if (!key.startsWith('Arrow')) return;
+    if (key !== 'ArrowUp' && key !== 'ArrowDown') return false;
     event.preventDefault();
-    if (key === 'ArrowLeft' || key === 'ArrowRight') return this.arrow(event);
     try {
       target.showPicker();
       this.open = target;
     } catch {
       // A browser that cannot open it leaves it closed.
     }
+    return true;
   }
 }

@@ -66,7 +66,7 @@ class Page {
       this.tabs.choose(name);
       this.viewChanged();
     };
-    const press = id => () => find(id).click();
+    const zoom = factor => () => this.stage.run && this.stage.lanes.zoomBy(factor);
     return {
       l: () => this.lecture.toggle(),
       p: () => this.stage.run && this.tabs.view !== 'compare' && this.stage.togglePlay(),
@@ -78,9 +78,9 @@ class Page {
       Home: () => this.stage.go(0),
       End: () => this.stage.go(this.stage.last),
       s: () => this.stage.run && this.tabs.view !== 'compare' && saveSvg(),
-      '+': () => this.stage.lanes.zoomBy(1.25),
-      '-': () => this.stage.lanes.zoomBy(0.8),
-      0: () => this.stage.lanes.zoomBy(null),
+      '+': zoom(1.25),
+      '-': zoom(0.8),
+      0: zoom(null),
       '?': () => this.keys.show(),
       Escape: () => this.escape(),
     };

@@ -11,9 +11,11 @@ export function isMany(units) {
 
 // How large a ring is drawn: the whole, a unit, what is left around, how many registers of a unit at most and how large.
 // Ten and more units are drawn larger, with larger words, since the whole is shown smaller; in a lecture without registers.
+// There up to four are drawn larger, too, to be read from the last row.
 function planOf(units, isLecture) {
+  if (isLecture && units <= 4) return { whole: units === 1 ? 240 : 360, size: 48, around: 72, dots: 7, dot: 11, letters: 9, kind: 'is-few' };
   if (!isMany(units)) return { whole: 360, size: units <= 6 ? 42 : 33, around: 62, dots: 7, dot: 9, letters: units <= 6 ? 9 : 5 };
-  return isLecture ? { whole: 480, size: 34, around: 58, dots: 0, dot: 0, letters: 6 } : { whole: 640, size: 40, around: 66, dots: 4, dot: 12, letters: 6 };
+  return isLecture ? { whole: 480, size: 34, around: 58, dots: 0, dot: 0, letters: 6, kind: 'is-many' } : { whole: 640, size: 40, around: 66, dots: 4, dot: 12, letters: 6, kind: 'is-many' };
 }
 
 function spotOf(seat, units, { whole, around }) {
@@ -39,7 +41,7 @@ function moveOf(moved, units, plan) {
   const [across, down] = [((other.x - one.x) / length) * size, ((other.y - one.y) / length) * size];
   const line = draw('line', { x1: one.x + across, y1: one.y + down, x2: other.x - across, y2: other.y - down, class: 'moved', 'marker-end': 'url(#arrow)' });
   const middle = plan.whole / 2;
-  const inside = 0.42;
+  const inside = plan.kind === 'is-few' ? 1 : 0.42;
   const x = (one.x + other.x) / 2 + (middle - (one.x + other.x) / 2) * inside;
   const y = (one.y + other.y) / 2 + (middle - (one.y + other.y) / 2) * inside;
   return [line, write(x, y + 4, `$${moved.register} = ${moved.word}`, 'moved-word')];
@@ -82,7 +84,7 @@ function dotsOf(unit, tasks, reason, { x, y, angle }, { size, dots, dot: radius 
     return draw('g', { class: `dot ${kindOf(unit, number, number === waited)}` },
       draw('title', {}, saidOf(unit, number, create.includes(number), number === waited)),
       draw('circle', { ...place, r: radius }),
-      write(place.cx, place.cy + 3.5, number === 32 ? 'hi' : number === 33 ? 'lo' : String(number), 'dot-number'));
+      write(place.cx, place.cy + 0.4 * radius, number === 32 ? 'hi' : number === 33 ? 'lo' : String(number), 'dot-number'));
   });
 }
 
@@ -102,11 +104,11 @@ function drawSeat(seat, state, reasons, plan, tasks) {
   if (position === 0) kinds.push('is-head');
   if (state.actor === seat) kinds.push('is-actor');
   if (reasons[position]) kinds.push(`is-${reasons[position].kind}`);
-  const out = size + (isMany(state.units) ? 16 : 14);
+  const out = size + (plan.kind ? 16 : 14);
   const parts = [draw('circle', { cx: x, cy: y, r: size, class: kinds.join(' ') })];
   if (state.units > 1) parts.push(write(x + Math.cos(angle) * out, y + Math.sin(angle) * out + 4, String(seat), 'seat-number'));
   if (!unit) parts.push(write(x, y + 4, 'free', 'seat-line'));
-  else parts.push(write(x, y - 1, shortened(unit.task, letters), 'seat-task'), write(x, y + 14, under(unit), 'seat-line'));
+  else parts.push(write(x, y - 1, shortened(unit.task, letters), 'seat-task'), write(x, y + (plan.kind === 'is-few' ? 17 : 14), under(unit), 'seat-line'));
   if (unit?.fate) parts.push(cross(x, y, size * 0.7));
   else if (unit) parts.push(...dotsOf(unit, tasks, reasons[position], spot, plan));
   return draw('g', {}, parts);
@@ -136,8 +138,8 @@ export function drawRing(state, reasons, tasks, isLecture) {
   const ring = draw('circle', { cx: middle, cy: middle, r: state.units === 1 ? 0 : middle - around, class: 'ring-line' });
   const seats = Array.from({ length: state.units }, (_, seat) => drawSeat(seat, state, reasons, plan, tasks));
   const words = state.standing !== 'running' ? [state.standing] : state.units > 1 && state.queue.length ? ['thick ring:', 'the head'] : [];
-  const inside = words.map((word, at) => write(middle, (state.units === 1 ? whole - 60 : middle - 4) + 20 * at, word, 'ring-word'));
+  const inside = words.map((word, at) => write(middle, (state.units === 1 ? middle + plan.size + 44 : middle - 4) + 20 * at, word, 'ring-word'));
   const moved = state.moved ? moveOf(state.moved, state.units, plan) : inside;
-  return draw('svg', { viewBox: `0 0 ${whole} ${whole}`, class: isMany(state.units) ? 'is-many' : null, role: 'img', 'aria-label': `The ring. ${describe(state, reasons, tasks)}` },
+  return draw('svg', { viewBox: `0 0 ${whole} ${whole}`, class: plan.kind ?? null, role: 'img', 'aria-label': `The ring. ${describe(state, reasons, tasks)}` },
     arrowHead(), ring, seats, moved);
 }
