@@ -244,7 +244,7 @@ def proposals(program, text):
     first = {}
     for (t, _), (places, _, _) in seen.items():
         for j in unlisted(t, places):
-            if j not in first or t == coming_back(program, j - 1):
+            if begins.get(j) != t and (j not in first or t == coming_back(program, j - 1)):
                 first[j] = t
     for t in dict.fromkeys(t for t, _ in seen):
         own = [it for (task, _), it in seen.items() if task == t]
@@ -256,7 +256,7 @@ def proposals(program, text):
             said = "JumpNotListed"
         elif missing:
             lost_slot = lambda j: is_slot(program, labels, j) and j not in reached
-            said = any(not lost_slot(j) and (first[j] != t or (begins[j] not in lost if j in begins else j in reached or program.code[j - 1][0][0] not in ("jal", "jalr"))) for j in missing) and "JumpNotListed"
+            said = any(not lost_slot(j) and (first.get(j) != t or (begins[j] not in lost if j in begins else j in reached or program.code[j - 1][0][0] not in ("jal", "jalr"))) for j in missing) and "JumpNotListed"
         elif own[0][2] or not targets and not own[0][1]:
             said = "JumpNotListed"
         else:
