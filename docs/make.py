@@ -341,7 +341,7 @@ def fish_options():
 # ---------------------------------------------------------------- the whole
 PARTS = {
     "limits": limits, "instructions": instructions, "accepted marks": accepted,
-    **{f"rule {it}": functools.partial(example, it) for it in range(1, 13)}, "crates": crates, "requires": required, "commands": commands,
+    **{f"rule{it}": functools.partial(example, it) for it in range(1, 13)}, "crates": crates, "requires": required, "commands": commands,
     "speeds": speeds, "search": search,
     "exit status": lambda: table("Status", "When", ((number, one_line(said)) for number, said in status()[0])),
     "traps": lambda: faults("mips_plain/src/outcome.rt", "Trap"),
