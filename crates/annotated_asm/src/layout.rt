@@ -1,4 +1,4 @@
-//! The offsets of labels, and names that are defined twice.
+//! Where labels stand, and what is defined twice.
 
 ghost use Rattle.std.specs.Prelude.{◌≡◌, List};
 ghost use Rattle.annotated_asm.specs.Steps.{Answers};
@@ -12,10 +12,10 @@ use crate::table::{Symbol, Table};
 use program_statements::statement::{Section, Statement};
 use std::alloc::Global;
 
-/// The number of instructions, and of bytes of data and of read-only data.
+/// How many instructions there are, and how many bytes of data and of read-only data.
 #[derive(Clone, Copy, Debug, PartialEq, Eq)]
 pub struct Sizes {
-    /// Machine instructions.
+    /// Instructions.
     pub code: u64,
     /// Bytes of data.
     pub bytes: u64,
@@ -23,14 +23,14 @@ pub struct Sizes {
     pub fixed: u64,
 }
 
-/// What is known of the items so far: sizes, labels, tasks and the start.
+/// What is known of the items so far.
 #[derive(Drop)]
 pub struct Layout {
-    /// The sizes after these items.
+    /// How much there is.
     pub sizes: Sizes,
-    /// The labels of code and data.
+    /// The labels.
     pub labels: Table,
-    /// The names of the `.task` statements.
+    /// The tasks, with where their statements stand.
     pub tasks: Table,
     /// Whether there was a `.start`.
     pub started: bool,
@@ -109,12 +109,7 @@ fn with_item(alloc: Global, layout: &mut Layout, item: &PlacedStatement) -> Resu
     Ok(())
 }
 
-/// The layout of a text's items.
-///
-/// # Errors
-///
-/// `Duplicate` for the first line that defines a label, a task or the start a second time; `OutOfMemory` where
-/// memory was refused.
+/// The layout of items.
 pub fn laid_out(alloc: Global, items: &[PlacedStatement]) -> Result<Layout, AsmFault>
     ensures { Answers (λ layout. layout) result (laid no_layout items.now) }
 {
@@ -135,7 +130,7 @@ pub fn laid_out(alloc: Global, items: &[PlacedStatement]) -> Result<Layout, AsmF
     Ok(layout)
 }
 
-/// Whether these are more instructions or bytes than a program may have.
+/// Whether there are more instructions or bytes than a program may have.
 pub fn is_beyond(sizes: Sizes) -> bool
     ensures { result ≡ is_beyond sizes }
 {

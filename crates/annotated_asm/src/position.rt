@@ -1,27 +1,27 @@
-//! Positions in a program text, and what begins at them.
+//! Places in a text, and what stands at them.
 
 use program_statements::statement::Section;
 use task_descriptor::name::Name;
 
-/// A line and a column of a text.
+/// A place in a text.
 #[derive(Clone, Copy, Debug, PartialEq, Eq)]
 pub struct Position {
     /// The line, counted from 1.
     pub line: u32,
-    /// The column, counted in bytes from 1.
+    /// The column, counted in bytes, from 1 on.
     pub column: usize,
 }
 
-/// A part of a line: where it begins and how wide it is.
+/// A part of a line.
 #[derive(Clone, Copy, Debug, PartialEq, Eq)]
 pub struct Stretch {
-    /// The position of its first byte.
+    /// Where it begins.
     pub position: Position,
-    /// Its width in bytes.
+    /// How many bytes it has.
     pub width: usize,
 }
 
-/// The two lists of a `.task` statement in the text.
+/// Where the two lists of a `.task` stand.
 #[derive(Clone, Copy, Debug, PartialEq, Eq)]
 pub struct TaskLists {
     /// `create=` and its registers.
@@ -30,43 +30,43 @@ pub struct TaskLists {
     pub targets: Stretch,
 }
 
-/// A label and its position.
+/// A label, and where it stands.
 #[derive(Clone, Copy, Debug, PartialEq, Eq)]
 pub struct LabelSource {
-    /// The label's name.
+    /// Its name.
     pub name: Name,
-    /// The position of the name's first byte.
+    /// Where its name begins.
     pub position: Position,
 }
 
-/// A `.word`, `.byte` or `.space` statement and its position.
+/// A `.word`, `.byte` or `.space`, and where it stands.
 #[derive(Clone, Copy, Debug, PartialEq, Eq)]
 pub struct DataSource {
     /// The section that it adds to.
     pub section: Section,
-    /// The position of the directive's first byte.
+    /// Where the directive begins.
     pub position: Position,
 }
 
-/// The map from a program's instructions, tasks, targets and data to their positions in its text.
+/// Where the parts of a text stand.
 #[derive(Debug, Drop)]
 pub struct SourceMap {
-    /// For each machine instruction, index 0 first, the position of the instruction of the text that it is part
-    /// of: the two of a pseudo-instruction have one position.
+    /// For each machine instruction, index 0 first, where the instruction of the text that it is part of begins:
+    /// the two of a pseudo-instruction stand at one place.
     pub code: Vec<Position>,
-    /// For each machine instruction, the width in bytes of the instruction of the text, from its mnemonic to
-    /// its last operand or mark.
+    /// For each machine instruction, how many bytes the instruction of the text has, from its mnemonic
+    /// to its last operand or mark.
     pub widths: Vec<usize>,
-    /// For each task, task 0 first, the position of its `.task`.
+    /// For each task, task 0 first, where its `.task` begins.
     pub tasks: Vec<Position>,
-    /// For each task, its two lists.
+    /// For each task, where its lists stand.
     pub lists: Vec<TaskLists>,
-    /// For each task, its targets in their order; if it has none, the `-`.
+    /// For each task, where its targets stand, in their order; if it has none, where the `-` does.
     pub targets: Vec<Vec<Stretch>>,
     /// The labels, in the order of the text.
     pub labels: Vec<LabelSource>,
     /// The pieces of data, in the order of the text.
     pub pieces: Vec<DataSource>,
-    /// The position of `.start`, if there is one.
+    /// Where `.start` begins, if there is one.
     pub start: Option<Position>,
 }

@@ -1,6 +1,5 @@
-//! Diagnostics for tools: a log in the format SARIF 2.1.0 (an OASIS standard), and lines of JSON.
-//!
-//! Nothing here has a contract on what it writes.
+//! What is reported about the texts of a command, for tools: a log in the format SARIF 2.1.0 (OASIS), and lines of
+//! JSON. Nothing here has a contract on what it writes.
 #![tactic(auto)]
 
 mod artifact;

@@ -8,7 +8,7 @@ use crate::listed::Listed;
 use crate::words::Words;
 use std::alloc::{AllocError, Global};
 
-/// A help with a message alone.
+/// What to do, in words alone.
 pub fn in_words(alloc: Global, message: Words) -> Help
     ensures { result ≡ in_words message }
 {
@@ -18,7 +18,7 @@ pub fn in_words(alloc: Global, message: Words) -> Help
     }
 }
 
-/// A help that writes `text` in place of one part of the text.
+/// What to do, with a text to write in place of a part.
 ///
 /// # Errors
 ///

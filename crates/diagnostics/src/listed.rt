@@ -19,14 +19,14 @@ impl<T> Model for Listed<T> {
 impl<T> Listed<T> {
     ghost use Rattle.std.specs.Prelude.{◌≡◌};
 
-    /// The list with the items of a vector, in their order.
+    /// A list of these items.
     pub fn new(list: Vec<T>) -> Listed<T>
         ensures { result ≡ list.items }
     {
         Listed { list }
     }
 
-    /// The items, in order.
+    /// The items.
     pub fn as_slice(&self) -> &[T]
         ensures { result.now ≡ self.now }
     {

@@ -16,26 +16,27 @@ use mask_certificate::certificate::Cert;
 use std::alloc::{AllocError, Global};
 use task_descriptor::program::Program;
 
-/// A finding with a path that shows it.
+/// A finding, and the path that shows it.
 #[derive(Debug, Drop)]
 pub struct ShownFinding {
-    /// The finding that the path shows.
+    /// The finding.
     pub finding: Finding,
-    /// The code indices that the path visits, in order; `None` where the rule concerns masks or targets alone.
+    /// The indices that the path visits, in order; `None` where the rule concerns masks or
+    /// targets alone.
     pub path: Option<Vec<u32>>,
 }
 
-/// The first findings of a program, each with the path that shows it, and the number of the others.
+/// The first findings of a program, each with the path that shows it, and how many more there are.
 #[derive(Debug, Drop)]
 pub struct ShownFindings {
-    /// The first findings, in order of task, code index, rule and register.
+    /// The first findings.
     pub list: Vec<ShownFinding>,
-    /// The number of findings after these.
+    /// How many findings follow these.
     pub more: usize,
 }
 
 impl ShownFindings {
-    /// Whether the program has no findings: the marks are sound.
+    /// Whether nothing was found.
     pub fn is_empty(&self) -> bool
         ensures { (result ≡ true) ↔ ((self.now.list.items ≡ []) × (self.now.more ≡ 0)) }
     {
@@ -57,8 +58,8 @@ fn found(alloc: Global, program: &Program, query: &Query) -> Result<Option<Vec<u
     }
 }
 
-/// A shortest path that shows a finding, as the code indices that it visits: `None` exactly where the finding's
-/// rule concerns masks or targets alone. The checker has the finding with the program's least certificate.
+/// A shortest path that shows a finding: `None` exactly where its rule concerns masks or targets
+/// alone. The finding is one that the checker has with the program's least certificate.
 ///
 /// # Errors
 ///
@@ -80,12 +81,12 @@ pub fn path_of(
     }
 }
 
-/// The first findings of a program's marks, at most `most` of them, in order of task, code index, rule and
-/// register, each with a shortest path that shows it, and the number of the others. They are findings with
-/// `least`, the least certificate, so there is none exactly where the marks are sound.
+/// What is wrong with a program's marks: the first findings in order of task, index, rule and register, at
+/// most `most` of them, each with a shortest path that shows it, and how many more there are. The findings
+/// are those of `least`, the least certificate, so there is none exactly where the marks are sound.
 ///
-/// Findings that are not shown are counted, task by task, without looking for a path: they take no more memory
-/// than one task's findings.
+/// Findings that are not shown are counted, task by task, without looking for a path: the memory for them is that
+/// of one task's findings.
 ///
 /// # Errors
 ///

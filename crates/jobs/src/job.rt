@@ -1,59 +1,59 @@
-//! A job of the program, with its files.
+//! What the program is to do, and with which files.
 
 use crate::ranges::PredictionList;
 use limits::ranges::{Budget, Units, Workers};
 use text_pieces::text::Text;
 
-/// The source of the certificate that a job uses.
+/// Where a job takes the certificate of its program from.
 #[derive(Clone, Copy, Debug, PartialEq, Eq)]
 pub enum CertificateSource {
     /// From a file.
     File,
-    /// No file: the job makes the least certificate of the program text that it is given.
+    /// From no file: the job makes the least certificate of the program as it stands.
     Least,
 }
 
-/// The text that `annotate` writes.
+/// What `annotate` writes.
 #[derive(Clone, Copy, Debug, PartialEq, Eq)]
 pub enum Emit {
-    /// The program with the proposed marks, in canonical text.
+    /// The proposed program.
     Text,
-    /// The certificate of that program.
+    /// The certificate of the proposed program.
     Cert,
-    /// The least certificate of the given program, with its own marks.
+    /// The certificate of the program as it stands.
     Keep,
     /// The author's own text, with the proposed create masks and forward bits.
     Marks,
 }
 
-/// The layout of the report of `explain`.
+/// How `explain` lays out its report.
 #[derive(Clone, Copy, Debug, PartialEq, Eq)]
 pub enum Format {
     /// Lines for a person, in the form that compilers use.
     Text,
-    /// A log in SARIF 2.1.0, for tools.
+    /// A log in SARIF 2.1.0, for machines.
     Sarif,
-    /// An object of JSON on each line, for tools.
+    /// An object in JSON on each line, for machines.
     Json,
 }
 
-/// The treatment by `explain` of marks that are right but cost speed.
+/// What `explain` does about marks that are right but cost speed.
 #[derive(Clone, Copy, Debug, PartialEq, Eq)]
 pub enum Warnings {
-    /// No warnings.
+    /// Nothing.
     Silent,
-    /// Warnings; the status stays 0.
+    /// It warns of them; the status stays 0.
     Told,
-    /// Warnings, which make the status 1.
+    /// It warns of them, and then the status is 1.
     AsErrors,
 }
 
-/// The layout of the report of `check`.
+/// How `check` lays out its report.
 #[derive(Clone, Copy, Debug, PartialEq, Eq)]
 pub enum CheckFormat {
     /// A line for each finding, and one for the verdict.
     Text,
-    /// An object of JSON on each line, for tools.
+    /// An object in JSON on each line, for machines.
     Json,
 }
 
@@ -68,16 +68,16 @@ pub enum Colors {
     Never,
 }
 
-/// The layout of the verdict of `replay --strict`.
+/// How the verdict of a strict replay is written.
 #[derive(Clone, Copy, Debug, PartialEq, Eq)]
 pub enum VerdictFormat {
     /// Lines for a person.
     Text,
-    /// An object of JSON, for tools.
+    /// An object in JSON.
     Json,
 }
 
-/// The text that `run` writes for a run.
+/// What `run` writes for a run.
 #[derive(Clone, Copy, Debug, PartialEq, Eq)]
 pub enum RunEmit {
     /// The output words, and how the run ended.
@@ -94,20 +94,20 @@ pub enum RunEmit {
     StepPicture,
     /// Each event of the history with what it changed.
     Trace,
-    /// Each event of the history with what it changed, in JSON, an object on each line, for tools.
+    /// Each event of the history with what it changed, in JSON, an object on each line, for machines.
     Json,
     /// How many steps each task waited, where, and for what: of a run in steps.
     Waits,
-    /// What each unit does in each step, as a Value Change Dump (IEEE 1364): of a run in steps.
+    /// What each unit does in each step, as a value change dump: of a run in steps.
     Waveform,
-    /// The tasks on each unit as a timeline, in the Trace Event Format, which Perfetto opens.
+    /// The tasks on each unit as a timeline, in the JSON that viewers of traces read.
     Timeline,
 }
 
-/// The text that `replay` writes for a script.
+/// What `replay` writes for a script.
 #[derive(Clone, Copy, Debug, PartialEq, Eq)]
 pub enum ReplayEmit {
-    /// What the machine answers to each event, and how it is after them.
+    /// What the machine answers to each event, and how it then stands.
     Answers,
     /// How often each task was assigned, how that ended, and how much of its work was useful.
     Summary,
@@ -115,15 +115,15 @@ pub enum ReplayEmit {
     Picture,
     /// Each event of the script with what the machine answers to it, and what it changed.
     Trace,
-    /// Each event of the script with the answer and the change, in JSON, an object on each line, for tools.
+    /// Each event of the script with the answer and the change, in JSON, an object on each line, for machines.
     Json,
-    /// The events that were allowed as a timeline, in the Trace Event Format, which Perfetto opens.
+    /// The events that were allowed as a timeline, in the JSON that viewers of traces read.
     Timeline,
-    /// The state of the machine after the events, and of each of its units.
+    /// How the machine stands after the events, and each of its units.
     State,
 }
 
-/// The layout of the results of `curve`.
+/// How `curve` lays out the results of its runs.
 #[derive(Clone, Copy, Debug, PartialEq, Eq)]
 pub enum CurveEmit {
     /// A table with a row for each run.
@@ -132,7 +132,7 @@ pub enum CurveEmit {
     Picture,
 }
 
-/// The form in which `demonstrate` writes a run that shows the harm of a wrong mark.
+/// How `demonstrate` writes a run that shows what a wrong mark does.
 #[derive(Clone, Copy, Debug, PartialEq, Eq)]
 pub enum DemonstrateEmit {
     /// Its events, as a script, and what they show.
@@ -141,14 +141,14 @@ pub enum DemonstrateEmit {
     Picture,
 }
 
-/// How the sequencer of `run` predicts the task after a running one (the paper, section 2.1, leaves it open).
+/// How `run` guesses the next task after a running one (the paper, section 2.1, leaves it open).
 #[derive(Debug, Drop)]
 pub enum Prediction {
     /// The first target.
     First,
     /// The last target.
     Last,
-    /// The targets at these positions, one after another, over and over.
+    /// The targets at these positions, over and over.
     List(PredictionList),
 }
 
@@ -161,10 +161,10 @@ pub enum Schedule {
     Steps,
 }
 
-/// One job of the program, with all that it takes but the texts of its files.
+/// One job of the program.
 #[derive(Debug, Drop)]
 pub enum Job {
-    /// Runs the program on the sequential machine, at most `budget` instructions.
+    /// Runs the program on the plain machine, at most this many instructions.
     Seq {
         budget: Budget,
     },
@@ -173,7 +173,7 @@ pub enum Job {
         /// Whether its instructions are listed instead, each with its address and mask.
         listing: bool,
     },
-    /// Proposes marks, or makes the certificate of the given ones.
+    /// Proposes annotations, or certifies those that stand.
     Annotate {
         emit: Emit,
     },
@@ -192,7 +192,7 @@ pub enum Job {
         /// Whether the lines for a person have colours.
         colors: Colors,
     },
-    /// Checks the marks of the program with its certificate, by this many threads.
+    /// Checks the program against its certificate.
     Check {
         certificate: CertificateSource,
         workers: Workers,
@@ -207,8 +207,7 @@ pub enum Job {
         until: Option<Budget>,
     },
     /// Applies the events of a script with expectations to a machine of this many units, up to the first that is not
-    /// allowed or does not do what is expected; where `is_complete`, also up to the first that does what its line does not
-    /// list.
+    /// allowed or does not do what is expected; or, if the script must be complete, does what its line does not list.
     ReplayStrictly {
         certificate: CertificateSource,
         units: Units,
@@ -248,7 +247,7 @@ impl Job {
     ghost use Rattle.std.specs.Prelude.{◌≡◌};
     ghost use Rattle.jobs.specs.Files.{has_certificate, has_script};
 
-    /// Whether the job reads a certificate from a file.
+    /// Whether the job has a file with a certificate beside its program.
     pub fn has_certificate(&self) -> bool
         ensures { result ≡ has_certificate self.now }
     {
@@ -265,7 +264,7 @@ impl Job {
         }
     }
 
-    /// Whether the job reads an event script.
+    /// Whether the job has an event script.
     pub fn has_script(&self) -> bool
         ensures { result ≡ has_script self.now }
     {
@@ -278,7 +277,7 @@ impl Job {
     }
 }
 
-/// The names of a job's files; empty for a file that the job does not use.
+/// The names of the job's files; a file that the job does not use is empty.
 #[derive(Debug, Drop)]
 pub struct Paths {
     /// The program text.
@@ -289,7 +288,7 @@ pub struct Paths {
     pub script: String,
 }
 
-/// The bytes of a job's files; empty for a file that the job does not use.
+/// The bytes of the job's files; a file that the job does not use is empty.
 #[derive(Debug, Drop)]
 pub struct Texts {
     /// The name that pictures and lines of JSON give the program; they give none where it is empty.

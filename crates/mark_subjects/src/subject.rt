@@ -1,4 +1,4 @@
-//! The subject of diagnostics about marks: a program with its text.
+//! What diagnostics about marks are about.
 
 use crate::label::labels_of;
 use crate::spelling::names_in;
@@ -20,10 +20,10 @@ use task_descriptor::name::Name;
 use task_descriptor::program::Program;
 use task_graph::edges::{ends_task, leads_to};
 
-/// The result of an operation that fails only where memory was refused.
+/// What is made, where memory is not refused.
 pub type Made<T> = Result<T, AllocError>;
 
-/// A program whose marks are judged, with its text, its least certificate, and what a walk over its calls sees.
+/// A program whose marks are judged, with its text and its least certificate.
 #[derive(Drop)]
 pub struct Subject<'a> {
     alloc: Global,
@@ -63,11 +63,7 @@ ghost use Rattle.program_tokens.specs.Lines.{lines};
 ghost use Rattle.annotated_asm.specs.Sources.{sources_in, sources_of};
 
 impl<'a> Subject<'a> {
-    /// The subject of a program with the text that spells it and its least certificate.
-    ///
-    /// # Errors
-    ///
-    /// `AllocError` where memory was refused.
+    /// A program with the text that spells it, and its least certificate.
     pub fn read(
         alloc: Global,
         text: &'a [u8],
@@ -98,8 +94,7 @@ impl<'a> Subject<'a> {
         })
     }
 
-    /// The subject of a program with its least certificate alone: no place in a text is known, and nothing is seen of its
-    /// calls.
+    /// A program with its least certificate alone: no place in a text is known, and nothing is seen of its calls.
     pub fn without_text(alloc: Global, program: &'a Program, least: &'a Cert) -> Subject<'a>
         ensures program { result.program ≡ program.now }
         ensures least { result.least ≡ least.now }
@@ -117,7 +112,7 @@ impl<'a> Subject<'a> {
         }
     }
 
-    /// The allocator that diagnostics about the subject use.
+    /// Where memory is taken from.
     pub fn alloc(&self) -> Global {
         self.alloc
     }
@@ -129,28 +124,28 @@ impl<'a> Subject<'a> {
         self.program
     }
 
-    /// The instructions, by code index, with their marks.
+    /// The instructions.
     pub fn code(&self) -> &[Marked]
         ensures { result.now ≡ self.now.program.code }
     {
         self.program.code()
     }
 
-    /// The task descriptors, by task number.
+    /// The tasks.
     pub fn tasks(&self) -> &[Descriptor]
         ensures { result.now ≡ self.now.program.tasks }
     {
         self.program.tasks()
     }
 
-    /// The least certificate of the program.
+    /// The least certificate.
     pub fn least(&self) -> &Cert
         ensures { result.now ≡ self.now.least }
     {
         self.least
     }
 
-    /// The lines of the text, line 1 first, each without its LF.
+    /// The lines of the text.
     pub fn rows(&self) -> &[&'a [u8]] {
         &self.rows
     }
@@ -160,28 +155,26 @@ impl<'a> Subject<'a> {
         &self.returns
     }
 
-    /// Whether the text gives no place as `@` and an index, so that an instruction less moves no place.
+    /// Whether the text gives no place as @n, so that an instruction less moves none.
     pub fn names_no_index(&self) -> bool {
         self.no_index
     }
 
-    /// The code indexes of the instructions that a task reaches, rising, each with its mask: the registers that the task
-    /// may still write from there on.
+    /// The instructions that a task reaches, each with the registers that it may still write from there on.
     pub fn entries(&self, task: u32) -> &[(u32, RegSet)]
         ensures { result.now ≡ entries_of self.now task }
     {
         self.least.list(task)
     }
 
-    /// The mask of an instruction in a task: the registers that the task may still write from there on; `None` where the
-    /// task does not reach the instruction.
+    /// The registers that a task may still write from an instruction on; `None` where it does not reach it.
     pub fn mask(&self, task: u32, index: u32) -> Option<RegSet>
         ensures { result ≡ mask_at (entries_of self.now task) index }
     {
         self.least.mask(task, index)
     }
 
-    /// A register as the text writes it; empty where no register has this number.
+    /// How the text writes a register; empty where there is none of this number.
     pub fn register(&self, number: u8) -> &str {
         match self.names.get(usize::from(number)) {
             Some(name) => name.as_str(),
@@ -189,7 +182,7 @@ impl<'a> Subject<'a> {
         }
     }
 
-    /// The name of a task; empty where no task has this number.
+    /// The name of a task; empty where there is none of this number.
     pub fn task(&self, task: u32) -> &str {
         match self.program.tasks().get(task as usize) {
             Some(descriptor) => descriptor.name.as_str(),
@@ -197,7 +190,7 @@ impl<'a> Subject<'a> {
         }
     }
 
-    /// The targets of a task, in the order in which it lists them; none where no task has this number.
+    /// The targets of a task.
     pub fn targets(&self, task: u32) -> &[Place]
         ensures { result.now ≡ targets_of self.now task }
     {
@@ -207,21 +200,21 @@ impl<'a> Subject<'a> {
         }
     }
 
-    /// The number of the task whose entry is at a code index.
+    /// The task that begins at an index, if one does.
     pub fn task_at(&self, index: u32) -> Option<u32>
         ensures { result ≡ task_at self.now index }
     {
         self.program.task_at(index)
     }
 
-    /// Whether a task's entry is at a code index.
+    /// Whether a task begins at an index.
     pub fn is_entry(&self, index: u32) -> bool
         ensures { result ≡ is_entry self.now index }
     {
         self.task_at(index).is_some()
     }
 
-    /// The label of an instruction, if the text gives it one.
+    /// The label of an instruction, if it has one.
     pub fn label(&self, index: u32) -> Option<Name> {
         match self.labels.get(index as usize) {
             Some(label) => *label,
@@ -229,7 +222,7 @@ impl<'a> Subject<'a> {
         }
     }
 
-    /// Whether an instruction has the forward bit (`!f`).
+    /// Whether an instruction has the forward bit.
     pub fn forwards(&self, index: u32) -> bool {
         match self.program.code().get(index as usize) {
             Some(marked) => marked.forward,
@@ -237,7 +230,7 @@ impl<'a> Subject<'a> {
         }
     }
 
-    /// Whether an instruction is a release of this register.
+    /// Whether an instruction releases a register.
     pub fn releases(&self, index: u32, register: u8) -> bool
         requires { register < 34 }
         ensures { result ≡ releases self.now index register }
@@ -258,7 +251,7 @@ impl<'a> Subject<'a> {
         }
     }
 
-    /// The stop bits of an instruction; `Stop::None` where there is no instruction.
+    /// The stop of an instruction.
     pub fn stop(&self, index: u32) -> Stop
         ensures { result ≡ stop_of self.now index }
     {
@@ -268,8 +261,7 @@ impl<'a> Subject<'a> {
         }
     }
 
-    /// The code index to which an exit of an instruction leads: the task ends there, on the edge of a branch that is taken
-    /// or on the other one.
+    /// Where a task goes on to when it ends at an instruction, a branch being taken or not.
     pub fn exit(&self, index: u32, taken: bool) -> Option<u32>
         ensures { result ≡ exit_end self.now index taken }
     {
@@ -279,8 +271,7 @@ impl<'a> Subject<'a> {
         }
     }
 
-    /// The code index to which an instruction leads inside the task, on the edge of a branch that is taken or on the other
-    /// one.
+    /// Where a task goes on to from an instruction without ending, a branch being taken or not.
     pub fn inner(&self, index: u32, taken: bool) -> Option<u32>
         ensures { result ≡ inner_end self.now index taken }
     {
@@ -290,7 +281,7 @@ impl<'a> Subject<'a> {
         }
     }
 
-    /// The place of a whole instruction in the text; the text's first byte where the text or the instruction is missing.
+    /// An instruction, whole.
     pub fn span(&self, index: u32) -> Span
         ensures { result ≡ instruction_span self.now index }
     {
@@ -307,7 +298,7 @@ impl<'a> Subject<'a> {
         }
     }
 
-    /// The place of the word `.task` that declares a task; the text's first byte where there is none.
+    /// `.task`, with which a task is declared.
     pub fn task_span(&self, task: u32) -> Span
         ensures { result ≡ task_span self.now task }
     {
@@ -321,7 +312,7 @@ impl<'a> Subject<'a> {
         }
     }
 
-    /// The place of a task's `create=` with its registers; the text's first byte where there is none.
+    /// `create=` of a task, with its registers.
     pub fn create_span(&self, task: u32) -> Span
         ensures { result ≡ create_span self.now task }
     {
@@ -331,7 +322,7 @@ impl<'a> Subject<'a> {
         }
     }
 
-    /// The place of a task's `targets=` with its targets; the text's first byte where there is none.
+    /// `targets=` of a task, with its targets.
     pub fn targets_span(&self, task: u32) -> Span
         ensures { result ≡ targets_span self.now task }
     {
@@ -341,7 +332,7 @@ impl<'a> Subject<'a> {
         }
     }
 
-    /// The place of one target in a task's list, its number from 0; the text's first byte where there is none.
+    /// The target of this number in a task's list.
     pub fn target_span(&self, task: u32, number: usize) -> Span
         ensures { result ≡ target_span self.now task number }
     {
@@ -377,8 +368,7 @@ fn span_of(stretch: Option<&Stretch>) -> Span
     }
 }
 
-/// The code index to which an edge of an instruction leads, if it is an exit and `leaving`, or is inside the task and not
-/// `leaving`; else `None`. `taken` selects the edge of a branch that is taken.
+/// The end of an edge, if the instruction has it and it is of that kind.
 pub fn end_of(marked: &Marked, index: u32, taken: bool, leaving: bool) -> Option<u32>
     requires { index < 4096 }
     ensures { result ≡ end_of leaving marked.now index taken }
@@ -390,7 +380,7 @@ pub fn end_of(marked: &Marked, index: u32, taken: bool, leaving: bool) -> Option
     }
 }
 
-/// Whether an edge ends at this code index.
+/// Whether an index, if there is one, is this.
 pub fn is_end(end: Option<u32>, to: u32) -> bool
     ensures { result ≡ is_end end to }
 {
@@ -426,12 +416,12 @@ pub fn has_number(set: RegSet, number: u8) -> bool
     Reg::new(number).is_some_and(|register| set.has(register))
 }
 
-/// The column `count` bytes after another; the greatest `usize` where that is too small.
+/// The column `count` bytes further on.
 pub fn column_after(column: usize, count: usize) -> usize {
     column.saturating_add(count)
 }
 
-/// The place, 0 bytes wide, directly after a part of a line.
+/// The place after a part of a line.
 pub fn after(span: Span) -> Span {
     Span {
         line: span.line,

@@ -1,6 +1,6 @@
-//! The instructions (MIPS32 manual, volume II, the integer instructions; `out`, `release` and `halt` are this
+//! The instructions (MIPS manual, the integer instructions; `out`, `release` and `halt` are this
 //! project's own): how each is written, what it reads and writes, and where it continues. Nothing here needs
-//! memory. Each `Kind` lists the mnemonics of one row of the instruction table.
+//! memory. Each `Kind` names the mnemonics of one row.
 
 ghost use Rattle.std.specs.Prelude.{◌≡◌, ℕ, ◌||◌, if◌then◌else◌, [], ◌∷◌, map};
 ghost use Rattle.mips_instructions.specs.Words.{has};
@@ -15,29 +15,21 @@ use crate::arithmetic::{
 use crate::number::{Amount, Gpr, Place, Reg, RegSet};
 use crate::places::{address_of, following};
 
-/// Operations on two registers: `addu subu and or xor nor slt sltu`.
+/// Operations on two registers.
 #[derive(Clone, Copy, Debug, PartialEq, Eq)]
 pub enum ThreeKind {
-    /// The sum, modulo 2^32.
     Addu,
-    /// The difference rs - rt, modulo 2^32.
     Subu,
-    /// The bits that are 1 in both.
     And,
-    /// The bits that are 1 in either.
     Or,
-    /// The bits that are 1 in exactly one.
     Xor,
-    /// The bits that are 1 in neither.
     Nor,
-    /// 1 if rs is less than rt, both signed, else 0.
     Slt,
-    /// 1 if rs is less than rt, both unsigned, else 0.
     Sltu,
 }
 
 impl ThreeKind {
-    /// The mnemonic in lower case, as a program text spells it.
+    /// Its word in a program text.
     pub fn name(self) -> &'static str
         ensures { result.now ≡ three_name self }
     {
@@ -54,19 +46,16 @@ impl ThreeKind {
     }
 }
 
-/// Shifts by an amount in the instruction: `sll srl sra`.
+/// Shifts by a fixed amount.
 #[derive(Clone, Copy, Debug, PartialEq, Eq)]
 pub enum ShiftByKind {
-    /// To the left, with zeros.
     Sll,
-    /// To the right, with zeros.
     Srl,
-    /// To the right, with copies of the sign bit.
     Sra,
 }
 
 impl ShiftByKind {
-    /// The mnemonic in lower case, as a program text spells it.
+    /// Its word in a program text.
     pub fn name(self) -> &'static str
         ensures { result.now ≡ shift_by_name self }
     {
@@ -78,19 +67,16 @@ impl ShiftByKind {
     }
 }
 
-/// Shifts by the low 5 bits of a register: `sllv srlv srav`.
+/// Shifts by a register.
 #[derive(Clone, Copy, Debug, PartialEq, Eq)]
 pub enum ShiftVarKind {
-    /// To the left, with zeros.
     Sllv,
-    /// To the right, with zeros.
     Srlv,
-    /// To the right, with copies of the sign bit.
     Srav,
 }
 
 impl ShiftVarKind {
-    /// The mnemonic in lower case, as a program text spells it.
+    /// Its word in a program text.
     pub fn name(self) -> &'static str
         ensures { result.now ≡ shift_var_name self }
     {
@@ -102,19 +88,16 @@ impl ShiftVarKind {
     }
 }
 
-/// Operations with an immediate of 16 bits that is extended by its sign: `addiu slti sltiu`.
+/// Operations with a signed immediate.
 #[derive(Clone, Copy, Debug, PartialEq, Eq)]
 pub enum ImmKind {
-    /// The sum, modulo 2^32.
     Addiu,
-    /// 1 if rs is less than n, both signed, else 0.
     Slti,
-    /// 1 if rs is less than the extended n, both unsigned, else 0.
     Sltiu,
 }
 
 impl ImmKind {
-    /// The mnemonic in lower case, as a program text spells it.
+    /// Its word in a program text.
     pub fn name(self) -> &'static str
         ensures { result.now ≡ imm_name self }
     {
@@ -126,19 +109,16 @@ impl ImmKind {
     }
 }
 
-/// Bit operations with an immediate of 16 bits that is extended with zeros: `andi ori xori`.
+/// Operations with an immediate that is not signed.
 #[derive(Clone, Copy, Debug, PartialEq, Eq)]
 pub enum LogicKind {
-    /// The bits that are 1 in both.
     Andi,
-    /// The bits that are 1 in either.
     Ori,
-    /// The bits that are 1 in exactly one.
     Xori,
 }
 
 impl LogicKind {
-    /// The mnemonic in lower case, as a program text spells it.
+    /// Its word in a program text.
     pub fn name(self) -> &'static str
         ensures { result.now ≡ logic_name self }
     {
@@ -150,17 +130,15 @@ impl LogicKind {
     }
 }
 
-/// Products of 64 bits, signed and unsigned: `mult multu`.
+/// Products of 64 bits.
 #[derive(Clone, Copy, Debug, PartialEq, Eq)]
 pub enum MultKind {
-    /// Of signed words.
     Mult,
-    /// Of unsigned words.
     Multu,
 }
 
 impl MultKind {
-    /// The mnemonic in lower case, as a program text spells it.
+    /// Its word in a program text.
     pub fn name(self) -> &'static str
         ensures { result.now ≡ mult_name self }
     {
@@ -171,17 +149,15 @@ impl MultKind {
     }
 }
 
-/// Moves from HI or LO to a general register: `mfhi mflo`.
+/// Moves from HI or LO.
 #[derive(Clone, Copy, Debug, PartialEq, Eq)]
 pub enum MoveFromKind {
-    /// From HI, register 32.
     Mfhi,
-    /// From LO, register 33.
     Mflo,
 }
 
 impl MoveFromKind {
-    /// The mnemonic in lower case, as a program text spells it.
+    /// Its word in a program text.
     pub fn name(self) -> &'static str
         ensures { result.now ≡ move_from_name self }
     {
@@ -192,17 +168,15 @@ impl MoveFromKind {
     }
 }
 
-/// Moves from a general register to HI or LO: `mthi mtlo`.
+/// Moves to HI or LO.
 #[derive(Clone, Copy, Debug, PartialEq, Eq)]
 pub enum MoveToKind {
-    /// To HI, register 32.
     Mthi,
-    /// To LO, register 33.
     Mtlo,
 }
 
 impl MoveToKind {
-    /// The mnemonic in lower case, as a program text spells it.
+    /// Its word in a program text.
     pub fn name(self) -> &'static str
         ensures { result.now ≡ move_to_name self }
     {
@@ -213,23 +187,18 @@ impl MoveToKind {
     }
 }
 
-/// Loads of 4, 2 and 1 bytes: `lw lh lhu lb lbu`; `lh` and `lb` extend the sign.
+/// Loads.
 #[derive(Clone, Copy, Debug, PartialEq, Eq)]
 pub enum LoadKind {
-    /// A word of 4 bytes.
     Lw,
-    /// 2 bytes, extended by their sign.
     Lh,
-    /// 2 bytes, extended with zeros.
     Lhu,
-    /// 1 byte, extended by its sign.
     Lb,
-    /// 1 byte, extended with zeros.
     Lbu,
 }
 
 impl LoadKind {
-    /// The mnemonic in lower case, as a program text spells it.
+    /// Its word in a program text.
     pub fn name(self) -> &'static str
         ensures { result.now ≡ load_name self }
     {
@@ -243,19 +212,16 @@ impl LoadKind {
     }
 }
 
-/// Stores of 4, 2 and 1 bytes: `sw sh sb`.
+/// Stores.
 #[derive(Clone, Copy, Debug, PartialEq, Eq)]
 pub enum StoreKind {
-    /// A word of 4 bytes.
     Sw,
-    /// The low 2 bytes.
     Sh,
-    /// The low byte.
     Sb,
 }
 
 impl StoreKind {
-    /// The mnemonic in lower case, as a program text spells it.
+    /// Its word in a program text.
     pub fn name(self) -> &'static str
         ensures { result.now ≡ store_name self }
     {
@@ -267,17 +233,15 @@ impl StoreKind {
     }
 }
 
-/// Conditional branches that compare two registers: `beq bne`.
+/// Branches that compare two registers.
 #[derive(Clone, Copy, Debug, PartialEq, Eq)]
 pub enum BranchTwoKind {
-    /// Taken if they are equal.
     Beq,
-    /// Taken if they are not equal.
     Bne,
 }
 
 impl BranchTwoKind {
-    /// The mnemonic in lower case, as a program text spells it.
+    /// Its word in a program text.
     pub fn name(self) -> &'static str
         ensures { result.now ≡ branch_two_name self }
     {
@@ -288,21 +252,17 @@ impl BranchTwoKind {
     }
 }
 
-/// Conditional branches that compare a register, as a signed number, with zero: `blez bgtz bltz bgez`.
+/// Branches that compare a register with zero.
 #[derive(Clone, Copy, Debug, PartialEq, Eq)]
 pub enum BranchOneKind {
-    /// Taken if it is at most zero.
     Blez,
-    /// Taken if it is above zero.
     Bgtz,
-    /// Taken if it is below zero.
     Bltz,
-    /// Taken if it is at least zero.
     Bgez,
 }
 
 impl BranchOneKind {
-    /// The mnemonic in lower case, as a program text spells it.
+    /// Its word in a program text.
     pub fn name(self) -> &'static str
         ensures { result.now ≡ branch_one_name self }
     {
@@ -315,8 +275,7 @@ impl BranchOneKind {
     }
 }
 
-/// The first word of an instruction's text. `nop`, `move`, `li` and `la` are pseudo-instructions, which the
-/// assembler replaces.
+/// The first word of an instruction's text.
 #[derive(Clone, Copy, Debug, PartialEq, Eq)]
 pub enum Mnemonic {
     /// `addu subu and or xor nor slt sltu`
@@ -369,7 +328,7 @@ pub enum Mnemonic {
     LoadAddress,
 }
 
-/// The operands that follow a mnemonic: r, rd, rs, rt and base are registers, n is a number, T a place.
+/// What operands follow a mnemonic: r, rd, rs, rt and base are registers, n is a number, T a place.
 #[derive(Clone, Copy, Debug, PartialEq, Eq)]
 pub enum Form {
     /// `rd,rs,rt`
@@ -410,7 +369,7 @@ pub enum Form {
     LoadAddress,
 }
 
-/// All mnemonics, in the order of the instruction table.
+/// Every mnemonic.
 pub const MNEMONICS: [Mnemonic; 52] = [
     Mnemonic::Three(ThreeKind::Addu),
     Mnemonic::Three(ThreeKind::Subu),
@@ -467,7 +426,7 @@ pub const MNEMONICS: [Mnemonic; 52] = [
 ];
 
 impl Mnemonic {
-    /// The mnemonic in lower case, as a program text spells it.
+    /// Its word in a program text.
     #[inline]
     pub fn word(self) -> &'static str
         ensures { result.now ≡ word_of self }
@@ -500,7 +459,7 @@ impl Mnemonic {
         }
     }
 
-    /// The operands that follow the mnemonic.
+    /// What operands follow it.
     pub fn form(self) -> Form
         ensures { result ≡ form_of self }
     {
@@ -526,7 +485,7 @@ impl Mnemonic {
         }
     }
 
-    /// The mnemonic that a text spells with these bytes; `None` where no mnemonic is spelled so.
+    /// The mnemonic of this word, if there is one.
     pub fn named(word: &[u8]) -> Option<Mnemonic>
         ensures { result ≡ mnemonic_named word.now mnemonics }
     {
@@ -567,21 +526,21 @@ fn named_in(mnemonics: &[Mnemonic], word: &[u8]) -> Option<Mnemonic>
     None
 }
 
-/// One instruction, without marks. The fields are in the order of the text, except that the base of a load or a
-/// store comes before the offset.
+/// One instruction, without marks. The fields stand in the order of the text, except that the base of a
+/// load or a store comes before the offset.
 #[derive(Clone, Copy, Debug, PartialEq, Eq)]
 pub enum Op {
     /// `addu rd,rs,rt`: rd, rs, rt.
     Three(ThreeKind, Gpr, Gpr, Gpr),
-    /// `sll rd,rt,n`: rd, rt, n, which is 0..=31 bits.
+    /// `sll rd,rt,n`: rd, rt, n.
     ShiftBy(ShiftByKind, Gpr, Gpr, Amount),
     /// `sllv rd,rt,rs`: rd, rt, rs.
     ShiftVar(ShiftVarKind, Gpr, Gpr, Gpr),
-    /// `addiu rt,rs,n`: rt, rs, n, which is extended by its sign.
+    /// `addiu rt,rs,n`: rt, rs, n.
     Imm(ImmKind, Gpr, Gpr, i16),
-    /// `andi rt,rs,n`: rt, rs, n, which is extended with zeros.
+    /// `andi rt,rs,n`: rt, rs, n.
     Logic(LogicKind, Gpr, Gpr, u16),
-    /// `lui rt,n`: rt, n, the high 16 bits of the word; the low ones are 0.
+    /// `lui rt,n`: rt, n.
     Lui(Gpr, u16),
     /// `mult rs,rt`: rs, rt.
     Mult(MultKind, Gpr, Gpr),
@@ -589,65 +548,64 @@ pub enum Op {
     MoveFrom(MoveFromKind, Gpr),
     /// `mthi rs`: rs.
     MoveTo(MoveToKind, Gpr),
-    /// `lw rt,n(base)`: rt, base, n, an offset in bytes.
+    /// `lw rt,n(base)`: rt, base, n.
     Load(LoadKind, Gpr, Gpr, i16),
-    /// `sw rt,n(base)`: rt, base, n, an offset in bytes.
+    /// `sw rt,n(base)`: rt, base, n.
     Store(StoreKind, Gpr, Gpr, i16),
-    /// `beq rs,rt,T`: rs, rt, T, a code index.
+    /// `beq rs,rt,T`: rs, rt, T.
     BranchTwo(BranchTwoKind, Gpr, Gpr, Place),
-    /// `blez rs,T`: rs, T, a code index.
+    /// `blez rs,T`: rs, T.
     BranchOne(BranchOneKind, Gpr, Place),
-    /// `j T`: T, a code index.
+    /// `j T`.
     Jump(Place),
-    /// `jal T`: T, a code index; register 31 takes the address of the next instruction.
+    /// `jal T`.
     JumpLink(Place),
-    /// `jr rs`: rs, which holds an address.
+    /// `jr rs`.
     JumpReg(Gpr),
-    /// `jalr rd,rs`: rd, rs; rs holds an address and is read before rd takes the address of the next
-    /// instruction.
+    /// `jalr rd,rs`: rd, rs.
     JumpLinkReg(Gpr, Gpr),
-    /// `out rs`: rs, whose word is appended to the output.
+    /// `out rs`: appends the register to the output.
     Out(Gpr),
-    /// `release r,r,..`: the registers whose values go to the later tasks; the plain machine does nothing.
+    /// `release r,r,..`: does nothing in the plain machine.
     Release(RegSet),
     /// `halt`: ends the run.
     Halt,
 }
 
-/// One operand of an instruction, in the form that the text has.
+/// An operand, as it stands in the text.
 #[derive(Clone, Copy, Debug, PartialEq, Eq)]
 pub enum InstructionOperand {
-    /// A general register, 0..=31.
+    /// A general register.
     Register(Gpr),
-    /// A shift amount, 0..=31 bits.
+    /// A shift amount.
     Amount(Amount),
-    /// An immediate that is extended by its sign.
+    /// A signed number of 16 bits.
     Signed(i16),
-    /// An immediate that is extended with zeros.
+    /// A number of 16 bits that is not signed.
     Unsigned(u16),
-    /// A signed offset in bytes, and the base register that it is added to.
+    /// A signed offset, and the register that it is added to.
     Offset(i16, Gpr),
-    /// The code index of a branch's or jump's target.
+    /// The place of an instruction.
     Place(Place),
-    /// The registers that a `release` names.
+    /// Some registers.
     Registers(RegSet),
 }
 
-/// The operands of an instruction, 0 to 3, in the order of the text.
+/// The operands of an instruction, three at most.
 #[derive(Clone, Copy, Debug, PartialEq, Eq)]
 pub enum OperandList {
-    /// No operands.
+    /// None.
     Nothing,
-    /// One operand.
+    /// One.
     One([InstructionOperand; 1]),
-    /// Two operands.
+    /// Two.
     Two([InstructionOperand; 2]),
-    /// Three operands.
+    /// Three.
     Three([InstructionOperand; 3]),
 }
 
 impl OperandList {
-    /// The operands as a slice, in the order of the text.
+    /// The operands, in the order of the text.
     #[inline]
     pub fn as_slice(&self) -> &[InstructionOperand]
         ensures { result.now ≡ listed self.now }
@@ -714,7 +672,7 @@ fn two_registers_and(first: Gpr, second: Gpr, third: InstructionOperand) -> Oper
 }
 
 impl Op {
-    /// The mnemonic that spells the instruction; never `nop`, `move`, `li` or `la`.
+    /// The mnemonic that the instruction's text begins with.
     #[inline]
     pub fn mnemonic(&self) -> Mnemonic
         ensures { result ≡ mnemonic_of self.now }
@@ -743,7 +701,7 @@ impl Op {
         }
     }
 
-    /// The mnemonic's word in a program text, such as `addu`.
+    /// Its word.
     #[inline]
     pub fn name(&self) -> &'static str
         ensures { result.now ≡ name_of self.now }
@@ -782,8 +740,7 @@ impl Op {
         }
     }
 
-    /// The registers that the operands a and b are read from (MIPS manual); `None` where there is no such
-    /// operand. A load or a store has its base as a, a store its word as b.
+    /// The registers of the operands a and b (MIPS manual); `None` where there is no such operand.
     pub fn sources(&self) -> (Option<Reg>, Option<Reg>)
         ensures first { result.0 ≡ source_a self.now }
         ensures second { result.1 ≡ source_b self.now }
@@ -806,8 +763,8 @@ impl Op {
         }
     }
 
-    /// The registers whose values the instruction needs: its operands; for a `release` the registers that it
-    /// names.
+    /// The registers that must have a value before the instruction is executed: its operands; for a
+    /// `release` the registers that it names.
     pub fn waits(&self) -> RegSet
         ensures { (r : ℕ) → has result r ≡ waits self.now r }
     {
@@ -846,9 +803,9 @@ impl Op {
         }
     }
 
-    /// The word that an instruction which touches registers alone, at the address pc with the operands a and b,
-    /// writes to register r; `None` where r is not one of its destinations, and for a load, a store, `out` and
-    /// `halt`.
+    /// The word that an instruction which touches registers alone, at the address pc with the operands
+    /// a and b, writes to register r; `None` where r is not one of its destinations, and for a load, a store,
+    /// `out` and `halt`.
     pub fn alu(&self, a: u32, b: u32, pc: u32, r: Reg) -> Option<u32>
         ensures { result ≡ alu self.now a b pc r }
     {
@@ -884,8 +841,8 @@ impl Op {
         }
     }
 
-    /// The address that follows the instruction at the address pc, with the operands a and b; a `halt` stays at
-    /// pc.
+    /// The address of the next instruction, with the operands a and b at the address pc; a `halt`
+    /// stays where it is.
     pub fn turn(&self, a: u32, b: u32, pc: u32) -> u32
         ensures { result ≡ turn self.now a b pc }
     {

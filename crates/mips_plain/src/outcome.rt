@@ -1,9 +1,9 @@
-//! How far a run has come, what a trap reports, and what an instruction read.
+//! How a run stands, what a trap reports, and what an instruction read.
 
 use std::alloc::{AllocError, AllocFailed};
 use thiserror::Error;
 
-/// The error of a step for which memory was refused: the output could not grow.
+/// Out of memory: the output could not grow.
 #[derive(Clone, Copy, Debug, PartialEq, Eq, Error)]
 #[error("out of memory")]
 pub struct OutOfMemory;
@@ -20,7 +20,7 @@ impl<T: Drop> From<AllocFailed<T>> for OutOfMemory {
     }
 }
 
-/// Why an instruction can't be carried out; where several hold, the one with the least number is reported.
+/// Why an instruction can't be carried out (the first that holds applies).
 #[derive(Clone, Copy, Debug, PartialEq, Eq)]
 pub enum Trap {
     /// 1: the address is no multiple of the size.
@@ -33,25 +33,24 @@ pub enum Trap {
     ReadOnly,
 }
 
-/// Whether a run continues or how it ended.
+/// How the plain machine stands.
 #[derive(Clone, Copy, Debug, PartialEq, Eq)]
 pub enum Outcome {
-    /// The next instruction can be executed.
+    /// It continues.
     Running,
-    /// A `halt` ended the run.
+    /// It reached a `halt`.
     Halted,
-    /// A trap ended the run.
+    /// It met a trap.
     Trapped(Trap),
 }
 
-/// What an executed instruction read: its address and the words of its operands a and b, 0 where it has no such
-/// operand.
+/// What one executed instruction read: its address and its two operands, 0 for one that it hasn't.
 #[derive(Clone, Copy, Debug, PartialEq, Eq)]
 pub struct Read {
-    /// The address of the instruction, in bytes.
+    /// The address of the instruction.
     pub pc: u32,
-    /// The word of operand a.
+    /// The first operand.
     pub a: u32,
-    /// The word of operand b.
+    /// The second operand.
     pub b: u32,
 }

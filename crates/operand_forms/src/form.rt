@@ -1,4 +1,4 @@
-//! The operands of a statement as a sequence of parts, and how many tokens fit it.
+//! Which tokens follow one another in the operands of a statement.
 
 ghost use Rattle.std.specs.Prelude.{◌≡◌, ◌≤◌, length, drop};
 ghost use Rattle.std.specs.Option.{option_map};
@@ -17,11 +17,11 @@ use program_tokens::token::Token;
 pub enum OperandPart {
     /// A general register, `$0` to `$31`.
     Register,
-    /// A number, of any range.
+    /// A number.
     Number,
-    /// A place in the code: a name, or `@` and a code index.
+    /// A name, or `@` and an index.
     Place,
-    /// A name alone.
+    /// A name.
     Label,
     /// `,`
     Comma,
@@ -35,24 +35,24 @@ pub enum OperandPart {
     Create,
     /// The word `targets`.
     Targets,
-    /// One number or more, with commas between them.
+    /// Numbers with commas between them.
     Numbers,
-    /// One register or more, with commas between them, HI and LO among them.
+    /// Registers with commas between them, HI and LO among them.
     RegisterList,
-    /// Such registers, or `-` for none.
+    /// Such registers, or `-`.
     RegisterSet,
-    /// One place or more, with commas between them, or `-` for none.
+    /// Places with commas between them, or `-`.
     Places,
 }
 
-/// How much of the first part has been read.
+/// How far the first part has come.
 #[derive(Clone, Copy, Debug, PartialEq, Eq)]
 pub enum Inside {
-    /// Nothing of it.
+    /// It has not begun.
     Before,
-    /// A member of its list, last.
+    /// A member of its list has just been read.
     Member,
-    /// A comma of its list, last.
+    /// A comma of its list has just been read.
     AfterComma,
 }
 
@@ -209,7 +209,7 @@ fn next_part(
     }
 }
 
-/// How many tokens, from the first on, fit the operands of a shape; numbers of any range fit.
+/// How many of these tokens fit the operands of a shape, from the first on.
 pub fn fitting(shape: OperandShape, tokens: &[Token]) -> usize
     ensures value { result ≡ fitting Inside.Before (form_of shape) tokens.now }
     ensures within { result ≤ length tokens.now }

@@ -1,30 +1,30 @@
-//! The shapes of operands: what each statement takes after its word, and in which range its numbers are.
+//! What operands each statement takes.
 
 ghost use Rattle.std.specs.Prelude.{◌≡◌, map};
 ghost use Rattle.operand_forms.specs.Shapes.{directives, shape_in, shape_of, instruction_text, form_text, takes_none, range_of, range_text};
 
 use mips_instructions::instruction::{Form, Mnemonic};
 
-/// The shape of a statement's operands.
+/// What the operands of a statement are.
 #[derive(Clone, Copy, Debug, PartialEq, Eq)]
 pub enum OperandShape {
-    /// The operands of an instruction of this form.
+    /// Those of an instruction.
     Instruction(Form),
     /// No operands.
     Nothing,
-    /// `NAME`, after `.start`.
+    /// `NAME`
     Start,
-    /// `NAME create=REGS targets=TS`, after `.task`.
+    /// `NAME create=REGS targets=TS`
     Task,
-    /// `n,..`, after `.word`.
+    /// `n,..`
     Words,
-    /// `n,..`, after `.byte`.
+    /// `n,..`
     Bytes,
-    /// `n`, after `.space`.
+    /// `n`
     Space,
 }
 
-/// The numbers that a statement takes: `low` to `high`, both included.
+/// The numbers that a statement takes.
 #[derive(Clone, Copy, Debug, PartialEq, Eq)]
 pub struct Range {
     /// The least.
@@ -33,7 +33,7 @@ pub struct Range {
     pub high: i64,
 }
 
-/// Every directive, with the shape of the operands that follow it.
+/// Every directive, with what operands follow it.
 pub const DIRECTIVES: [(&str, OperandShape); 8] = [
     (".start", OperandShape::Start),
     (".task", OperandShape::Task),
@@ -68,7 +68,7 @@ fn directive_shape(word: &[u8]) -> Option<OperandShape>
     shape_in(&DIRECTIVES, word)
 }
 
-/// The shape of the operands that follow a word, a mnemonic or a directive; `None` where it begins no statement.
+/// What operands follow this word, if it begins a statement.
 #[tactic(auto, unfolding(crate::specs::Shapes::shape_of))]
 pub fn shape_of(word: &[u8]) -> Option<OperandShape>
     ensures { result ≡ shape_of word.now }
@@ -97,7 +97,7 @@ fn instruction_text(form: Form) -> &'static str
     }
 }
 
-/// Operands of a shape as they may follow the word, an example with a blank before it; empty where there are none.
+/// Operands as they may stand after the word, with the blank before them; nothing where there are none.
 pub fn form_text(shape: OperandShape) -> &'static str
     ensures { result.now ≡ form_text shape }
 {
@@ -111,7 +111,7 @@ pub fn form_text(shape: OperandShape) -> &'static str
     }
 }
 
-/// Whether a statement of this shape takes no operand.
+/// Whether the statement takes no operand.
 pub fn takes_none(shape: OperandShape) -> bool
     ensures { result ≡ takes_none shape }
 {
@@ -122,7 +122,7 @@ pub fn takes_none(shape: OperandShape) -> bool
     }
 }
 
-/// The range of the numbers that a statement of this shape takes; 0 alone where it takes none.
+/// The numbers that the statement takes; 0 alone where it takes none.
 pub fn range_of(shape: OperandShape) -> Range
     ensures { result ≡ range_of shape }
 {
@@ -141,7 +141,7 @@ pub fn range_of(shape: OperandShape) -> Range
     Range { low, high }
 }
 
-/// The sentence of a message that gives the range of the shape's numbers.
+/// The sentence that gives the range of a shape's number.
 pub fn range_text(shape: OperandShape) -> &'static str
     ensures { result.now ≡ range_text shape }
 {

@@ -1,4 +1,4 @@
-//! The beginnings and the ends of slices.
+//! The beginnings and the ends of lists.
 
 ghost use Rattle.std.specs.Prelude.{◌≡◌, take, drop};
 
@@ -13,7 +13,7 @@ pub fn first<T>(all: &[T], count: usize) -> &[T]
     }
 }
 
-/// The items after the first `count`; none if there are no more.
+/// The items after the first `count`.
 pub fn after<T>(all: &[T], count: usize) -> &[T]
     ensures { result.now ≡ drop count all.now }
 {

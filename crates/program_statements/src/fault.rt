@@ -6,8 +6,8 @@ ghost use Rattle.program_statements.specs.declared.fault.StatementError.TheVaria
 use std::alloc::{AllocError, AllocFailed};
 use thiserror::Error;
 
-/// What is wrong with the statement of a line, judged by itself and its section. The numbers are the program
-/// text's: a byte that no text has (2) and bytes that are no token (3) come before.
+/// What is wrong with the statement of a line, judged by itself and its section. The numbers are those of
+/// the faults of a program text; a byte that no text has (2) and bytes that are no token (3) come before.
 #[derive(Clone, Copy, Debug, PartialEq, Eq, Error)]
 pub enum StatementFault {
     /// 4: the section has no such statement.
@@ -24,13 +24,13 @@ pub enum StatementFault {
     Mark,
 }
 
-/// Why a line's tokens give no statement.
+/// Why there is no statement.
 #[derive(Debug, Drop, Error)]
 pub enum StatementError {
-    /// They spell none.
+    /// It is wrong.
     #[error(transparent)]
     Fault(StatementFault),
-    /// Memory for the statement was refused.
+    /// There was no memory for it.
     #[error("out of memory")]
     OutOfMemory,
 }

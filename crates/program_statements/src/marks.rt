@@ -43,11 +43,7 @@ fn with_mark(marks: Marks, token: Token) -> Result<Marks, StatementFault>
     }
 }
 
-/// The marks with those added that these tokens spell.
-///
-/// # Errors
-///
-/// `Mark` where a token is no known mark, and at a second `!f` or a second stop.
+/// The marks with those of these tokens added.
 pub fn marks_after(none: Marks, tokens: &[Token]) -> Result<Marks, StatementFault>
     ensures { result ≡ marks_after none tokens.now }
 {
@@ -64,7 +60,7 @@ fn is_mark(token: &Token) -> bool
     matches!(token, Token::Mark(_))
 }
 
-/// The number of mark tokens at the end of a line's tokens.
+/// How many marks stand at the end.
 pub fn mark_count(tokens: &[Token]) -> usize
     ensures value { result ≡ mark_count tokens.now }
     ensures within { result ≤ length tokens.now }

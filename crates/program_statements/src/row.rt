@@ -1,5 +1,4 @@
-//! What each instruction of a text means: a function for each row of the instruction table. Each takes the
-//! operands after the mnemonic and checks their number, their kinds and the ranges of their numbers.
+//! What each instruction of a text means: a function for each row of the instruction table.
 
 ghost use Rattle.std.specs.Prelude.{◌≡◌, ◌<◌};
 ghost use Rattle.program_statements.specs.Rows.{no_operand, one_operand, two_operands, three_operands, as_register, as_number, as_offset, as_label, as_target, three, shift_by, shift_var, imm, logic, lui, mult, move_from, move_to, load, store, branch_two, branch_one, jump, jump_link, jump_reg, out, jump_link_reg, halt, nop, copy, immediate, load_immediate, load_address, row_of, with_operands};
@@ -88,11 +87,7 @@ fn as_label(operand: Operand) -> Result<Name, StatementFault>
     }
 }
 
-/// The place in the code that an operand names: a label, or a code index 0..=4096.
-///
-/// # Errors
-///
-/// `Operand` where it is neither; `Number` where the index is above 4096.
+/// A place: a label or an index.
 pub fn as_target(operand: Operand) -> Result<Target, StatementFault>
     ensures { result ≡ as_target operand }
 {
@@ -119,11 +114,7 @@ fn numbered(index: u8) -> Gpr
     }
 }
 
-/// `addu rd,rs,rt`, and the other mnemonics of its row.
-///
-/// # Errors
-///
-/// `Operand` where these are not the operands.
+/// `addu rd,rs,rt`
 #[tactic(auto, unfolding(crate::specs::Rows::three))]
 pub fn three(kind: ThreeKind, operands: Operands) -> Result<Instruction, StatementFault>
     ensures { result ≡ three kind operands }
@@ -133,11 +124,7 @@ pub fn three(kind: ThreeKind, operands: Operands) -> Result<Instruction, Stateme
     Ok(Instruction::One(op))
 }
 
-/// `sll rd,rt,n`, and the other mnemonics of its row.
-///
-/// # Errors
-///
-/// `Operand` where these are not the operands; `Number` where n is not 0 to 31.
+/// `sll rd,rt,n`
 #[tactic(auto, unfolding(crate::specs::Rows::shift_by))]
 pub fn shift_by(kind: ShiftByKind, operands: Operands) -> Result<Instruction, StatementFault>
     ensures { result ≡ shift_by kind operands }
@@ -150,11 +137,7 @@ pub fn shift_by(kind: ShiftByKind, operands: Operands) -> Result<Instruction, St
     Ok(Instruction::One(Op::ShiftBy(kind, rd, rt, amount)))
 }
 
-/// `sllv rd,rt,rs`, and the other mnemonics of its row.
-///
-/// # Errors
-///
-/// `Operand` where these are not the operands.
+/// `sllv rd,rt,rs`
 #[tactic(auto, unfolding(crate::specs::Rows::shift_var))]
 pub fn shift_var(kind: ShiftVarKind, operands: Operands) -> Result<Instruction, StatementFault>
     ensures { result ≡ shift_var kind operands }
@@ -164,11 +147,7 @@ pub fn shift_var(kind: ShiftVarKind, operands: Operands) -> Result<Instruction, 
     Ok(Instruction::One(op))
 }
 
-/// `addiu rt,rs,n`, and the other mnemonics of its row.
-///
-/// # Errors
-///
-/// `Operand` where these are not the operands; `Number` where n is not -32768 to 32767.
+/// `addiu rt,rs,n`
 #[tactic(auto, unfolding(crate::specs::Rows::imm))]
 pub fn imm(kind: ImmKind, operands: Operands) -> Result<Instruction, StatementFault>
     ensures { result ≡ imm kind operands }
@@ -180,11 +159,7 @@ pub fn imm(kind: ImmKind, operands: Operands) -> Result<Instruction, StatementFa
     Ok(Instruction::One(Op::Imm(kind, rt, rs, n)))
 }
 
-/// `andi rt,rs,n`, and the other mnemonics of its row.
-///
-/// # Errors
-///
-/// `Operand` where these are not the operands; `Number` where n is not 0 to 65535.
+/// `andi rt,rs,n`
 #[tactic(auto, unfolding(crate::specs::Rows::logic))]
 pub fn logic(kind: LogicKind, operands: Operands) -> Result<Instruction, StatementFault>
     ensures { result ≡ logic kind operands }
@@ -196,11 +171,7 @@ pub fn logic(kind: LogicKind, operands: Operands) -> Result<Instruction, Stateme
     Ok(Instruction::One(Op::Logic(kind, rt, rs, n as u16)))
 }
 
-/// `lui rt,n`.
-///
-/// # Errors
-///
-/// `Operand` where these are not the operands; `Number` where n is not 0 to 65535.
+/// `lui rt,n`
 #[tactic(auto, unfolding(crate::specs::Rows::lui))]
 pub fn lui(operands: Operands) -> Result<Instruction, StatementFault>
     ensures { result ≡ lui operands }
@@ -211,11 +182,7 @@ pub fn lui(operands: Operands) -> Result<Instruction, StatementFault>
     Ok(Instruction::One(Op::Lui(rt, n as u16)))
 }
 
-/// `mult rs,rt`, and the other mnemonics of its row.
-///
-/// # Errors
-///
-/// `Operand` where these are not the operands.
+/// `mult rs,rt`
 #[tactic(auto, unfolding(crate::specs::Rows::mult))]
 pub fn mult(kind: MultKind, operands: Operands) -> Result<Instruction, StatementFault>
     ensures { result ≡ mult kind operands }
@@ -224,11 +191,7 @@ pub fn mult(kind: MultKind, operands: Operands) -> Result<Instruction, Statement
     Ok(Instruction::One(Op::Mult(kind, as_register(rs)?, as_register(rt)?)))
 }
 
-/// `mfhi rd`, and the other mnemonics of its row.
-///
-/// # Errors
-///
-/// `Operand` where these are not the operands.
+/// `mfhi rd`
 #[tactic(auto, unfolding(crate::specs::Rows::move_from))]
 pub fn move_from(kind: MoveFromKind, operands: Operands) -> Result<Instruction, StatementFault>
     ensures { result ≡ move_from kind operands }
@@ -237,11 +200,7 @@ pub fn move_from(kind: MoveFromKind, operands: Operands) -> Result<Instruction, 
     Ok(Instruction::One(Op::MoveFrom(kind, rd)))
 }
 
-/// `mthi rs`, and the other mnemonics of its row.
-///
-/// # Errors
-///
-/// `Operand` where these are not the operands.
+/// `mthi rs`
 #[tactic(auto, unfolding(crate::specs::Rows::move_to))]
 pub fn move_to(kind: MoveToKind, operands: Operands) -> Result<Instruction, StatementFault>
     ensures { result ≡ move_to kind operands }
@@ -250,11 +209,7 @@ pub fn move_to(kind: MoveToKind, operands: Operands) -> Result<Instruction, Stat
     Ok(Instruction::One(Op::MoveTo(kind, rs)))
 }
 
-/// `lw rt,n(base)`, and the other mnemonics of its row.
-///
-/// # Errors
-///
-/// `Operand` where these are not the operands; `Number` where n is not -32768 to 32767.
+/// `lw rt,n(base)`
 #[tactic(auto, unfolding(crate::specs::Rows::load))]
 pub fn load(kind: LoadKind, operands: Operands) -> Result<Instruction, StatementFault>
     ensures { result ≡ load kind operands }
@@ -266,11 +221,7 @@ pub fn load(kind: LoadKind, operands: Operands) -> Result<Instruction, Statement
     Ok(Instruction::One(Op::Load(kind, rt, base, n)))
 }
 
-/// `sw rt,n(base)`, and the other mnemonics of its row.
-///
-/// # Errors
-///
-/// `Operand` where these are not the operands; `Number` where n is not -32768 to 32767.
+/// `sw rt,n(base)`
 #[tactic(auto, unfolding(crate::specs::Rows::store))]
 pub fn store(kind: StoreKind, operands: Operands) -> Result<Instruction, StatementFault>
     ensures { result ≡ store kind operands }
@@ -282,11 +233,7 @@ pub fn store(kind: StoreKind, operands: Operands) -> Result<Instruction, Stateme
     Ok(Instruction::One(Op::Store(kind, rt, base, n)))
 }
 
-/// `beq rs,rt,T`, and the other mnemonics of its row.
-///
-/// # Errors
-///
-/// `Operand` where these are not the operands; `Number` where T is an index above 4096.
+/// `beq rs,rt,T`
 #[tactic(auto, unfolding(crate::specs::Rows::branch_two))]
 pub fn branch_two(kind: BranchTwoKind, operands: Operands) -> Result<Instruction, StatementFault>
     ensures { result ≡ branch_two kind operands }
@@ -297,11 +244,7 @@ pub fn branch_two(kind: BranchTwoKind, operands: Operands) -> Result<Instruction
     Ok(Instruction::BranchTwo(kind, rs, rt, as_target(target)?))
 }
 
-/// `blez rs,T`, and the other mnemonics of its row.
-///
-/// # Errors
-///
-/// `Operand` where these are not the operands; `Number` where T is an index above 4096.
+/// `blez rs,T`
 #[tactic(auto, unfolding(crate::specs::Rows::branch_one))]
 pub fn branch_one(kind: BranchOneKind, operands: Operands) -> Result<Instruction, StatementFault>
     ensures { result ≡ branch_one kind operands }
@@ -311,11 +254,7 @@ pub fn branch_one(kind: BranchOneKind, operands: Operands) -> Result<Instruction
     Ok(Instruction::BranchOne(kind, rs, as_target(target)?))
 }
 
-/// `j T`.
-///
-/// # Errors
-///
-/// `Operand` where these are not the operands; `Number` where T is an index above 4096.
+/// `j T`
 #[tactic(auto, unfolding(crate::specs::Rows::jump))]
 pub fn jump(operands: Operands) -> Result<Instruction, StatementFault>
     ensures { result ≡ jump operands }
@@ -323,11 +262,7 @@ pub fn jump(operands: Operands) -> Result<Instruction, StatementFault>
     Ok(Instruction::Jump(as_target(one_operand(operands)?)?))
 }
 
-/// `jal T`.
-///
-/// # Errors
-///
-/// `Operand` where these are not the operands; `Number` where T is an index above 4096.
+/// `jal T`
 #[tactic(auto, unfolding(crate::specs::Rows::jump_link))]
 pub fn jump_link(operands: Operands) -> Result<Instruction, StatementFault>
     ensures { result ≡ jump_link operands }
@@ -335,11 +270,7 @@ pub fn jump_link(operands: Operands) -> Result<Instruction, StatementFault>
     Ok(Instruction::JumpLink(as_target(one_operand(operands)?)?))
 }
 
-/// `jr rs`.
-///
-/// # Errors
-///
-/// `Operand` where these are not the operands.
+/// `jr rs`
 #[tactic(auto, unfolding(crate::specs::Rows::jump_reg))]
 pub fn jump_reg(operands: Operands) -> Result<Instruction, StatementFault>
     ensures { result ≡ jump_reg operands }
@@ -348,11 +279,7 @@ pub fn jump_reg(operands: Operands) -> Result<Instruction, StatementFault>
     Ok(Instruction::One(Op::JumpReg(rs)))
 }
 
-/// `out rs`.
-///
-/// # Errors
-///
-/// `Operand` where these are not the operands.
+/// `out rs`
 #[tactic(auto, unfolding(crate::specs::Rows::out))]
 pub fn out(operands: Operands) -> Result<Instruction, StatementFault>
     ensures { result ≡ out operands }
@@ -361,11 +288,7 @@ pub fn out(operands: Operands) -> Result<Instruction, StatementFault>
     Ok(Instruction::One(Op::Out(rs)))
 }
 
-/// `halt`.
-///
-/// # Errors
-///
-/// `Operand` where there are operands.
+/// `halt`
 #[tactic(auto, unfolding(crate::specs::Rows::halt))]
 pub fn halt(operands: Operands) -> Result<Instruction, StatementFault>
     ensures { result ≡ halt operands }
@@ -374,11 +297,7 @@ pub fn halt(operands: Operands) -> Result<Instruction, StatementFault>
     Ok(Instruction::One(Op::Halt))
 }
 
-/// `jalr rd,rs`, and `jalr rs` with register 31 as rd.
-///
-/// # Errors
-///
-/// `Operand` where these are not the operands.
+/// `jalr rd,rs`, and `jalr rs` with $31 as rd
 #[tactic(auto, unfolding(crate::specs::Rows::jump_link_reg))]
 pub fn jump_link_reg(operands: Operands) -> Result<Instruction, StatementFault>
     ensures { result ≡ jump_link_reg operands }
@@ -391,11 +310,7 @@ pub fn jump_link_reg(operands: Operands) -> Result<Instruction, StatementFault>
     Ok(Instruction::One(Op::JumpLinkReg(rd, rs)))
 }
 
-/// `nop`, as `sll $0,$0,0`.
-///
-/// # Errors
-///
-/// `Operand` where there are operands.
+/// `nop`
 #[tactic(auto, unfolding(crate::specs::Rows::nop))]
 pub fn nop(operands: Operands) -> Result<Instruction, StatementFault>
     ensures { result ≡ nop operands }
@@ -405,11 +320,7 @@ pub fn nop(operands: Operands) -> Result<Instruction, StatementFault>
     Ok(Instruction::One(Op::ShiftBy(ShiftByKind::Sll, numbered(0), numbered(0), amount)))
 }
 
-/// `move rd,rs`, as `addu rd,rs,$0`.
-///
-/// # Errors
-///
-/// `Operand` where these are not the operands.
+/// `move rd,rs`
 #[tactic(auto, unfolding(crate::specs::Rows::copy))]
 pub fn copy(operands: Operands) -> Result<Instruction, StatementFault>
     ensures { result ≡ copy operands }
@@ -443,11 +354,7 @@ fn immediate(rd: Gpr, word: u32) -> Instruction
     }
 }
 
-/// `li rd,N`: one machine instruction where one will do, else two.
-///
-/// # Errors
-///
-/// `Operand` where these are not the operands; `Number` where N is not -2^31 to 2^32 - 1.
+/// `li rd,N`
 #[tactic(auto, unfolding(crate::specs::Rows::load_immediate))]
 pub fn load_immediate(operands: Operands) -> Result<Instruction, StatementFault>
     ensures { result ≡ load_immediate operands }
@@ -458,11 +365,7 @@ pub fn load_immediate(operands: Operands) -> Result<Instruction, StatementFault>
     Ok(immediate(rd, word))
 }
 
-/// `la rd,NAME`, before the label is resolved.
-///
-/// # Errors
-///
-/// `Operand` where these are not the operands.
+/// `la rd,NAME`
 #[tactic(auto, unfolding(crate::specs::Rows::load_address))]
 pub fn load_address(operands: Operands) -> Result<Instruction, StatementFault>
     ensures { result ≡ load_address operands }
@@ -504,13 +407,7 @@ fn row_of(mnemonic: Mnemonic, operands: Operands) -> Result<Instruction, Stateme
     }
 }
 
-/// The instruction of a mnemonic with the tokens of its operands; a `release`, whose operand is a list, fails
-/// here.
-///
-/// # Errors
-///
-/// `Operand` where the number or the kinds of the operands are not the mnemonic's; `Number` where a number is
-/// out of its range.
+/// The instruction of a mnemonic with the tokens of its operands; a `release` has none.
 pub fn with_operands(mnemonic: Mnemonic, tokens: &[Token]) -> Result<Instruction, StatementFault>
     ensures { result ≡ with_operands mnemonic tokens.now }
 {

@@ -12,8 +12,8 @@ use std::alloc::AllocError;
 use task_descriptor::descriptor::Descriptor;
 use task_lives::life::{Ending, Life};
 
-/// The number round the ring of the unit that halted, in a run that is as `standing` tells and in which `retired` tasks
-/// retired; a number that no unit has if none halted or that is not known.
+/// The unit that halted in a run that stands so, in which `retired` tasks retired; if none did, or that is not known, a
+/// number that no unit has.
 pub fn halted_unit(units: u32, retired: u32, standing: Option<Standing>) -> u32
     requires { 0 < units }
     ensures { result ≡ halted_unit_of units retired standing }
@@ -98,8 +98,7 @@ pub(crate) fn push_names(
     Ok(())
 }
 
-/// The name of a task, or `?` for a number that no task has; letters, digits and `_` alone, so that nothing in it has a
-/// meaning in SVG.
+/// The name of a task; of letters, digits and `_` alone, so that nothing in it has a meaning in SVG.
 pub fn name_of(tasks: &[Descriptor], task: u32) -> &str {
     match tasks.get(task as usize) {
         Some(descriptor) => descriptor.name.as_str(),

@@ -1,4 +1,4 @@
-//! The content of a picture, and its shapes.
+//! What a picture is of, and its shapes.
 
 ghost use Rattle.std.specs.Prelude.{◌≡◌, ◌<◌, ◌≤◌, IfOk, length, nat_le};
 ghost use Rattle.machine_model.specs.Answer.{most_events};
@@ -19,30 +19,30 @@ use task_lives::life::Life;
 use task_lives::lives::lives_of_runs;
 use task_lives::tally::{Tally, add_up};
 
-/// The most events or steps that are drawn one by one; more are summed by stretches.
+/// The most events or steps that are drawn singly; more are summed by stretches.
 pub const MOST_SINGLE: u32 = 2_000;
 
-/// The content of a picture: the lives, events and waits of a run, and the columns in which they are.
+/// What a picture is of: the lives, events and waits of a run, and in which columns they come.
 #[derive(Drop)]
 pub struct Chart {
-    /// What the columns are, and how many columns and units there are.
+    /// How many columns and units there are.
     pub axis: Axis,
     /// The column of each event, from 1.
     pub columns: Vec<u32>,
-    /// The events, in order.
+    /// The events.
     pub events: Vec<Event>,
-    /// The lives; their `first` and `last` are columns, from 0.
+    /// The lives; their first and last events are columns, from 0.
     pub lives: Vec<Life>,
-    /// The tally of the lives.
+    /// Their tally.
     pub tally: Tally,
-    /// The number round the ring of the unit that halted; if none did, a number that no unit has.
+    /// The unit that halted; if none did, a number that no unit has.
     pub halted: u32,
-    /// The waits, which only pictures of steps have.
+    /// The waits, which pictures of steps have.
     pub waits: Vec<Wait>,
 }
 
 impl Chart {
-    /// Whether events or steps are drawn one by one: there are at most `MOST_SINGLE`.
+    /// Whether events or steps are drawn singly.
     pub fn is_single(&self) -> bool
         ensures { result ≡ nat_le self.now.axis.count 2000 }
     {
@@ -50,12 +50,9 @@ impl Chart {
     }
 }
 
-/// The content of a picture of the events of a history of `units` units, with how the run is at its end, if that is known.
-/// The history has at most 1,000,000 events, and no event of it is at a position where there is no unit.
-///
-/// # Errors
-///
-/// `AllocError` where memory was refused.
+/// What a picture of the events of a history of `units` units is of; it is known how the run stands, or not. The history
+/// has at most 1,000,000 events, and no event of it is at a position where there is no unit. An error means that memory was
+/// refused.
 pub fn chart_of_events(
     alloc: Global,
     units: u32,
@@ -88,11 +85,8 @@ pub fn chart_of_events(
     })
 }
 
-/// The shapes of a picture: of its lives, waits and events, or of the stretches of a long run.
-///
-/// # Errors
-///
-/// `AllocError` where memory was refused.
+/// The shapes of a chart: of its lives, its waits and its events, or of the stretches of a long run. An error means that
+/// memory was refused.
 pub fn shapes_of(alloc: Global, chart: &Chart) -> Result<Vec<Shape>, AllocError>
     requires { HasRoom chart.now }
     ensures { IfOk result (λ shapes. meanings shapes.items ≡ told chart.now) }

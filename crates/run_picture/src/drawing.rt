@@ -19,14 +19,10 @@ use task_descriptor::descriptor::Descriptor;
 use task_descriptor::program::Program;
 use task_lives::tally::Tally;
 
-/// The picture of the history of a run of a program of this name, which may be empty, on `units` units, at least one: an
-/// SVG file with no script and no font of its own. It does not say how the run ended. The history has at most 1,000,000
-/// events, and no event of it is at a position where there is no unit; this holds for every history of a machine
-/// (`task_lives::laws::histories_fit`).
-///
-/// # Errors
-///
-/// `AllocError` where memory was refused.
+/// Draws the history of a run of a program of this name, which may be empty, on `units` units, at least one: one
+/// SVG file, with no script and no font of its own. The history has at most 1,000,000 events, and no event of it is
+/// at a position where there is no unit; this holds for every history of a machine
+/// (`task_lives::laws::histories_fit`). How the run stands is not said. An error means that memory was refused.
 pub fn draw(
     alloc: Global,
     program: &Program,
@@ -41,12 +37,8 @@ pub fn draw(
     draw_ended(alloc, program, name, "", units, None, runs)
 }
 
-/// The picture of a history, as `draw` makes it, which also says how the run is after the history, if that is known, and
-/// shows which task halted. `said` is SVG text, which may be empty and is put to the right of the legend.
-///
-/// # Errors
-///
-/// `AllocError` where memory was refused.
+/// Draws a history as `draw` does; if it is known how the run stands after it, the picture says so, and shows which task
+/// halted. `said` is text of SVG that stands beside that, and may be empty. An error means that memory was refused.
 pub fn draw_ended(
     alloc: Global,
     program: &Program,
@@ -97,11 +89,7 @@ fn write_opening(
     )
 }
 
-/// Adds the start tag of the root element, and its title.
-///
-/// # Errors
-///
-/// `AllocError` where memory was refused; a part may have been added.
+/// Writes the beginning of the root element, and its title. An error means that memory was refused.
 pub fn write_root(text: &mut String, name: &str, axis: Axis) -> Result<(), AllocError> {
     let height = (bottom(axis.units) + 9_200) / 100;
     write!(
@@ -128,11 +116,8 @@ fn outcome(
     Ok(elements)
 }
 
-/// Adds the lanes, the axis, the shapes of a picture, its labels, and the end of the file.
-///
-/// # Errors
-///
-/// `AllocError` where memory was refused; a part may have been added.
+/// Writes lanes, the axis, the shapes of a chart, its labels, and the end of the file. An error means that memory was
+/// refused.
 pub fn write_chart(
     alloc: Global,
     text: &mut String,

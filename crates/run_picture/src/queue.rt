@@ -1,12 +1,11 @@
-//! The queue of the units at work: the position of an event in it, and its length after an event.
+//! The queue of the units at work: where in it an event is, and how long it is after an event.
 
 ghost use Rattle.std.specs.Prelude.{◌≡◌, ◌+◌, ◌<◌, ◌≤◌, ◌^◌};
 ghost use Rattle.machine_model.specs.HeadEvent.{active_after, position_of as position_of_event};
 
 use machine_model::event::Event;
 
-/// The position of an event in the queue, 0 at the head, where `active` units are at work. An Assign is at the position
-/// after the tail.
+/// The position of an event, where the given number of units are at work.
 pub fn position_of(active: u64, event: Event) -> u64
     ensures { result ≡ position_of_event active event }
 {
@@ -22,7 +21,7 @@ pub fn position_of(active: u64, event: Event) -> u64
     }
 }
 
-/// How many units are at work after an event, where `active` were before it.
+/// How many units are at work after an event, given how many were before it.
 pub fn active_with(active: u64, event: Event) -> u64
     requires { active < 2 ^ 63 }
     ensures value { result ≡ active_after active event }

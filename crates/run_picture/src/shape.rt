@@ -1,12 +1,11 @@
-//! The vocabulary of pictures. An element has a place, a class and, if it is a label, words; a shape also has a meaning.
-//! All lengths are in hundredths of a pixel, from the left and from the top; units have their numbers round the ring,
-//! tasks their numbers in the program, both from 0.
+//! The vocabulary of pictures. An element has a place, a class and, if it is a label, words; a shape also stands for
+//! something. All lengths are in hundredths of a pixel, from the left and from above.
 
 use machine_model::event::Standing;
 use task_lives::life::{Ending, Life};
 use task_lives::tally::Tally;
 
-/// The look of an element: a class of the style sheet.
+/// How an element looks: a class of the style sheet.
 #[derive(Clone, Copy, Debug)]
 pub enum Style {
     /// Further text.
@@ -33,11 +32,11 @@ pub enum Style {
     Instruction,
     /// An instruction, where events have little room.
     FineInstruction,
-    /// A register that travels from one unit to the next.
+    /// A register that goes from one unit to the next.
     Arrow,
-    /// A register that travels from one unit to the next, where events have little room.
+    /// A register that goes from one unit to the next, where events have little room.
     FineArrow,
-    /// The number of the register, right of its arrow.
+    /// The register beside its arrow.
     RegisterName,
     /// Where a squash begins.
     SquashMark,
@@ -51,12 +50,12 @@ pub enum Style {
     WaitToPass,
 }
 
-/// The words of a label.
+/// What a label says.
 #[derive(Clone, Copy, Debug)]
 pub enum LabelText {
     /// The tally of the lives.
     Sums(Tally),
-    /// How the run is at the end of its history.
+    /// How the run stands.
     HowItStands(Standing),
     /// The number of a unit.
     OfUnit(u32),
@@ -68,9 +67,9 @@ pub enum LabelText {
     Task(u32, usize),
     /// A register's number.
     Register(u8),
-    /// The note of a picture of single events or steps.
+    /// What is to be known of a picture of single events or steps.
     Single(Counted),
-    /// The note of a picture of a long run, with the number of events or steps that are summed in a column.
+    /// How many events or steps are summed in a column.
     Summed(Counted, u32),
 }
 
@@ -83,12 +82,12 @@ pub enum Counted {
     Steps,
 }
 
-/// The columns of a picture, from left to right, and its lanes.
+/// How many columns a picture has from left to right, and of how many units it has lanes.
 #[derive(Clone, Copy, Debug)]
 pub struct Axis {
     /// What the columns are.
     pub counted: Counted,
-    /// How many units, and so lanes, there are.
+    /// How many units there are.
     pub units: u32,
     /// How many columns there are: events or steps.
     pub count: u32,
@@ -107,33 +106,33 @@ pub struct StretchTally {
     pub dropped: u64,
 }
 
-/// The share of a stretch of events or steps that a unit spent on tasks that ended in one way.
+/// How much of a stretch of events or steps a unit spent on tasks that ended in one way.
 #[derive(Clone, Copy, Debug)]
 pub struct StretchShare {
-    /// The number of the unit round the ring.
+    /// The number of the unit.
     pub unit: u32,
     /// The ending.
     pub ending: Ending,
-    /// How many events or steps of the stretch the share has.
+    /// How many events or steps of the stretch it is.
     pub count: u64,
     /// The first event or step of the stretch, from 1.
     pub first: u64,
-    /// The last event or step of the stretch, from 1.
+    /// The last event or step of the stretch.
     pub last: u64,
     /// What happens in the stretch on all units.
     pub tally: StretchTally,
 }
 
-/// The unit that has to send a register for which another waits.
+/// Who owes a register.
 #[derive(Clone, Copy, Debug, PartialEq, Eq)]
 pub struct Debt {
-    /// The register's number, 0 to 33.
+    /// The register's number.
     pub register: u8,
-    /// The number of the task that has to send it.
+    /// The task that owes it.
     pub task: u32,
-    /// The number, round the ring, of that task's unit.
+    /// The unit of that task.
     pub unit: u32,
-    /// Whether the register was sent and is on its way.
+    /// Whether the register is on its way.
     pub is_sent: bool,
 }
 
@@ -150,10 +149,10 @@ pub enum Why {
     HasFinished,
 }
 
-/// Consecutive steps in which a unit waits for one reason.
+/// Steps, one after the other, in which a unit waits for one reason.
 #[derive(Clone, Copy, Debug, PartialEq, Eq)]
 pub struct Wait {
-    /// The number of the unit round the ring.
+    /// The number of the unit.
     pub unit: u32,
     /// The number of its task.
     pub task: u32,
@@ -165,20 +164,20 @@ pub struct Wait {
     pub why: Why,
 }
 
-/// The meaning of a shape. Events and steps are numbered from 1; only those of a life, from 0.
+/// What a shape stands for. Events and steps are numbered from 1; only those of a life, from 0.
 #[derive(Clone, Copy, Debug)]
 pub enum Meaning {
     /// Nothing.
     Nothing,
-    /// A life, and whether it is of the task that halted.
+    /// A life, and whether it is that of the task that halted.
     OfLife(Counted, Life, bool),
-    /// In the event or step of this number this unit executes an instruction.
+    /// In this event or step a unit executes an instruction.
     OfExec(Counted, u32, u32),
-    /// In the event or step of this number this register travels from one unit to another.
+    /// In this event or step a register goes from one unit to another.
     OfTransfer(Counted, u32, u8, u32, u32),
-    /// In the event or step of this number this register is sent by this unit, which has stopped.
+    /// In this event or step a register is sent by this unit, which has stopped.
     OfDrain(Counted, u32, u8, u32),
-    /// In the event or step of this number all after this unit is squashed.
+    /// In this event or step what follows a unit is squashed.
     OfSquash(Counted, u32, u32),
     /// A unit waits.
     OfWait(Wait),
@@ -186,20 +185,20 @@ pub enum Meaning {
     OfShare(Counted, StretchShare),
 }
 
-/// The form of an element, and its place: first the distance from the left, then from the top.
+/// The form of an element.
 #[derive(Clone, Copy, Debug)]
 pub enum Geometry {
-    /// A rectangle: its upper left corner, its width and its height.
+    /// A rectangle: where its left upper corner is, and how wide and high it is.
     Rectangle(u64, u64, u64, u64),
     /// A line from one point to another.
     Line(u64, u64, u64, u64),
     /// A small triangle that points down, from its left upper corner.
     Wedge(u64, u64),
-    /// A label: the place of its first letter, its middle or its last letter, as its style says, and its words.
+    /// A label: where its first letter stands, or the one in its middle or the last one, as its style says.
     Label(u64, u64, LabelText),
 }
 
-/// An element, which by itself has no meaning: a part of the frame, or a label.
+/// An element, which by itself stands for nothing: a part of the frame, or a label.
 #[derive(Clone, Copy, Debug)]
 pub struct Element {
     /// How it looks.
@@ -208,11 +207,11 @@ pub struct Element {
     pub form: Geometry,
 }
 
-/// An element with its meaning.
+/// An element and what it stands for.
 #[derive(Clone, Copy, Debug)]
 pub struct Shape {
     /// Its look and its place.
     pub element: Element,
-    /// What it means.
+    /// What it stands for.
     pub meaning: Meaning,
 }

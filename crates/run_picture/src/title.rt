@@ -1,4 +1,4 @@
-//! The title of a picture: the program, if it has a name, and how many units and events or steps there are.
+//! What a picture is called: the program, if it has a name, and how many units and events or steps there are.
 
 use crate::shape::Axis;
 use crate::shape_text::word_of_counted;
@@ -8,11 +8,8 @@ use std::alloc::AllocError;
 /// How many bytes of a name are shown.
 const MOST_SHOWN: usize = 60;
 
-/// Adds the title of a picture: the program's name, unless that is empty, and how many units and events or steps there are.
-///
-/// # Errors
-///
-/// `AllocError` where memory was refused; a part may have been added.
+/// Writes what a picture is called: the program's name, unless that is empty, and how many units and events or steps there
+/// are. An error means that memory was refused.
 pub fn write_title(text: &mut String, name: &str, axis: Axis) -> Result<(), AllocError> {
     let between = if name.is_empty() { ": " } else { ", " };
     if name.is_empty() {
@@ -30,12 +27,8 @@ pub fn write_title(text: &mut String, name: &str, axis: Axis) -> Result<(), Allo
     )
 }
 
-/// Adds a name; of a long one, its first bytes and two periods. A byte that has a meaning in SVG is written as its entity,
-/// and one that does not print as `\x` and two hexadecimal digits.
-///
-/// # Errors
-///
-/// `AllocError` where memory was refused; a part may have been added.
+/// Writes a name; of a long one, its first bytes and two periods. A byte that has a meaning in SVG is written by its name
+/// there, and one that does not print as `\x` and two hexadecimal digits. An error means that memory was refused.
 pub fn write_name(text: &mut String, name: &[u8]) -> Result<(), AllocError> {
     for byte in &name[..name.len().min(MOST_SHOWN)] {
         match *byte {

@@ -1,4 +1,4 @@
-//! Where things are in the picture. All lengths are in pixels, from the left and from the top.
+//! Where things stand in the picture. All lengths are in pixels, from the left and from above.
 
 ghost use Rattle.std.specs.Prelude.{◌≤◌};
 

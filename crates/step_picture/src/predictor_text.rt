@@ -1,4 +1,4 @@
-//! The name of a predictor in a picture.
+//! What the picture calls a predictor.
 
 use jobs::job::Prediction;
 use std::alloc::AllocError;
@@ -6,11 +6,7 @@ use std::alloc::AllocError;
 /// How many numbers of a list are named.
 const MOST_NAMED: usize = 24;
 
-/// Adds the name of a predictor; of a long list, the first numbers.
-///
-/// # Errors
-///
-/// `AllocError` where memory was refused; a part may have been added.
+/// Writes what a predictor is called; of a long list, the first numbers. An error means that memory was refused.
 pub fn write_predictor(text: &mut String, predict: &Prediction) -> Result<(), AllocError> {
     let numbers = match predict {
         Prediction::First => return text.push_str("first"),

@@ -1,4 +1,4 @@
-//! The texts of build faults.
+//! What is reported about a program's parts that are refused.
 
 use crate::program::BuildFault;
 use std::error::Error;

@@ -6,39 +6,39 @@ use crate::places::Places;
 use mips_instructions::instruction::Op;
 use mips_instructions::number::{Place, RegSet};
 
-/// The stop bits of an instruction: whether the task ends after it.
+/// Where a task ends: the stop bits of an instruction.
 #[derive(Clone, Copy, Debug, PartialEq, Eq)]
 pub enum Stop {
-    /// The task continues after the instruction.
+    /// It continues after this instruction.
     None,
-    /// `!s`: the task ends after the instruction.
+    /// It ends after this instruction.
     Always,
-    /// `!st`: the task ends if the branch is taken.
+    /// It ends if the branch is taken.
     Taken,
-    /// `!sn`: the task ends if the branch is not taken.
+    /// It ends if the branch is not taken.
     NotTaken,
 }
 
-/// An instruction with its forward bit and its stop bits.
+/// An instruction with its marks.
 #[derive(Clone, Copy, Debug, PartialEq, Eq)]
 pub struct Marked {
-    /// The instruction without marks.
+    /// The instruction.
     pub op: Op,
-    /// The forward bit: whether the values that the instruction writes go to the later tasks at once.
+    /// The forward bit: the values that it writes go to the successors.
     pub forward: bool,
     /// The stop bits.
     pub stop: Stop,
 }
 
-/// A task descriptor: what the sequencer knows of a task.
+/// What the sequencer knows of a task.
 #[derive(Debug, Drop)]
 pub struct Descriptor {
-    /// The task's name; no two tasks of a program share one.
+    /// The task's name.
     pub name: Name,
-    /// The code index of the task's first instruction.
+    /// The index of its first instruction.
     pub entry: Place,
-    /// The create mask: the registers that the task may produce; in a program never register 0.
+    /// The create mask: the registers for which the task may produce values.
     pub create: RegSet,
-    /// The code indices of the possible successors' first instructions, in order; one may be listed twice.
+    /// The possible successors' first instructions, in order; one may stand there twice.
     pub targets: Places,
 }

@@ -1,5 +1,5 @@
-//! The control flow graph of an annotated program: inner edges and exits of tasks, and each task's instructions.
-//! Also a step of a search along edges.
+//! Where the instructions of an annotated program lead: inner edges, exits, which instructions belong to a
+//! task, and a step of a search.
 #![tactic(auto)]
 
 pub mod edges;

@@ -1,4 +1,4 @@
-//! The program texts and certificates that the tests share, and how they are read and accepted.
+//! The program texts and certificates that the tests share, and what is accepted of them.
 #![tactic(auto)]
 
 pub mod acceptance;

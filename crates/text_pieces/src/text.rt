@@ -1,4 +1,4 @@
-//! A text that is held in pieces.
+//! A text in pieces.
 
 use crate::piece::Piece;
 use std::alloc::{AllocError, Global};
@@ -39,8 +39,8 @@ impl Text {
         }
     }
 
-    /// Adds bytes at the end. Those that complete the last line join its piece; the others become a piece of
-    /// their own.
+    /// Adds bytes at the end. Those that complete the last line join its piece; the others become a piece
+    /// of their own.
     ///
     /// # Errors
     ///
@@ -56,7 +56,7 @@ impl Text {
         Ok(())
     }
 
-    /// Whether the text has at most `most` bytes.
+    /// Whether it has at most `most` bytes.
     pub fn is_within(&self, most: usize) -> bool
         ensures { (result ≡ true) ↔ (length self.now ≤ most) }
     {
@@ -71,7 +71,7 @@ impl Text {
         self.last.as_slice().len() <= left
     }
 
-    /// The pieces in order, cut after LFs; together they are the text.
+    /// The pieces in order, cut after LFs.
     ///
     /// # Errors
     ///

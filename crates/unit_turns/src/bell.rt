@@ -1,4 +1,4 @@
-//! Bells, by which a worker with nothing to do is woken.
+//! What a worker with nothing to do waits for.
 
 use std::sync::atomic::{AtomicU64, Ordering};
 use std::sync::{Condvar, MutexGuard, Wait};
@@ -11,17 +11,17 @@ const LOOKS: u32 = 200;
 /// How often it does so before it sleeps.
 const ROUNDS: u32 = 50;
 
-/// A bell that can be rung. Nothing is known of `is_rung` but that `ring` establishes it, so a contract that
-/// states it, of code that is proved for each implementation, says that this bell was rung.
+/// What can be rung. Nothing is known of `is_rung` but that `ring` establishes it, so a contract that states it, of code
+/// that is proved for each implementation, says that this bell was rung.
 pub trait Ring {
     ghost is_rung: { Self → Type 0 };
 
-    /// Rings, for each worker that waits.
+    /// Rings, for whoever waits.
     fn ring(&self)
         ensures { is_rung self.now };
 }
 
-/// A bell for a worker with nothing to do: it counts its rings, and wakes a worker that sleeps.
+/// What a worker with nothing to do waits for.
 #[derive(Drop)]
 pub struct Bell {
     rings: AtomicU64,
@@ -37,12 +37,12 @@ impl Bell {
         }
     }
 
-    /// The number of times that the bell has rung.
+    /// How often it has rung.
     pub fn rings(&self) -> u64 {
         self.rings.load(Ordering::SeqCst)
     }
 
-    /// Waits, but only for a while and without the lock, until the bell has rung more than `heard` times.
+    /// Looks for a while, without the lock, whether it has rung more than the given number of times.
     pub fn listen(&self, heard: u64) {
         for _ in 0..ROUNDS {
             if self.rings_soon(heard) {
@@ -63,7 +63,7 @@ impl Bell {
         false
     }
 
-    /// Sleeps until the bell rings, or wakes earlier for no reason; the lock is free meanwhile.
+    /// Sleeps until it rings, or wakes earlier for no reason; the lock is free meanwhile.
     pub fn sleep<'l, T, R: Wait>(&self, rt: &R, guard: MutexGuard<'l, T>) -> MutexGuard<'l, T> {
         self.sleeper.wait(rt, guard)
     }

@@ -2,14 +2,14 @@
 
 use sequencer::predict::Script;
 
-/// The predictor of a run in steps: which target is followed after a task that has not stopped.
+/// Which target is followed after a task that has not stopped.
 #[derive(Debug, Drop)]
 pub enum Predictor {
-    /// The first target.
+    /// The first one.
     First,
-    /// The last target.
+    /// The last one.
     Last,
-    /// The target at the position that a list gives, modulo the number of targets; the list is used over and
-    /// over.
+    /// The one at the position that a list gives, modulo the number of targets; the list is used
+    /// over and over.
     Script(Script),
 }

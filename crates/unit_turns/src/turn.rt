@@ -2,7 +2,7 @@
 
 use machine_model::event::Event;
 
-/// The next act of a worker for one of its units, under the lock.
+/// What a worker does next for one of its units, under the lock.
 #[derive(Clone, Copy, Debug, PartialEq, Eq)]
 pub enum Turn {
     /// Applies this event, which is allowed and belongs to the unit.
@@ -12,6 +12,6 @@ pub enum Turn {
     Choose,
     /// Makes a burst: the unit's next instruction needs nothing but its registers and read-only data.
     Burst,
-    /// Does nothing until the machine has changed.
+    /// Nothing, until the machine has changed.
     Wait,
 }

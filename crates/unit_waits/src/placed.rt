@@ -1,4 +1,4 @@
-//! The places of a machine's units: the instruction before which each is, or the exit after which it has stopped.
+//! Where the units of a machine stand.
 
 ghost use Rattle.std.specs.Prelude.{◌≡◌};
 ghost use Rattle.processor_steps.specs.Processors.{ArePlaced};
