@@ -37,6 +37,7 @@ import curve
 import demonstrate
 import explain
 import faults
+import kanata
 import marks
 import picture
 import sarif
@@ -53,15 +54,15 @@ RUN_EMITS = ("report", "script", "summary", "svg")
 # `check --least` take any number of programs.
 FILES = {"seq": (1, 1), "print": (1, 1), "annotate": (1, 1), "explain": (1, 1), "check": (1, 2), "run": (1, 2), "replay": (2, 3), "curve": (1, 2),
          "demonstrate": (1, 1)}
-NUMBERS = {"budget": 1000000, "units": 16, "workers": 16, "until": 1000000, "steps": 1000000}
+NUMBERS = {"budget": 1000000, "from": 1000000, "to": 1000000, "units": 16, "workers": 16, "until": 1000000, "steps": 1000000}
 # Options that have no value.
 FLAGS = ("least", "no-warnings", "fix", "in-place", "report", "strict", "complete", "with-values", "progress")
 OPTIONS = {"seq": ("budget",), "print": (), "annotate": ("emit", "in-place", "report"), "explain": ("certificate", "script", "no-warnings", "format", "color", "fix", "in-place"),
            "check": ("least", "workers"), "replay": ("least", "units", "emit", "until", "strict", "complete", "format"), "demonstrate": ("units", "steps", "emit"),
-           "run": ("least", "schedule", "units", "workers", "budget", "predict", "emit", "axis", "with-values"),
+           "run": ("least", "schedule", "units", "workers", "budget", "predict", "emit", "axis", "from", "to", "with-values"),
            "curve": ("least", "units", "budget", "predict", "emit", "progress")}
 CHOICES = {"annotate": (*EMITS, "marks"), "replay": ("answers", "summary", "svg", "trace", "json", "perfetto", "state"),
-           "run": (*RUN_EMITS, "trace", "json", "perfetto", "waits", "vcd"), "curve": ("table", "svg"), "demonstrate": ("events", "svg")}
+           "run": (*RUN_EMITS, "trace", "json", "perfetto", "waits", "vcd", "kanata"), "curve": ("table", "svg"), "demonstrate": ("events", "svg")}
 VALUES = {"schedule": ("threads", "steps"), "format": ("text", "sarif", "json"), "color": ("auto", "always", "never"), "axis": ("events", "steps")}
 VERSION = "multiscalar 0.1.0 (proved with rattle-kit-13f logic dac8208d650f15bf)\n"
 # The first byte of a case picks one of so many jobs, but for its highest bit.
@@ -202,8 +203,10 @@ def fit(name, options, files):
         return emit in (None, "answers") and "until" not in options
     if name == "replay" and {"complete", "format"} & {*options}:
         return False
-    return name != "run" or ((in_steps or emit not in ("waits", "vcd")) and ("with-values" not in options or emit == "script")
-                             and ("axis" not in options or emit == "svg" and (in_steps or options["axis"] == "events")))
+    return name != "run" or ((in_steps or emit not in ("waits", "vcd", "kanata")) and ("with-values" not in options or emit == "script")
+                             and ("axis" not in options or emit == "svg" and (in_steps or options["axis"] == "events"))
+                             and (not {"from", "to"} & {*options} or in_steps and emit == "svg" and options.get("axis") != "events"
+                                  and int(options.get("from", 1)) <= int(options.get("to", 1000000))))
 
 
 def is_value(name, key, value):
@@ -522,6 +525,8 @@ def wanted_run(options, given, name, call):
     if "with-values" in options:
         return lambda out, status: is_valued(program, units, out, run) and status in (0, 1, 3) and call(["replay", "--strict", "--units", str(units), "p", "c", "s"], dict(
             zip("pcs", [*given, out.encode("latin-1")])))[1] == 0
+    if {"from", "to"} & {*options}:
+        return lambda out, status: is_well_formed(out) and status in (0, 1, 3)
     if in_steps:
         return wanted_steps(run, program, units, emit, name, options.get("axis", "steps"))
     one = run_text(*given, MODEL_EVENTS)
@@ -572,6 +577,14 @@ def is_well_formed(out):
         return False
 
 
+def is_log(out):
+    """Whether this is a log of instructions."""
+    try:
+        return kanata.read(out) is not None
+    except (AssertionError, KeyError, ValueError):
+        return False
+
+
 def wanted_steps(run, program, units, emit, name, axis):
     """What a run in steps of a program of this name writes, unless the model gave it up."""
     if not run.over():
@@ -580,6 +593,8 @@ def wanted_steps(run, program, units, emit, name, axis):
         shows = {"svg": lambda out: is_picture(out, run.script(), units, axis.removesuffix("s")), "perfetto": lambda out: is_timeline(out, run.script(), units, True),
                  "vcd": lambda out: is_waveform(out, program, units, run.events)}[emit]
         return lambda out, status: status == run.status() and shows(out)
+    if emit == "kanata":
+        return lambda out, status: status == run.status() and is_log(out)
     return {"report": run.report, "script": run.script, "summary": run.summary, "trace": run.trace, "json": lambda: run.json(name), "waits": run.waits}[emit](), run.status()
 
 

@@ -38,7 +38,7 @@ OF_TEXT = (
     "explain --format json", "check --least", "check --least --format json", "demonstrate", "demonstrate --units 3 --emit svg",
 )
 OF_REFUSED = ("seq", "explain", "explain --format sarif", "explain --format json", "explain --color always")
-OF_RUN = ("report", "script", "script --with-values", "summary", "svg", "svg --axis events", "trace", "json", "perfetto", "waits", "vcd")
+OF_RUN = ("report", "script", "script --with-values", "summary", "svg", "svg --axis events", "svg --from 3 --to 9", "trace", "json", "perfetto", "waits", "vcd", "kanata")
 OF_REPLAY = ("answers", "summary", "svg", "trace", "json", "perfetto", "state")
 OF_CURVE = ("--units 4", "--units 16", "--units 4 --emit svg", "--units 16 --emit svg", "--units 3 --progress", "--units 8 --predict last")
 FORMATS = ("text", "sarif", "json")
@@ -331,7 +331,7 @@ WRONG_WORDS = (
     "check --least a.s c", "check a.s c d", "check --workers 0 --least a.s", "check --workers 17 --least a.s", "check --least --least a.s",
     "replay --least a.s", "replay --least a.s e --units 0", "replay --least a.s e --units 17", "replay --least a.s e --emit vcd",
     "replay --least --strict --emit trace a.s e", "replay --least --strict --until 4 a.s e", "replay --least --until 0 a.s e", "run a.s",
-    "run --least a.s c", "run --least --schedule step a.s", "run --least --emit vcd a.s", "run --least --emit waits a.s", "run --least --axis steps a.s",
+    "run --least a.s c", "run --least --schedule step a.s", "run --least --emit vcd a.s", "run --least --emit waits a.s", "run --least --emit kanata a.s", "run --least --schedule steps --from 2 a.s", "run --least --emit svg --from 2 a.s", "run --least --schedule steps --emit svg --from 3 --to 2 a.s", "run --least --axis steps a.s",
     "run --least --axis steps --emit svg a.s", "run --least --with-values a.s", "run --least --predict 16 a.s", "run --least --predict 1,,2 a.s",
     "run --least --predict fisrt a.s", "run --least --workers 0 a.s", "run --least --budget 0 a.s", "curve a.s", "curve --least --emit json a.s",
     "curve --least --units 17 a.s", "curve --least --workers 2 a.s", "demonstrate", "demonstrate --units 0 a.s", "demonstrate --steps 0 a.s",

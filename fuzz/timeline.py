@@ -54,7 +54,7 @@ def expected(script, units, by_steps):
 def found(entries):
     """The same of a timeline."""
     slices = [(it["tid"], it["name"], it["ts"], it["dur"], it["args"]["instructions"], it["args"]["ending"])
-              for it in entries["X"]]
+              for it in entries["X"] if it["cat"] == "task"]
     ends = {it["id"]: it for it in entries["f"]}
     arrows = [(it["id"], it["name"], it["ts"], it["tid"], ends[it["id"]]["tid"]) for it in entries["s"]]
     return slices, arrows, [(it["tid"], it["ts"]) for it in entries["i"]]
@@ -75,7 +75,14 @@ def faults_of(text, script, units, by_steps):
     for what, there, wanted in zip(("slices", "arrows", "squashes"), found(entries), expected(script, units, by_steps)):
         if there != wanted:
             yield f"{len(there)} {what}, not {len(wanted)}, or others"
+    ticks = collections.Counter((it["tid"], it["ts"], it["dur"]) for it in entries["X"] if it["cat"] == "instruction")
+    if sum(ticks.values()) != sum(line.startswith("exec ") for line in script.splitlines()) or any(count > 1 or dur != 1 for (_, _, dur), count in ticks.items()):
+        yield f"{sum(ticks.values())} instructions, or two at one time"
     for it in entries["X"]:
+        if it["cat"] == "instruction" and not any(one["cat"] == "task" and one["tid"] == it["tid"] and one["ts"] <= it["ts"] < one["ts"] + one["dur"] for one in entries["X"]):
+            yield f"an instruction of unit {it['tid']} at {it['ts']} is in no task"
+        if it["cat"] == "instruction":
+            continue
         lanes[it["tid"]].append((it["ts"], it["ts"] + it["dur"]))
     for unit, spans in lanes.items():
         spans.sort()
@@ -128,7 +135,7 @@ def main():
         seen += 1
         faults = list(faults_of(timeline, script, units, by_steps))
         assigned = next(int(line.split()[0]) for line in summary.splitlines() if line.endswith("(all)"))
-        if timeline.count('"ph":"X"') != assigned:
+        if timeline.count('"cat":"task"') != assigned:
             faults.append(f"not {assigned} slices, as the summary has lives")
         failed += len(faults)
         for fault in faults:

@@ -125,7 +125,8 @@ typedef enum {
     MULTISCALAR_RUN_WAITS,
     MULTISCALAR_RUN_VCD,
     MULTISCALAR_RUN_PERFETTO,
-    MULTISCALAR_RUN_SVG_STEPS /* a column for each step; MULTISCALAR_RUN_SVG has one for each event */
+    MULTISCALAR_RUN_SVG_STEPS, /* a column for each step; MULTISCALAR_RUN_SVG has one for each event */
+    MULTISCALAR_RUN_KANATA
 } multiscalar_run_emit;
 
 int multiscalar_run_in_steps(multiscalar_text program, multiscalar_text certificate, uint32_t units, uint32_t budget,

@@ -79,6 +79,7 @@ class RunEmit(IntEnum):
     VCD = 8
     PERFETTO = 9
     SVG_STEPS = 10
+    KANATA = 11
 
 
 class CurveEmit(IntEnum):

@@ -19,7 +19,7 @@ PROGRAM, TEXTS = sys.argv[1], int(sys.argv[2])
 EMITS = {
     "annotate": (multiscalar.AnnotateEmit, ["text", "cert", "keep", "marks"]),
     "replay": (multiscalar.ReplayEmit, ["answers", "summary", "svg", "trace", "json", "perfetto", "state"]),
-    "run": (multiscalar.RunEmit, ["report", "script", "summary", "svg --axis events", "trace", "json", "script --with-values", "waits", "vcd", "perfetto", "svg"]),
+    "run": (multiscalar.RunEmit, ["report", "script", "summary", "svg --axis events", "trace", "json", "script --with-values", "waits", "vcd", "perfetto", "svg", "kanata"]),
     "curve": (multiscalar.CurveEmit, ["table", "svg"]),
 }
 PREDICTIONS = {"first": multiscalar.FIRST, "last": multiscalar.LAST, "1,0": [1, 0]}

@@ -11,8 +11,8 @@ use crate::values::Values;
 use crate::words::UsageFault;
 use clap::error::ErrorKind;
 use jobs::job::{
-    CertificateSource, CheckFormat, Colors, CurveEmit, DemonstrateEmit, Emit, Format, Job, Paths,
-    Prediction, ReplayEmit, RunEmit, Schedule, VerdictFormat, Warnings,
+    ALL_STEPS, CertificateSource, CheckFormat, Colors, CurveEmit, DemonstrateEmit, Emit, Format,
+    Job, Paths, Prediction, ReplayEmit, RunEmit, Schedule, StepRange, VerdictFormat, Warnings,
 };
 use limits::ranges::{Budget, Units, Workers};
 use std::alloc::AllocError;
@@ -49,7 +49,7 @@ static REPLAY_EMITS: [(&str, ReplayEmit); 7] = [
     ("state", ReplayEmit::State),
 ];
 
-static RUN_EMITS: [(&str, RunEmit); 9] = [
+static RUN_EMITS: [(&str, RunEmit); 10] = [
     ("report", RunEmit::Report),
     ("script", RunEmit::Script),
     ("summary", RunEmit::Summary),
@@ -59,6 +59,7 @@ static RUN_EMITS: [(&str, RunEmit); 9] = [
     ("waits", RunEmit::Waits),
     ("vcd", RunEmit::Waveform),
     ("perfetto", RunEmit::Timeline),
+    ("kanata", RunEmit::Pipeline),
 ];
 
 static CURVE_EMITS: [(&str, CurveEmit); 2] = [
@@ -291,24 +292,32 @@ fn run_in(values: &Values<'_, '_>) -> Result<Job, UsageFault>
     }
 }
 
-// What `run` writes. `--with-values` goes with a script, `--axis` with a picture, and waits, a waveform and the
-// columns of steps with a run in steps.
+// What `run` writes. `--with-values` goes with a script, `--axis` with a picture, `--from` and `--to` with one of steps, and
+// waits, a waveform, a log of instructions and the columns of steps with a run in steps.
 fn run_emit_in(values: &Values<'_, '_>, schedule: Schedule) -> Result<RunEmit, UsageFault>
     ensures { IfErr result (Refuses values.now.name.now (values_in values.now.matches.now)) }
 {
     let message =
-        "the value of --emit is report, script, summary, svg, trace, json, perfetto or, with --schedule steps, waits or vcd; --with-values goes with script, and --axis, events or steps, with svg";
+        "the value of --emit is report, script, summary, svg, trace, json, perfetto or, with --schedule steps, waits, vcd or kanata; --with-values goes with script, --axis, events or steps, with svg, and --from and a --to that is not below it with svg of steps";
     let named = values.word("emit", &RUN_EMITS, message)?;
     let in_steps = schedule == Schedule::Steps;
     let valued = values.is_given("with-values");
+    let (first, last) = (values.number("from"), values.number("to"));
+    let is_part = first.is_some() || last.is_some();
+    let range = StepRange {
+        first: first.unwrap_or(ALL_STEPS.first),
+        last: last.unwrap_or(ALL_STEPS.last),
+    };
     let emit = match (named, values.text("axis")) {
-        (RunEmit::Script, None) if valued => Some(RunEmit::ScriptWithValues),
+        (RunEmit::Script, None) if valued && !is_part => Some(RunEmit::ScriptWithValues),
         _ if valued => None,
-        (RunEmit::Picture, None) if in_steps => Some(RunEmit::StepPicture),
-        (RunEmit::Picture, Some("steps")) if in_steps => Some(RunEmit::StepPicture),
+        (RunEmit::Picture, None | Some("steps")) if in_steps && range.first <= range.last => {
+            Some(RunEmit::StepPicture(range))
+        }
+        _ if is_part => None,
         (RunEmit::Picture, None | Some("events")) => Some(RunEmit::Picture),
         (_, Some(_)) => None,
-        (RunEmit::Waits | RunEmit::Waveform, None) if !in_steps => None,
+        (RunEmit::Waits | RunEmit::Waveform | RunEmit::Pipeline, None) if !in_steps => None,
         (named, None) => Some(named),
     };
     match emit {

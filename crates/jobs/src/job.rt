@@ -77,6 +77,22 @@ pub enum VerdictFormat {
     Json,
 }
 
+/// Steps of a run, from one to another, which is not before it; the first step of a run is 1. What is beyond the run's end
+/// is left out.
+#[derive(Clone, Copy, Debug, PartialEq, Eq)]
+pub struct StepRange {
+    /// The first of them.
+    pub first: u32,
+    /// The last of them.
+    pub last: u32,
+}
+
+/// All steps of a run.
+pub const ALL_STEPS: StepRange = StepRange {
+    first: 1,
+    last: u32::MAX,
+};
+
 /// What `run` writes for a run.
 #[derive(Clone, Copy, Debug, PartialEq, Eq)]
 pub enum RunEmit {
@@ -90,8 +106,8 @@ pub enum RunEmit {
     Summary,
     /// The run as a picture, in SVG, with a column for each event.
     Picture,
-    /// The run as a picture, in SVG, with a column for each step: of a run in steps.
-    StepPicture,
+    /// These steps of the run as a picture, in SVG, with a column for each step: of a run in steps.
+    StepPicture(StepRange),
     /// Each event of the history with what it changed.
     Trace,
     /// Each event of the history with what it changed, in JSON, an object on each line, for machines.
@@ -102,6 +118,9 @@ pub enum RunEmit {
     Waveform,
     /// The tasks on each unit as a timeline, in the JSON that viewers of traces read.
     Timeline,
+    /// Each instruction from where it is executed to where its task ends, as a log that the pipeline viewer Konata reads: of a
+    /// run in steps.
+    Pipeline,
 }
 
 /// What `replay` writes for a script.

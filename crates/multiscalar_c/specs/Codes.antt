@@ -39,7 +39,7 @@ formats = format.Text ∷ format.Sarif ∷ format.Json ∷ []
 -- what `run` writes, from 0 on
 abbrev pub run_emits : List RunEmit
 run_emits = run.Report ∷ run.Script ∷ run.Summary ∷ run.Picture ∷ run.Trace ∷ run.Json ∷ run.ScriptWithValues ∷ run.Waits ∷ run.Waveform ∷ run.Timeline
-    ∷ run.StepPicture ∷ []
+    ∷ run.StepPicture (record { first = 1; last = 4294967295 }) ∷ run.Pipeline ∷ []
 
 -- what `replay` writes, from 0 on
 abbrev pub replay_emits : List ReplayEmit

@@ -5,7 +5,8 @@ ghost use Rattle.multiscalar_c.specs.declared.answer.Fault.TheVariants.{Memory, 
 
 use crate::answer::Fault;
 use jobs::job::{
-    CertificateSource, CurveEmit, Emit, Format, Prediction, ReplayEmit, RunEmit, Warnings,
+    ALL_STEPS, CertificateSource, CurveEmit, Emit, Format, Prediction, ReplayEmit, RunEmit,
+    Warnings,
 };
 use jobs::ranges::PredictionList;
 use std::alloc::Global;
@@ -72,7 +73,8 @@ pub(crate) fn run_emit(code: u32) -> Option<RunEmit>
         7 => Some(RunEmit::Waits),
         8 => Some(RunEmit::Waveform),
         9 => Some(RunEmit::Timeline),
-        10 => Some(RunEmit::StepPicture),
+        10 => Some(RunEmit::StepPicture(ALL_STEPS)),
+        11 => Some(RunEmit::Pipeline),
         _ => None,
     }
 }

@@ -250,7 +250,7 @@ fn replay_strictly_of(
 /// 1..=1,000,000, are spent. `predict` is 0 for the first target, 1 for the last, 2 for those at the positions of
 /// the list: 1 to 64 numbers, each 0..=15. `emit` is 0 for the output words and the end, 1 for the script, 2 for the
 /// summary, 3 for the picture, 4 for the trace, 5 for lines of JSON, 6 for the script with what each event did, 7 for
-/// the table of waits, 8 for the waveform, 9 for the timeline, 10 for the picture by steps.
+/// the table of waits, 8 for the waveform, 9 for the timeline, 10 for the picture by steps, 11 for the log of instructions.
 #[unsafe(no_mangle)]
 pub extern "C" fn multiscalar_c_run_steps(
     alloc: Global,

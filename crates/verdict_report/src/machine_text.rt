@@ -4,12 +4,16 @@ ghost use Rattle.std.specs.String.{string_bytes};
 ghost use Rattle.sequencer.specs.Machines.{state, units_of};
 ghost use Rattle.verdict_report.specs.MachineText.{machine_text, retired_text, standing_status, standing_text};
 
+use event_trace::notes::notes;
 use event_trace::source::EventSource;
 use event_trace::timeline_text::timeline;
 use limits::ranges::Units;
 use machine_model::event::Standing;
+use mark_checker::accept::Accepted;
 use report_texts::plain_text::write_words;
+use run_picture::chart::MOST_SINGLE;
 use run_picture::drawing::draw_ended;
+use run_picture::events::single_events;
 use sequencer::machine::Machine;
 use std::alloc::{AllocError, Global};
 use task_descriptor::program::Program;
@@ -63,45 +67,66 @@ pub fn summary_of(
     task_lives::summary::write(alloc, program, &lives)
 }
 
-/// The history of a machine of `units` units, which runs this program, as a picture that gives the program this name, and
-/// that says how the run stands, and beside that this text of SVG.
+/// The history of a machine of `units` units, which runs the program with this text, as a picture that gives the program this
+/// name, and that says how the run stands, and beside that this text of SVG.
 pub fn picture_of(
     alloc: Global,
     units: Units,
     name: &str,
+    text: &[u8],
     said: &str,
     machine: &Machine<'_>,
-    program: &Program,
+    accepted: &Accepted,
 ) -> Result<Vec<u8>, AllocError>
-    requires over { machine.now.accepted.program ≡ program.now }
+    requires over { machine.now.accepted.program ≡ accepted.now.program }
     requires units { units_of machine.now ≡ units }
 {
     histories_fit();
+    let notes = notes_if_single(alloc, units, text, machine, accepted)?;
     let picture = draw_ended(
         alloc,
-        program,
+        accepted.program(),
         name,
         said,
         units.get(),
         Some(machine.outcome()),
+        &notes,
         machine.history(),
     )?;
     Ok(picture.into_bytes())
 }
 
-/// The history of a machine of `units` units, which runs this program, as a timeline.
+// What each event of a machine's history did, if all are drawn singly; else nothing.
+fn notes_if_single(
+    alloc: Global,
+    units: Units,
+    text: &[u8],
+    machine: &Machine<'_>,
+    accepted: &Accepted,
+) -> Result<Vec<String>, AllocError> {
+    let events = single_events(alloc, machine.history())?;
+    if events.len() > MOST_SINGLE as usize {
+        return Ok(Vec::new(alloc));
+    }
+    notes(alloc, accepted, units.get(), text, &events, 0)
+}
+
+/// The history of a machine of `units` units, which runs the program of this name and text, as a timeline.
 pub fn timeline_of(
     alloc: Global,
     units: Units,
+    name: &str,
+    text: &[u8],
     source: EventSource,
     machine: &Machine<'_>,
-    program: &Program,
+    accepted: &Accepted,
 ) -> Result<Vec<u8>, AllocError>
-    requires over { machine.now.accepted.program ≡ program.now }
+    requires over { machine.now.accepted.program ≡ accepted.now.program }
     requires units { units_of machine.now ≡ units }
 {
     histories_fit();
-    let timeline = timeline(alloc, program, units.get(), source, machine.history())?;
+    let runs = machine.history();
+    let timeline = timeline(alloc, accepted, name, text, units.get(), source, runs)?;
     Ok(timeline.into_bytes())
 }
 

@@ -231,9 +231,17 @@ fn bytes_of(
     match form {
         MachineForm::Answers => answers_of(alloc, answers, machine),
         MachineForm::Summary => summary_of(alloc, units, machine, program),
-        MachineForm::Picture => picture_of(alloc, units, name, "", machine, program),
+        MachineForm::Picture => picture_of(alloc, units, name, text, "", machine, accepted),
         MachineForm::Timeline => {
-            timeline_of(alloc, units, EventSource::Script, machine, program)
+            timeline_of(
+                alloc,
+                units,
+                name,
+                text,
+                EventSource::Script,
+                machine,
+                accepted,
+            )
         },
         MachineForm::State => state_of(alloc, units, text, accepted, machine),
     }

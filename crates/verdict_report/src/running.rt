@@ -11,10 +11,11 @@ use crate::machine_text::{picture_of, standing_status_of, summary_of, timeline_o
 use crate::ran::{Extent, Ran};
 use crate::scheduled::run_scheduled;
 use event_script::writing::write;
+use event_trace::pipeline::pipeline;
 use event_trace::source::EventSource;
 use event_trace::streaming::trace;
 use event_trace::telling::TraceForm;
-use jobs::job::{CertificateSource, Prediction, RunEmit, Texts};
+use jobs::job::{CertificateSource, Prediction, RunEmit, StepRange, Texts};
 use limits::ranges::Units;
 use mark_checker::accept::Accepted;
 use report_texts::judging::{Judged, judge};
@@ -142,15 +143,28 @@ fn view_of(
     let count = units.get();
     match emit {
         RunEmit::Summary => summary(alloc, units, ran, program),
-        RunEmit::Picture => event_picture(alloc, units, name, predict, machine, program),
-        RunEmit::StepPicture => step_picture(alloc, units, name, predict, machine, accepted),
-        RunEmit::Timeline => timeline_of(alloc, units, source_of(ran), machine, program),
+        RunEmit::Picture => event_picture(alloc, units, name, text, predict, machine, accepted),
+        RunEmit::StepPicture(range) => {
+            step_picture(alloc, units, name, text, predict, range, machine, accepted)
+        }
+        RunEmit::Timeline => timeline_of(
+            alloc,
+            units,
+            name,
+            text,
+            source_of(ran),
+            machine,
+            accepted,
+        ),
         _ => {
             let events = single_events(alloc, machine.history())?;
             match emit {
                 RunEmit::ScriptWithValues => write_valued(alloc, accepted, count, &events),
                 RunEmit::Waits => Ok(table(alloc, accepted, count, text, &events)?.into_bytes()),
                 RunEmit::Waveform => Ok(waveform(alloc, accepted, count, &events)?.into_bytes()),
+                RunEmit::Pipeline => {
+                    Ok(pipeline(alloc, accepted, count, text, &events)?.into_bytes())
+                }
                 _ => {
                     let form = trace_form(emit, name, ran);
                     let (bytes, _) = trace(alloc, accepted, count, text, &events, form)?;
@@ -192,29 +206,32 @@ fn trace_form<'n>(emit: RunEmit, name: &'n str, ran: &Ran<'_>) -> TraceForm<'n> 
     }
 }
 
-// The picture of the events of a run of a program of this name, with the predictor.
+// The picture of the events of a run of a program of this name and text, with the predictor.
 fn event_picture(
     alloc: Global,
     units: Units,
     name: &str,
+    text: &[u8],
     predict: &Prediction,
     machine: &Machine<'_>,
-    program: &Program,
+    accepted: &Accepted,
 ) -> Result<Vec<u8>, AllocError>
-    requires over { machine.now.accepted.program ≡ program.now }
+    requires over { machine.now.accepted ≡ accepted.now }
     requires units { units_of machine.now ≡ units }
 {
     let mut said = String::from_str(alloc, "predictor: ")?;
     write_predictor(&mut said, predict)?;
-    picture_of(alloc, units, name, said.as_str(), machine, program)
+    picture_of(alloc, units, name, text, said.as_str(), machine, accepted)
 }
 
-// The picture of a run in steps of a program of this name.
+// The picture of some steps of a run in steps of a program of this name and text.
 fn step_picture(
     alloc: Global,
     units: Units,
     name: &str,
+    text: &[u8],
     predict: &Prediction,
+    range: StepRange,
     machine: &Machine<'_>,
     accepted: &Accepted,
 ) -> Result<Vec<u8>, AllocError>
@@ -226,8 +243,10 @@ fn step_picture(
         alloc,
         accepted,
         name,
+        text,
         units.get(),
         predict,
+        range,
         machine.outcome(),
         machine.history(),
     )?;
