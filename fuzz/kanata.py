@@ -84,9 +84,9 @@ def faults_of(program, folder, units):
         event = json.loads(line)
         for change in event.get("changes", []):
             if change["change"] == "began":
-                threads[change["ring"]], tasks = tasks, tasks + 1
+                threads[change["unit"]], tasks = tasks, tasks + 1
             elif change["change"] == "executed":
-                executed.append((event["step"] - 1, change["task"], threads[change["ring"]]))
+                executed.append((event["step"] - 1, change["task"], threads[change["unit"]]))
     logged = [(it.begin, it.labels["0"].split(":")[0], it.thread) for it in found.values()]
     if logged != executed:
         yield f"{len(logged)} instructions, where {len(executed)} were executed, or others"

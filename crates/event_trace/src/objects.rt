@@ -25,7 +25,7 @@ impl Teller<'_, '_, '_> {
     ) -> Written {
         out.begin()?;
         out.text("format", "multiscalar-trace")?;
-        out.number("version", 1)?;
+        out.number("version", 2)?;
         if !name.is_empty() {
             out.text("program_name", name)?;
         }
@@ -189,8 +189,8 @@ fn write_at(out: &mut JsonText, kind: &str, ring: &Ring, position: u32) -> Writt
 
 /// Adds a unit, by its position and its number round the ring.
 fn write_unit(out: &mut JsonText, ring: &Ring, position: u32) -> Written {
-    out.number("unit", position as usize)?;
-    out.number("ring", ring.number_at(position))
+    out.number("position", position as usize)?;
+    out.number("unit", ring.number_at(position))
 }
 
 /// Adds why an event is refused: the number and the name, and the register that is waited for, if there is one.
