@@ -44,7 +44,7 @@ import sarif
 import seeds
 import timeline
 import waveform
-from model import (Fault, ScriptFault, Steps, accepted_program, allowed_script, annotate_text, assemble, certify, check_text,
+from model import (Fault, ScriptFault, Steps, accepted_program, allowed_script, annotate_text, assemble, certify, check_text, csv_of,
                    least_cert, print_text, replay_text, run_text, script_parse, seq_text, strict_text, traced_run, verdict)
 
 UNITS, BUDGETS = (1, 2, 3, 4, 16), (1, 7, 60, 400, 3000)
@@ -59,11 +59,12 @@ NUMBERS = {"budget": 1000000, "from": 1000000, "to": 1000000, "units": 16, "work
 FLAGS = ("least", "no-warnings", "fix", "in-place", "report", "strict", "complete", "with-values", "progress")
 OPTIONS = {"seq": ("budget",), "print": (), "annotate": ("emit", "in-place", "report"), "explain": ("certificate", "script", "no-warnings", "format", "color", "fix", "in-place"),
            "check": ("least", "workers"), "replay": ("least", "units", "emit", "until", "strict", "complete", "format"), "demonstrate": ("units", "steps", "emit"),
-           "run": ("least", "schedule", "units", "workers", "budget", "predict", "emit", "axis", "from", "to", "with-values"),
-           "curve": ("least", "units", "budget", "predict", "emit", "progress")}
+           "run": ("least", "schedule", "units", "workers", "budget", "predict", "emit", "format", "axis", "from", "to", "with-values"),
+           "curve": ("least", "units", "budget", "predict", "emit", "format", "progress")}
 CHOICES = {"annotate": (*EMITS, "marks"), "replay": ("answers", "summary", "svg", "trace", "json", "perfetto", "state"),
            "run": (*RUN_EMITS, "trace", "json", "perfetto", "waits", "vcd", "kanata"), "curve": ("table", "svg"), "demonstrate": ("events", "svg")}
-VALUES = {"schedule": ("threads", "steps"), "format": ("text", "sarif", "json"), "color": ("auto", "always", "never"), "axis": ("events", "steps")}
+FORMATS = {"explain": ("text", "sarif", "json"), "replay": ("text", "json", "csv"), "run": ("text", "csv"), "curve": ("text", "csv")}
+VALUES = {"schedule": ("threads", "steps"), "color": ("auto", "always", "never"), "axis": ("events", "steps")}
 VERSION = "multiscalar 0.1.0 (proved with rattle-kit-13f logic dac8208d650f15bf)\n"
 # The first byte of a case picks one of so many jobs, but for its highest bit.
 JOBS = 24
@@ -200,8 +201,10 @@ def fit(name, options, files):
     if "in-place" in options:
         return "output" not in options and files != ["-"] and emit in (None, "marks", "text")
     if "strict" in options:
-        return emit in (None, "answers") and "until" not in options
-    if name == "replay" and {"complete", "format"} & {*options}:
+        return emit in (None, "answers") and "until" not in options and options.get("format") != "csv"
+    if name == "replay" and "complete" in options:
+        return False
+    if name != "explain" and "format" in options and (options["format"] == "json" or emit not in {"curve": (None, "table"), "run": ("summary", "waits")}.get(name, ("summary",))):
         return False
     return name != "run" or ((in_steps or emit not in ("waits", "vcd", "kanata")) and ("with-values" not in options or emit == "script")
                              and ("axis" not in options or emit == "svg" and (in_steps or options["axis"] == "events"))
@@ -214,8 +217,10 @@ def is_value(name, key, value):
         return bool(re.fullmatch(r"\+?[0-9]+", value)) and 1 <= int(value) <= NUMBERS[key]
     if key == "emit":
         return value in CHOICES[name]
+    if key == "format":
+        return value in FORMATS[name]
     if key in VALUES:
-        return value in VALUES[key] and (name != "replay" or value != "sarif")
+        return value in VALUES[key]
     if key != "predict":
         return True
     return value in ("first", "last") or bool(re.fullmatch(r"[0-9]{1,2}(,[0-9]{1,2}){0,63}", value)) and all(int(it) <= 15 for it in value.split(","))
@@ -327,9 +332,10 @@ def wanted_curve(options, given, name):
     for units in range(1, int(options.get("units", 16)) + 1):
         rows.append(curve.Steps(program, units, budget, predict, MODEL_EVENTS))
         if not rows[-1].over():
-            return lambda out, status: status in (0, 1, 3) and out.startswith((curve.HEADING, "<svg "))
+            return lambda out, status: status in (0, 1, 3) and out.startswith((curve.HEADING, "units,", "<svg "))
     rows = [row.row() for row in rows]
     text, status = curve.table(rows)
+    text = csv_of(text) if options.get("format") == "csv" else text
     return (picture_of(rows, name, budget, predict), status) if options.get("emit") == "svg" else (text, status)
 
 
@@ -503,7 +509,8 @@ def wanted_replay(options, given, name):
         said, status = strict_text(program, given[2], units, "complete" in options, given[0])
         return (lambda out, ended: ended == status and is_verdict(out, said)) if options.get("format") == "json" else (said, status)
     if emit not in ("svg", "perfetto") or not program:
-        return replay_text(*given, units, emit, until, name)
+        said, status = replay_text(*given, units, emit, until, name)
+        return (csv_of(said) if options.get("format") == "csv" and said.startswith("assigned") else said), status
     try:
         script_parse(given[2], program)
         script, stands = allowed_script(program, b"".join(line + b"\n" for line in given[2].removesuffix(b"\n").split(b"\n")[:until]) if given[2] else b"", units)
@@ -528,13 +535,16 @@ def wanted_run(options, given, name, call):
     if {"from", "to"} & {*options}:
         return lambda out, status: is_well_formed(out) and status in (0, 1, 3)
     if in_steps:
+        emit = f"{emit} csv" if options.get("format") == "csv" else emit
         return wanted_steps(run, program, units, emit, name, options.get("axis", "steps"))
     one = run_text(*given, MODEL_EVENTS)
 
     def fits(out, status):
         if emit in ("trace", "json"):
-            told, statuses = traced_run(*given, units, out, name)
+            told, statuses = traced_run(*given, units, out, name, options.get("predict", "first"), budget)
             return out == told and status in statuses and (status == 3 or one[1] in (status, 3))
+        if options.get("format") == "csv":
+            return status in (one[1], 3) and out.startswith("assigned,")
         if emit in ("summary", "svg", "perfetto"):
             return status in (one[1], 3) and (is_summary(out, one, status) if emit == "summary" else is_well_formed(out) if emit == "svg" else is_timeline(out, None, units, False))
         if emit == "script":
@@ -595,7 +605,7 @@ def wanted_steps(run, program, units, emit, name, axis):
         return lambda out, status: status == run.status() and shows(out)
     if emit == "kanata":
         return lambda out, status: status == run.status() and is_log(out)
-    return {"report": run.report, "script": run.script, "summary": run.summary, "trace": run.trace, "json": lambda: run.json(name), "waits": run.waits}[emit](), run.status()
+    return run.written(emit, name), run.status()
 
 
 def allowed_seconds(words, out):

@@ -12,7 +12,8 @@ use crate::words::UsageFault;
 use clap::error::ErrorKind;
 use jobs::job::{
     ALL_STEPS, CertificateSource, CheckFormat, Colors, CurveEmit, DemonstrateEmit, Emit, Format,
-    Job, Paths, Prediction, ReplayEmit, RunEmit, Schedule, StepRange, VerdictFormat, Warnings,
+    Job, Paths, Prediction, ReplayEmit, RunEmit, Schedule, StepRange, TableFormat, VerdictFormat,
+    Warnings,
 };
 use limits::ranges::{Budget, Units, Workers};
 use std::alloc::AllocError;
@@ -41,7 +42,7 @@ static SCHEDULES: [(&str, Schedule); 2] = [
 
 static REPLAY_EMITS: [(&str, ReplayEmit); 7] = [
     ("answers", ReplayEmit::Answers),
-    ("summary", ReplayEmit::Summary),
+    ("summary", ReplayEmit::Summary(TableFormat::Text)),
     ("svg", ReplayEmit::Picture),
     ("trace", ReplayEmit::Trace),
     ("json", ReplayEmit::Json),
@@ -52,18 +53,18 @@ static REPLAY_EMITS: [(&str, ReplayEmit); 7] = [
 static RUN_EMITS: [(&str, RunEmit); 10] = [
     ("report", RunEmit::Report),
     ("script", RunEmit::Script),
-    ("summary", RunEmit::Summary),
+    ("summary", RunEmit::Summary(TableFormat::Text)),
     ("svg", RunEmit::Picture),
     ("trace", RunEmit::Trace),
     ("json", RunEmit::Json),
-    ("waits", RunEmit::Waits),
+    ("waits", RunEmit::Waits(TableFormat::Text)),
     ("vcd", RunEmit::Waveform),
     ("perfetto", RunEmit::Timeline),
     ("kanata", RunEmit::Pipeline),
 ];
 
 static CURVE_EMITS: [(&str, CurveEmit); 2] = [
-    ("table", CurveEmit::Table),
+    ("table", CurveEmit::Table(TableFormat::Text)),
     ("svg", CurveEmit::Picture),
 ];
 
@@ -219,12 +220,14 @@ fn replay_in(values: &Values<'_, '_>) -> Result<Job, UsageFault>
         None => None,
     };
     let is_complete = values.is_given("complete");
-    let format = verdict_format_in(values)?;
     if !values.is_given("strict") {
-        if is_complete || format.is_some() {
-            let why = "--complete and --format are for --strict";
-            return Err(values.fault(ErrorKind::ArgumentConflict, why));
+        if is_complete {
+            return Err(values.fault(
+                ErrorKind::ArgumentConflict,
+                "--complete is for --strict",
+            ));
         }
+        let emit = played_emit_in(values, emit)?;
         return Ok(Job::Replay {
             certificate,
             units,
@@ -232,6 +235,7 @@ fn replay_in(values: &Values<'_, '_>) -> Result<Job, UsageFault>
             until,
         });
     }
+    let format = verdict_format_in(values)?;
     let why = if emit != ReplayEmit::Answers {
         "with --strict there is no other --emit"
     } else if until.is_some() {
@@ -241,24 +245,50 @@ fn replay_in(values: &Values<'_, '_>) -> Result<Job, UsageFault>
             certificate,
             units,
             is_complete,
-            format: format.unwrap_or(VerdictFormat::Text),
+            format,
         });
     };
     Err(values.fault(ErrorKind::ArgumentConflict, why))
 }
 
-// How the verdict of a strict replay is written, where that is said.
-fn verdict_format_in(values: &Values<'_, '_>) -> Result<Option<VerdictFormat>, UsageFault>
+// How the verdict of a strict replay is written.
+fn verdict_format_in(values: &Values<'_, '_>) -> Result<VerdictFormat, UsageFault>
+    ensures { IfErr result (Refuses values.now.name.now (values_in values.now.matches.now)) }
+{
+    match values.text("format") {
+        None | Some("text") => Ok(VerdictFormat::Text),
+        Some("json") => Ok(VerdictFormat::Json),
+        Some(_) => Err(values.fault(
+            ErrorKind::InvalidValue,
+            "with --strict the value of --format is text or json",
+        )),
+    }
+}
+
+// What `replay` writes that is not strict: `--format` goes with a summary.
+fn played_emit_in(values: &Values<'_, '_>, named: ReplayEmit) -> Result<ReplayEmit, UsageFault>
+    ensures { IfErr result (Refuses values.now.name.now (values_in values.now.matches.now)) }
+{
+    let message = "without --strict --format, text or csv, goes with --emit summary";
+    match (named, table_format_in(values, message)?) {
+        (named, None) => Ok(named),
+        (ReplayEmit::Summary(_), Some(format)) => Ok(ReplayEmit::Summary(format)),
+        _ => Err(values.fault(ErrorKind::ArgumentConflict, message)),
+    }
+}
+
+// How a table is laid out, where that is said; `message` says which values there are.
+fn table_format_in(
+    values: &Values<'_, '_>,
+    message: &str,
+) -> Result<Option<TableFormat>, UsageFault>
     ensures { IfErr result (Refuses values.now.name.now (values_in values.now.matches.now)) }
 {
     match values.text("format") {
         None => Ok(None),
-        Some("text") => Ok(Some(VerdictFormat::Text)),
-        Some("json") => Ok(Some(VerdictFormat::Json)),
-        Some(_) => Err(values.fault(
-            ErrorKind::InvalidValue,
-            "the value of --format is text or json",
-        )),
+        Some("text") => Ok(Some(TableFormat::Text)),
+        Some("csv") => Ok(Some(TableFormat::Csv)),
+        Some(_) => Err(values.fault(ErrorKind::InvalidValue, message)),
     }
 }
 
@@ -273,7 +303,7 @@ fn run_in(values: &Values<'_, '_>) -> Result<Job, UsageFault>
         &SCHEDULES,
         "the value of --schedule is threads or steps",
     )?;
-    let emit = run_emit_in(values, schedule)?;
+    let emit = tabled_in(values, run_emit_in(values, schedule)?)?;
     let units = units_in(values)?;
     let workers = values.number("workers").unwrap_or(units.get());
     let workers = values.there(Workers::new(workers))?;
@@ -317,12 +347,25 @@ fn run_emit_in(values: &Values<'_, '_>, schedule: Schedule) -> Result<RunEmit, U
         _ if is_part => None,
         (RunEmit::Picture, None | Some("events")) => Some(RunEmit::Picture),
         (_, Some(_)) => None,
-        (RunEmit::Waits | RunEmit::Waveform | RunEmit::Pipeline, None) if !in_steps => None,
+        (RunEmit::Waits(_) | RunEmit::Waveform | RunEmit::Pipeline, None) if !in_steps => None,
         (named, None) => Some(named),
     };
     match emit {
         Some(emit) => Ok(emit),
         None => Err(values.fault(ErrorKind::InvalidValue, message)),
+    }
+}
+
+// What `run` writes, laid out as `--format` says, which goes with tables.
+fn tabled_in(values: &Values<'_, '_>, emit: RunEmit) -> Result<RunEmit, UsageFault>
+    ensures { IfErr result (Refuses values.now.name.now (values_in values.now.matches.now)) }
+{
+    let message = "--format, text or csv, goes with --emit summary and waits";
+    match (emit, table_format_in(values, message)?) {
+        (emit, None) => Ok(emit),
+        (RunEmit::Summary(_), Some(format)) => Ok(RunEmit::Summary(format)),
+        (RunEmit::Waits(_), Some(format)) => Ok(RunEmit::Waits(format)),
+        _ => Err(values.fault(ErrorKind::ArgumentConflict, message)),
     }
 }
 
@@ -339,7 +382,7 @@ fn curve_in(values: &Values<'_, '_>) -> Result<Job, UsageFault>
             "the value of --predict is first, last, or 1 to 64 numbers 0 to 15 separated by commas, as in 1,0";
         return Err(values.fault(ErrorKind::InvalidValue, message));
     };
-    let emit = values.word("emit", &CURVE_EMITS, "the value of --emit is table or svg")?;
+    let emit = curve_emit_in(values)?;
     Ok(Job::Curve {
         certificate,
         units,
@@ -347,6 +390,21 @@ fn curve_in(values: &Values<'_, '_>) -> Result<Job, UsageFault>
         predict,
         emit,
     })
+}
+
+// What `curve` writes: `--format` goes with the table.
+fn curve_emit_in(values: &Values<'_, '_>) -> Result<CurveEmit, UsageFault>
+    ensures { IfErr result (Refuses values.now.name.now (values_in values.now.matches.now)) }
+{
+    let emit = values.word("emit", &CURVE_EMITS, "the value of --emit is table or svg")?;
+    let message = "--format, text or csv, goes with --emit table";
+    match (emit, table_format_in(values, message)?) {
+        (emit, None) => Ok(emit),
+        (CurveEmit::Table(_), Some(format)) => Ok(CurveEmit::Table(format)),
+        (CurveEmit::Picture, Some(_)) => {
+            Err(values.fault(ErrorKind::ArgumentConflict, message))
+        }
+    }
 }
 
 fn units_in(values: &Values<'_, '_>) -> Result<Units, UsageFault>

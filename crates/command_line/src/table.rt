@@ -313,7 +313,7 @@ For example:
 ];
 
 /// The arguments, in the order of the help. Files stand in the places that this order gives them.
-pub(crate) static ARGUMENTS: [ArgumentRow; 43] = [
+pub(crate) static ARGUMENTS: [ArgumentRow; 45] = [
     (
         "seq print annotate explain check replay run curve demonstrate",
         "program",
@@ -543,7 +543,25 @@ kanata (each instruction of each task, for the pipeline viewer Konata)",
         "replay",
         "format",
         Kind::FreeWord("HOW"),
-        "How the verdict of --strict is laid out: text (for people) or json (a JSON object)
+        "How the verdict of --strict is laid out: text (for people) or json (a JSON object); or the table of
+--emit summary: text or csv (comma separated values, without sums)
+
+[default: text]",
+    ),
+    (
+        "run",
+        "format",
+        Kind::FreeWord("HOW"),
+        "How the table of --emit summary or waits is laid out: text (for people) or csv (comma separated values,
+without sums)
+
+[default: text]",
+    ),
+    (
+        "curve",
+        "format",
+        Kind::FreeWord("HOW"),
+        "How the table is laid out: text (for people) or csv (comma separated values)
 
 [default: text]",
     ),

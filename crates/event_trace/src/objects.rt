@@ -4,7 +4,7 @@ use crate::change::Change;
 use crate::ending::{End, MemoryWord, RegisterWord};
 use crate::ring::Ring;
 use crate::source::EventSource;
-use crate::telling::Teller;
+use crate::telling::{RunTold, Teller};
 use crate::told::Told;
 use crate::unit_change::UnitChange;
 use event_script::writing::task_name;
@@ -14,13 +14,14 @@ use mips_instructions::number::Reg;
 use mips_plain::outcome::Trap;
 
 impl Teller<'_, '_, '_> {
-    /// Adds what the lines of a trace are, what the program is called, unless its name is empty, the schedule, how many units
-    /// the machine has and how many instructions the program.
+    /// Adds what the lines of a trace are, what the program is called, unless its name is empty, the schedule, the predictor and
+    /// the budget of a run, how many units the machine has and how many instructions the program.
     pub(crate) fn write_start(
         &self,
         out: &mut JsonText,
         name: &str,
         source: EventSource,
+        run: Option<RunTold<'_>>,
         units: u32,
     ) -> Written {
         out.begin()?;
@@ -33,6 +34,10 @@ impl Teller<'_, '_, '_> {
             EventSource::Script => {}
             EventSource::Threads => out.text("schedule", "threads")?,
             EventSource::Steps => out.text("schedule", "steps")?,
+        }
+        if let Some(run) = run {
+            out.text("predictor", run.predictor)?;
+            out.number("budget", run.budget as usize)?;
         }
         out.number("units", units as usize)?;
         out.number("instructions", self.program.code().len())?;

@@ -176,7 +176,7 @@ fn explain_of(
 
 /// `replay`: plays a script of events on a machine of this many units, 1..=16. `emit` is 0 for the answers, 1 for
 /// the summary, 2 for the picture, 3 for the trace, 4 for lines of JSON, 5 for the timeline, 6 for how the machine and
-/// its units stand.
+/// its units stand, 7 for the summary as comma separated values.
 #[unsafe(no_mangle)]
 pub extern "C" fn multiscalar_c_replay(
     alloc: Global,
@@ -250,7 +250,8 @@ fn replay_strictly_of(
 /// 1..=1,000,000, are spent. `predict` is 0 for the first target, 1 for the last, 2 for those at the positions of
 /// the list: 1 to 64 numbers, each 0..=15. `emit` is 0 for the output words and the end, 1 for the script, 2 for the
 /// summary, 3 for the picture, 4 for the trace, 5 for lines of JSON, 6 for the script with what each event did, 7 for
-/// the table of waits, 8 for the waveform, 9 for the timeline, 10 for the picture by steps, 11 for the log of instructions.
+/// the table of waits, 8 for the waveform, 9 for the timeline, 10 for the picture by steps, 11 for the log of instructions,
+/// 12 for the summary and 13 for the waits as comma separated values.
 #[unsafe(no_mangle)]
 pub extern "C" fn multiscalar_c_run_steps(
     alloc: Global,

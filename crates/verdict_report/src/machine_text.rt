@@ -7,6 +7,7 @@ ghost use Rattle.verdict_report.specs.MachineText.{machine_text, retired_text, s
 use event_trace::notes::notes;
 use event_trace::source::EventSource;
 use event_trace::timeline_text::timeline;
+use jobs::job::TableFormat;
 use limits::ranges::Units;
 use machine_model::event::Standing;
 use mark_checker::accept::Accepted;
@@ -17,6 +18,7 @@ use run_picture::events::single_events;
 use sequencer::machine::Machine;
 use std::alloc::{AllocError, Global};
 use task_descriptor::program::Program;
+use task_lives::csv::write_csv;
 use task_lives::laws::histories_fit;
 use task_lives::lives::lives_of_runs;
 
@@ -52,10 +54,11 @@ pub fn write_machine(text: &mut String, machine: &Machine<'_>) -> Result<(), All
     writeln!(text, "")
 }
 
-/// The summary of how the tasks of this machine's history ended.
+/// The summary of how the tasks of this machine's history ended, laid out in this way.
 pub fn summary_of(
     alloc: Global,
     units: Units,
+    format: TableFormat,
     machine: &Machine<'_>,
     program: &Program,
 ) -> Result<Vec<u8>, AllocError>
@@ -64,7 +67,10 @@ pub fn summary_of(
 {
     histories_fit();
     let lives = lives_of_runs(alloc, machine.history(), units.get())?;
-    task_lives::summary::write(alloc, program, &lives)
+    match format {
+        TableFormat::Text => task_lives::summary::write(alloc, program, &lives),
+        TableFormat::Csv => write_csv(alloc, program, &lives),
+    }
 }
 
 /// The history of a machine of `units` units, which runs the program with this text, as a picture that gives the program this

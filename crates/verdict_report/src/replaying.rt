@@ -155,6 +155,7 @@ fn trace_form(form: ToldForm, name: &str) -> TraceForm<'_> {
         ToldForm::Lines => TraceForm::Json {
             name,
             source: EventSource::Script,
+            run: None,
             is_out_of_budget: false,
         },
     }
@@ -230,7 +231,7 @@ fn bytes_of(
     let program = accepted.program();
     match form {
         MachineForm::Answers => answers_of(alloc, answers, machine),
-        MachineForm::Summary => summary_of(alloc, units, machine, program),
+        MachineForm::Summary(format) => summary_of(alloc, units, format, machine, program),
         MachineForm::Picture => picture_of(alloc, units, name, text, "", machine, accepted),
         MachineForm::Timeline => {
             timeline_of(
