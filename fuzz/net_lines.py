@@ -39,6 +39,7 @@ OF_TEXT = (
 )
 OF_REFUSED = ("seq", "explain", "explain --format sarif", "explain --format json", "explain --color always")
 OF_RUN = ("report", "script", "script --with-values", "summary", "svg", "svg --axis events", "svg --from 3 --to 9", "trace", "json", "perfetto", "waits", "vcd", "kanata")
+OF_TABLES = ("summary --format csv", "waits --format csv")
 OF_REPLAY = ("answers", "summary", "svg", "trace", "json", "perfetto", "state")
 OF_CURVE = ("--units 4", "--units 16", "--units 4 --emit svg", "--units 16 --emit svg", "--units 3 --progress", "--units 8 --predict last")
 FORMATS = ("text", "sarif", "json")
@@ -116,7 +117,8 @@ def add_example(net, folder):
     net.add_all(folder, OF_TEXT, "program.s")
     net.add_all(folder, (run_in_steps(units, emit) for units, emit in itertools.product(UNITS, OF_RUN)), "program.s")
     net.add_all(folder, (run_in_steps(3, emit, 30, "last") for emit in ("report", "svg", "waits", "vcd")), "program.s")
-    net.add_all(folder, (f"curve --least --budget 3000 {how}" for how in OF_CURVE), "program.s")
+    net.add_all(folder, (f"curve --least --budget 3000 {how}" for how in (*OF_CURVE, "--units 4 --format csv")), "program.s")
+    net.add_all(folder, (run_in_steps(3, emit) for emit in OF_TABLES), "program.s")
     add_threads(net, folder, "program.s")
     for certificate in names[".cert1"] + names[".cert2"]:
         net.add(folder, "check", "program.s", certificate)
@@ -124,7 +126,7 @@ def add_example(net, folder):
         net.add(folder, f"explain program.s --certificate {certificate}")
         net.add(folder, "run --schedule steps --budget 3000", "program.s", certificate)
     for script in names[".events"]:
-        net.add_all(folder, (f"replay --least --units 3 --emit {emit}" for emit in OF_REPLAY), "program.s", script)
+        net.add_all(folder, (f"replay --least --units 3 --emit {emit}" for emit in (*OF_REPLAY, OF_TABLES[0])), "program.s", script)
         net.add_all(folder, ("replay --least --units 2 --until 7 --emit state", "replay --least --strict --units 2"), "program.s", script)
         net.add_all(folder, (f"explain --format {form} --script {script}" for form in FORMATS), "program.s")
 
