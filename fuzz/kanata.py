@@ -64,7 +64,8 @@ def read(text):
             it.end = (cycle, fields[2])
     for one, it in found.items():
         assert it.end, f"instruction {one} does not end"
-        assert it.labels["0"] and it.labels["1"] and it.end[0] > it.begin or it.end[1] == "0", f"instruction {one} has no labels"
+        assert it.labels["0"] and it.labels["1"], f"instruction {one} has no labels"
+        assert it.end[0] > it.begin or it.end[1] == "1", f"instruction {one} retires in the cycle in which it begins"
     return found
 
 
