@@ -120,10 +120,7 @@ def faults_of(svg, script, units, counted="event"):
 
 def strip_faults(root, lives, steps, script, units, numbers):
     """A strip stands where a unit has a task in a step, and does nothing in it."""
-    busy = doers_of(script, units, numbers)
-    wanted = {(life.unit, step) for life in lives for step in range(life.first, life.last + 1)} - busy
-    if script and not ends_step(script):
-        wanted = {(unit, step) for unit, step in wanted if step < steps}
+    wanted = waits_of(lives, steps, script, units, numbers)
     drawn, said = collections.Counter(), {}
     for bar in root.iter(SVG + "rect"):
         title = bar.find(SVG + "title")
@@ -144,6 +141,12 @@ def strip_faults(root, lives, steps, script, units, numbers):
         said[unit, last] = why
     if drawn != collections.Counter(wanted):
         yield f"{sum(drawn.values())} steps of waiting, where there are {len(wanted)}, or others"
+
+
+def waits_of(lives, steps, script, units, numbers):
+    """The units and the steps in which they have a task and do nothing; a last step that the head does not end has none."""
+    waits = {(life.unit, step) for life in lives for step in range(life.first, life.last + 1)} - doers_of(script, units, numbers)
+    return waits if not script or ends_step(script) else {(unit, step) for unit, step in waits if step < steps}
 
 
 def doers_of(text, units, numbers):

@@ -10,7 +10,8 @@ the time is up. From the script alone, by the model of picture.py, it computes t
 registers passed on and the squashes; and the time of each event, which is its number, or for a run in steps that of
 its step. The timeline must be JSON with exactly these: a lane for each unit; for each life one slice with its unit,
 task, time, instructions and ending; for each register passed on one arrow, which begins and ends inside a slice of
-its unit; and for each squash one instant. Slices of one lane may not overlap. The lives must be as many as the
+its unit; and for each squash one instant. A run of at most 2,000 steps has slices where a unit has a task and does nothing.
+Slices of tasks on one lane may not overlap. The lives must be as many as the
 summary says. What differs is told, and the script ends with status 1. It is no part of the tests.
 """
 import argparse
@@ -51,6 +52,15 @@ def expected(script, units, by_steps):
     return slices, arrows, [(unit, times[number]) for number, unit in squashes]
 
 
+def waits_of(script, units):
+    """The units and the steps, from 1, in which they wait, of at most 2,000 steps."""
+    numbers = list(picture.steps_of(script))
+    if not numbers or numbers[-1] > picture.MOST_SINGLE:
+        return ()
+    picture.history_of.next = 0
+    return picture.waits_of(picture.history_of(script, units, numbers)[0], numbers[-1], script, units, numbers)
+
+
 def found(entries):
     """The same of a timeline."""
     slices = [(it["tid"], it["name"], it["ts"], it["dur"], it["args"]["instructions"], it["args"]["ending"])
@@ -81,9 +91,12 @@ def faults_of(text, script, units, by_steps):
     for it in entries["X"]:
         if it["cat"] == "instruction" and not any(one["cat"] == "task" and one["tid"] == it["tid"] and one["ts"] <= it["ts"] < one["ts"] + one["dur"] for one in entries["X"]):
             yield f"an instruction of unit {it['tid']} at {it['ts']} is in no task"
-        if it["cat"] == "instruction":
+        if it["cat"] != "task":
             continue
         lanes[it["tid"]].append((it["ts"], it["ts"] + it["dur"]))
+    waits = collections.Counter((it["tid"], step) for it in entries["X"] if it["cat"] == "wait" for step in range(it["ts"] + 1, it["ts"] + it["dur"] + 1))
+    if waits != collections.Counter(waits_of(script, units) if by_steps else ()):
+        yield f"{sum(waits.values())} steps of waiting, or others than there are"
     for unit, spans in lanes.items():
         spans.sort()
         if any(one[1] > two[0] for one, two in zip(spans, spans[1:])) or any(begin >= end for begin, end in spans):

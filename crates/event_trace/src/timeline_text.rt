@@ -20,13 +20,15 @@ use json_text::{JsonText, Written};
 use machine_model::event::{Event, EventRun};
 use mark_checker::accept::Accepted;
 use run_picture::events::single_events;
+use run_picture::shape::Wait;
+use run_picture::shape_text::write_why;
 use shown_names::name::shown_name;
 use std::alloc::{AllocError, Global};
 use task_descriptor::program::Program;
 use task_lives::life::Ending;
 
 /// The history of a run of an accepted program of this name, which may be empty, and of this text on `units` units, 1 to 16, as
-/// its timeline (`timeline_of`) with its instructions, on a line.
+/// its timeline (`timeline_of`) with its instructions and, of a run in steps, with these waits, on a line.
 pub fn timeline(
     alloc: Global,
     accepted: &Accepted,
@@ -34,6 +36,7 @@ pub fn timeline(
     program_text: &[u8],
     units: u32,
     source: EventSource,
+    waits: &[Wait],
     runs: &[EventRun],
 ) -> Result<String, AllocError>
     requires some { 0 < units }
@@ -58,6 +61,7 @@ pub fn timeline(
         source,
         &events,
     )?;
+    write_waits(alloc, &mut out, accepted.program(), waits)?;
     write_marks(alloc, &mut out, &timeline.marks)?;
     out.end_list()?;
     out.text("displayTimeUnit", "ms")?;
@@ -200,6 +204,19 @@ fn write_instruction(
     out.text("did", note.as_str())?;
     out.end()?;
     out.end()
+}
+
+/// Adds a slice for each wait, within that of its task.
+fn write_waits(alloc: Global, out: &mut JsonText, program: &Program, waits: &[Wait]) -> Written {
+    for wait in waits {
+        let mut name = String::new(alloc);
+        write_why(&mut name, program.tasks(), wait.why)?;
+        let begin = (wait.step as usize).saturating_sub(1);
+        begin_timed(out, name.as_str(), "wait", "X", wait.unit, begin)?;
+        out.number("dur", wait.count as usize)?;
+        out.end()?;
+    }
+    Ok(())
 }
 
 /// How a life ended, in a word.

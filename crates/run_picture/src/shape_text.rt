@@ -215,7 +215,12 @@ fn write_wait(text: &mut String, tasks: &[Descriptor], wait: Wait) -> Result<(),
         write!(text, " ({count} steps)")?;
     }
     text.push_str(": ")?;
-    match wait.why {
+    write_why(text, tasks, wait.why)
+}
+
+/// Writes why a unit waits. An error means that memory was refused.
+pub fn write_why(text: &mut String, tasks: &[Descriptor], why: Why) -> Result<(), AllocError> {
+    match why {
         Why::NeedsRegister(debt) => write_debt(text, tasks, "waits for", debt),
         Why::NeedsHead => text.push_str("waits to be the head"),
         Why::HasToPass(debt) => write_debt(text, tasks, "has to pass on", debt),

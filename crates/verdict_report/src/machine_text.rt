@@ -15,6 +15,7 @@ use report_texts::plain_text::write_words;
 use run_picture::chart::MOST_SINGLE;
 use run_picture::drawing::draw_ended;
 use run_picture::events::single_events;
+use run_picture::shape::Wait;
 use sequencer::machine::Machine;
 use std::alloc::{AllocError, Global};
 use task_descriptor::program::Program;
@@ -117,13 +118,14 @@ fn notes_if_single(
     notes(alloc, accepted, units.get(), text, &events, 0)
 }
 
-/// The history of a machine of `units` units, which runs the program of this name and text, as a timeline.
+/// The history of a machine of `units` units, which runs the program of this name and text, as a timeline with these waits.
 pub fn timeline_of(
     alloc: Global,
     units: Units,
     name: &str,
     text: &[u8],
     source: EventSource,
+    waits: &[Wait],
     machine: &Machine<'_>,
     accepted: &Accepted,
 ) -> Result<Vec<u8>, AllocError>
@@ -132,7 +134,16 @@ pub fn timeline_of(
 {
     histories_fit();
     let runs = machine.history();
-    let timeline = timeline(alloc, accepted, name, text, units.get(), source, runs)?;
+    let timeline = timeline(
+        alloc,
+        accepted,
+        name,
+        text,
+        units.get(),
+        source,
+        waits,
+        runs,
+    )?;
     Ok(timeline.into_bytes())
 }
 

@@ -240,6 +240,7 @@ fn bytes_of(
                 name,
                 text,
                 EventSource::Script,
+                &[],
                 machine,
                 accepted,
             )
