@@ -1,5 +1,5 @@
 //! The text of how a machine of units stands.
-ghost use Rattle.std.specs.Prelude.{◌≡◌, ◌++◌, OnOk};
+ghost use Rattle.std.specs.Prelude.{◌≡◌, ◌≤◌, ◌++◌, OnOk};
 ghost use Rattle.std.specs.String.{string_bytes};
 ghost use Rattle.sequencer.specs.Machines.{state, units_of};
 ghost use Rattle.verdict_report.specs.MachineText.{machine_text, retired_text, standing_status, standing_text};
@@ -18,6 +18,7 @@ use run_picture::events::single_events;
 use run_picture::shape::Wait;
 use sequencer::machine::Machine;
 use std::alloc::{AllocError, Global};
+use step_picture::chart::chart_of_steps;
 use task_descriptor::program::Program;
 use task_lives::csv::write_csv;
 use task_lives::laws::histories_fit;
@@ -145,6 +146,21 @@ pub fn timeline_of(
         runs,
     )?;
     Ok(timeline.into_bytes())
+}
+
+/// Why the units waited in the steps of the history of a machine of `units` units, if they are drawn singly; else nothing.
+pub fn single_waits(
+    alloc: Global,
+    units: Units,
+    machine: &Machine<'_>,
+    accepted: &Accepted,
+) -> Result<Vec<Wait>, AllocError>
+    requires over { machine.now.accepted ≡ accepted.now }
+    requires units { (units_of machine.now ≤ 16) × (units_of machine.now ≡ units) }
+{
+    let standing = machine.outcome();
+    let chart = chart_of_steps(alloc, accepted, units.get(), standing, machine.history())?;
+    Ok(chart.waits)
 }
 
 /// The status of a run with this standing.

@@ -7,7 +7,9 @@ ghost use Rattle.event_script.specs.EventScript.{script_of};
 ghost use Rattle.event_script.specs.ScriptText.{script_text};
 
 use crate::fault::ServeFault;
-use crate::machine_text::{picture_of, standing_status_of, summary_of, timeline_of, write_machine};
+use crate::machine_text::{
+    picture_of, single_waits, standing_status_of, summary_of, timeline_of, write_machine,
+};
 use crate::ran::{Extent, Ran};
 use crate::scheduled::run_scheduled;
 use event_script::writing::write;
@@ -22,12 +24,10 @@ use report_texts::judging::{Judged, judge};
 use report_texts::plain_text::write_words;
 use report_texts::report::JobReport;
 use run_picture::events::single_events;
-use run_picture::shape::Wait;
 use sequencer::machine::Machine;
 use std::alloc::{AllocError, Global};
 use std::sync::Wait;
 use std::thread::Threads;
-use step_picture::chart::chart_of_steps;
 use step_picture::drawing::draw;
 use step_picture::predictor_text::{write_predictor, write_whole};
 use strict_replay::writing::write_valued;
@@ -167,7 +167,10 @@ fn view_of(
             step_picture(alloc, units, name, text, predict, range, machine, accepted)
         }
         RunEmit::Timeline => {
-            let waits = single_waits(alloc, units, ran, accepted)?;
+            let waits = match ran.steps {
+                None => Vec::new(alloc),
+                Some(_) => single_waits(alloc, units, machine, accepted)?,
+            };
             timeline_of(
                 alloc,
                 units,
@@ -292,25 +295,6 @@ fn step_picture(
         machine.history(),
     )?;
     Ok(picture.into_bytes())
-}
-
-// Why the units of a run in steps waited, if its steps are drawn singly; else nothing.
-fn single_waits(
-    alloc: Global,
-    units: Units,
-    ran: &Ran<'_>,
-    accepted: &Accepted,
-) -> Result<Vec<Wait>, AllocError>
-    requires over { ran.now.machine.accepted ≡ accepted.now }
-    requires units { (units_of ran.now.machine ≤ 16) × (units_of ran.now.machine ≡ units) }
-{
-    if ran.steps.is_none() {
-        return Ok(Vec::new(alloc));
-    }
-    let machine = &ran.machine;
-    let standing = machine.outcome();
-    let chart = chart_of_steps(alloc, accepted, units.get(), standing, machine.history())?;
-    Ok(chart.waits)
 }
 
 // Who chose the events of a run.
