@@ -222,10 +222,7 @@ fn replay_in(values: &Values<'_, '_>) -> Result<Job, UsageFault>
     let is_complete = values.is_given("complete");
     if !values.is_given("strict") {
         if is_complete {
-            return Err(values.fault(
-                ErrorKind::ArgumentConflict,
-                "--complete is for --strict",
-            ));
+            return Err(values.fault(ErrorKind::ArgumentConflict, "--complete is for --strict"));
         }
         let emit = played_emit_in(values, emit)?;
         return Ok(Job::Replay {
@@ -401,9 +398,7 @@ fn curve_emit_in(values: &Values<'_, '_>) -> Result<CurveEmit, UsageFault>
     match (emit, table_format_in(values, message)?) {
         (emit, None) => Ok(emit),
         (CurveEmit::Table(_), Some(format)) => Ok(CurveEmit::Table(format)),
-        (CurveEmit::Picture, Some(_)) => {
-            Err(values.fault(ErrorKind::ArgumentConflict, message))
-        }
+        _ => Err(values.fault(ErrorKind::ArgumentConflict, message)),
     }
 }
 

@@ -143,6 +143,7 @@ fn shows_nothing_of_right_marks(rt: HostRuntime) {
     let status = multiscalar_c_demonstrate(rt.alloc(), 2, 100, RIGHT, &mut out, &mut len);
     assert!(rt; status == 0 && len == 49);
     assert!(rt;
-        out.as_slice().starts_with(b"the marks are right: no run shows anything\n".as_slice())
+        out.as_slice()
+            .starts_with(b"the marks are right: no run shows anything\n".as_slice())
     );
 }

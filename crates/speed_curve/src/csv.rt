@@ -7,10 +7,7 @@ use std::alloc::{AllocError, Global};
 /// The table of some runs of a program, of which the first is the one on one unit, as comma separated values: a heading, and a
 /// row for each. The columns are those of the table; the sixth is in percent. The fifth is empty where the table has `-`.
 pub fn write_csv(alloc: Global, rows: &[Row]) -> Result<Vec<u8>, AllocError> {
-    let mut text = String::from_str(
-        alloc,
-        "units,steps,retired,per_step,speed_up,wasted,end\n",
-    )?;
+    let mut text = String::from_str(alloc, "units,steps,retired,per_step,speed_up,wasted,end\n")?;
     if let Some(one) = rows.first() {
         for row in rows {
             write_row(&mut text, one, row)?;

@@ -29,6 +29,9 @@ fn write_row(text: &mut String, tally: &Tally, name: &str) -> Result<(), AllocEr
     let (assigned, retired, squashed) = (tally.assigned, tally.retired, tally.squashed);
     let (dropped, unfinished) = (tally.dropped, tally.unfinished);
     let (useful, wasted) = (tally.useful, tally.wasted);
-    write!(text, "{assigned},{retired},{squashed},{dropped},{unfinished},")?;
+    write!(
+        text,
+        "{assigned},{retired},{squashed},{dropped},{unfinished},"
+    )?;
     writeln!(text, "{useful},{wasted},{name}")
 }

@@ -233,12 +233,7 @@ fn summary(
 }
 
 // How the events are told of a run of a program of this name, which was made so.
-fn trace_form<'n>(
-    emit: RunEmit,
-    name: &'n str,
-    run: RunTold<'n>,
-    ran: &Ran<'_>,
-) -> TraceForm<'n> {
+fn trace_form<'n>(emit: RunEmit, name: &'n str, run: RunTold<'n>, ran: &Ran<'_>) -> TraceForm<'n> {
     match emit {
         RunEmit::Json => TraceForm::Json {
             name,
