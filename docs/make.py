@@ -28,7 +28,8 @@ TEXT = r'"((?:[^"\\]|\\.)*)"'
 LISTS = {("explain", "format"): "FORMATS", ("check", "format"): "CHECK_FORMATS", ("explain", "color"): "COLORS", ("run", "schedule"): "SCHEDULES",
          ("replay", "emit"): "REPLAY_EMITS", ("run", "emit"): "RUN_EMITS", ("curve", "emit"): "CURVE_EMITS",
          ("demonstrate", "emit"): "DEMONSTRATE_EMITS"}
-VALUES = {("annotate", "emit"): "text cert keep marks", ("run", "axis"): "events steps", ("replay", "format"): "text json", ("run curve", "predict"): "first last"}
+VALUES = {("annotate", "emit"): "text cert keep marks", ("run", "axis"): "events steps", ("replay", "format"): "text json csv", ("run", "format"): "text csv",
+          ("curve", "format"): "text csv", ("run curve", "predict"): "first last"}
 
 # What the instructions of each row of the instruction table do, in words.
 EFFECTS = {
@@ -306,7 +307,7 @@ def statuses():
 
 def short(said):
     """What an option does, in a few words."""
-    said = re.split(r" ?[:.;(]", re.sub(r"^With --[\w-]+ \w+: ", "", said))[0]
+    said = re.split(r" ?[:.;(]", re.sub(r"^With --[\w-]+ \w+(?: and --[\w-]+ \w+)?: ", "", said))[0]
     return re.sub(r"[][]", "", said[:1].lower() + said[1:]).replace("'", "’")
 
 

@@ -11,8 +11,9 @@ use crate::values::Values;
 use crate::words::UsageFault;
 use clap::error::ErrorKind;
 use jobs::job::{
-    CertificateSource, CheckFormat, Colors, CurveEmit, DemonstrateEmit, Emit, Format, Job, Paths,
-    Prediction, ReplayEmit, RunEmit, Schedule, VerdictFormat, Warnings,
+    ALL_STEPS, CertificateSource, CheckFormat, Colors, CurveEmit, DemonstrateEmit, Emit, Format,
+    Job, Paths, Prediction, ReplayEmit, RunEmit, Schedule, StepRange, TableFormat, VerdictFormat,
+    Warnings,
 };
 use limits::ranges::{Budget, Units, Workers};
 use std::alloc::AllocError;
@@ -41,7 +42,7 @@ static SCHEDULES: [(&str, Schedule); 2] = [
 
 static REPLAY_EMITS: [(&str, ReplayEmit); 7] = [
     ("answers", ReplayEmit::Answers),
-    ("summary", ReplayEmit::Summary),
+    ("summary", ReplayEmit::Summary(TableFormat::Text)),
     ("svg", ReplayEmit::Picture),
     ("trace", ReplayEmit::Trace),
     ("json", ReplayEmit::Json),
@@ -49,20 +50,21 @@ static REPLAY_EMITS: [(&str, ReplayEmit); 7] = [
     ("state", ReplayEmit::State),
 ];
 
-static RUN_EMITS: [(&str, RunEmit); 9] = [
+static RUN_EMITS: [(&str, RunEmit); 10] = [
     ("report", RunEmit::Report),
     ("script", RunEmit::Script),
-    ("summary", RunEmit::Summary),
+    ("summary", RunEmit::Summary(TableFormat::Text)),
     ("svg", RunEmit::Picture),
     ("trace", RunEmit::Trace),
     ("json", RunEmit::Json),
-    ("waits", RunEmit::Waits),
+    ("waits", RunEmit::Waits(TableFormat::Text)),
     ("vcd", RunEmit::Waveform),
     ("perfetto", RunEmit::Timeline),
+    ("kanata", RunEmit::Pipeline),
 ];
 
 static CURVE_EMITS: [(&str, CurveEmit); 2] = [
-    ("table", CurveEmit::Table),
+    ("table", CurveEmit::Table(TableFormat::Text)),
     ("svg", CurveEmit::Picture),
 ];
 
@@ -218,12 +220,11 @@ fn replay_in(values: &Values<'_, '_>) -> Result<Job, UsageFault>
         None => None,
     };
     let is_complete = values.is_given("complete");
-    let format = verdict_format_in(values)?;
     if !values.is_given("strict") {
-        if is_complete || format.is_some() {
-            let why = "--complete and --format are for --strict";
-            return Err(values.fault(ErrorKind::ArgumentConflict, why));
+        if is_complete {
+            return Err(values.fault(ErrorKind::ArgumentConflict, "--complete is for --strict"));
         }
+        let emit = played_emit_in(values, emit)?;
         return Ok(Job::Replay {
             certificate,
             units,
@@ -231,6 +232,7 @@ fn replay_in(values: &Values<'_, '_>) -> Result<Job, UsageFault>
             until,
         });
     }
+    let format = verdict_format_in(values)?;
     let why = if emit != ReplayEmit::Answers {
         "with --strict there is no other --emit"
     } else if until.is_some() {
@@ -240,24 +242,50 @@ fn replay_in(values: &Values<'_, '_>) -> Result<Job, UsageFault>
             certificate,
             units,
             is_complete,
-            format: format.unwrap_or(VerdictFormat::Text),
+            format,
         });
     };
     Err(values.fault(ErrorKind::ArgumentConflict, why))
 }
 
-// How the verdict of a strict replay is written, where that is said.
-fn verdict_format_in(values: &Values<'_, '_>) -> Result<Option<VerdictFormat>, UsageFault>
+// How the verdict of a strict replay is written.
+fn verdict_format_in(values: &Values<'_, '_>) -> Result<VerdictFormat, UsageFault>
+    ensures { IfErr result (Refuses values.now.name.now (values_in values.now.matches.now)) }
+{
+    match values.text("format") {
+        None | Some("text") => Ok(VerdictFormat::Text),
+        Some("json") => Ok(VerdictFormat::Json),
+        Some(_) => Err(values.fault(
+            ErrorKind::InvalidValue,
+            "with --strict the value of --format is text or json",
+        )),
+    }
+}
+
+// What `replay` writes that is not strict: `--format` goes with a summary.
+fn played_emit_in(values: &Values<'_, '_>, named: ReplayEmit) -> Result<ReplayEmit, UsageFault>
+    ensures { IfErr result (Refuses values.now.name.now (values_in values.now.matches.now)) }
+{
+    let message = "without --strict --format, text or csv, goes with --emit summary";
+    match (named, table_format_in(values, message)?) {
+        (named, None) => Ok(named),
+        (ReplayEmit::Summary(_), Some(format)) => Ok(ReplayEmit::Summary(format)),
+        _ => Err(values.fault(ErrorKind::ArgumentConflict, message)),
+    }
+}
+
+// How a table is laid out, where that is said; `message` says which values there are.
+fn table_format_in(
+    values: &Values<'_, '_>,
+    message: &str,
+) -> Result<Option<TableFormat>, UsageFault>
     ensures { IfErr result (Refuses values.now.name.now (values_in values.now.matches.now)) }
 {
     match values.text("format") {
         None => Ok(None),
-        Some("text") => Ok(Some(VerdictFormat::Text)),
-        Some("json") => Ok(Some(VerdictFormat::Json)),
-        Some(_) => Err(values.fault(
-            ErrorKind::InvalidValue,
-            "the value of --format is text or json",
-        )),
+        Some("text") => Ok(Some(TableFormat::Text)),
+        Some("csv") => Ok(Some(TableFormat::Csv)),
+        Some(_) => Err(values.fault(ErrorKind::InvalidValue, message)),
     }
 }
 
@@ -272,7 +300,7 @@ fn run_in(values: &Values<'_, '_>) -> Result<Job, UsageFault>
         &SCHEDULES,
         "the value of --schedule is threads or steps",
     )?;
-    let emit = run_emit_in(values, schedule)?;
+    let emit = tabled_in(values, run_emit_in(values, schedule)?)?;
     let units = units_in(values)?;
     let workers = values.number("workers").unwrap_or(units.get());
     let workers = values.there(Workers::new(workers))?;
@@ -291,29 +319,50 @@ fn run_in(values: &Values<'_, '_>) -> Result<Job, UsageFault>
     }
 }
 
-// What `run` writes. `--with-values` goes with a script, `--axis` with a picture, and waits, a waveform and the
-// columns of steps with a run in steps.
+// What `run` writes. `--with-values` goes with a script, `--axis` with a picture, `--from` and `--to` with one of steps, and
+// waits, a waveform, a log of instructions and the columns of steps with a run in steps.
 fn run_emit_in(values: &Values<'_, '_>, schedule: Schedule) -> Result<RunEmit, UsageFault>
     ensures { IfErr result (Refuses values.now.name.now (values_in values.now.matches.now)) }
 {
     let message =
-        "the value of --emit is report, script, summary, svg, trace, json, perfetto or, with --schedule steps, waits or vcd; --with-values goes with script, and --axis, events or steps, with svg";
+        "the value of --emit is report, script, summary, svg, trace, json, perfetto or, with --schedule steps, waits, vcd or kanata; --with-values goes with script, --axis, events or steps, with svg, and --from and a --to that is not below it with svg of steps";
     let named = values.word("emit", &RUN_EMITS, message)?;
     let in_steps = schedule == Schedule::Steps;
     let valued = values.is_given("with-values");
+    let (first, last) = (values.number("from"), values.number("to"));
+    let is_part = first.is_some() || last.is_some();
+    let range = StepRange {
+        first: first.unwrap_or(ALL_STEPS.first),
+        last: last.unwrap_or(ALL_STEPS.last),
+    };
     let emit = match (named, values.text("axis")) {
-        (RunEmit::Script, None) if valued => Some(RunEmit::ScriptWithValues),
+        (RunEmit::Script, None) if valued && !is_part => Some(RunEmit::ScriptWithValues),
         _ if valued => None,
-        (RunEmit::Picture, None) if in_steps => Some(RunEmit::StepPicture),
-        (RunEmit::Picture, Some("steps")) if in_steps => Some(RunEmit::StepPicture),
+        (RunEmit::Picture, None | Some("steps")) if in_steps && range.first <= range.last => {
+            Some(RunEmit::StepPicture(range))
+        }
+        _ if is_part => None,
         (RunEmit::Picture, None | Some("events")) => Some(RunEmit::Picture),
         (_, Some(_)) => None,
-        (RunEmit::Waits | RunEmit::Waveform, None) if !in_steps => None,
+        (RunEmit::Waits(_) | RunEmit::Waveform | RunEmit::Pipeline, None) if !in_steps => None,
         (named, None) => Some(named),
     };
     match emit {
         Some(emit) => Ok(emit),
         None => Err(values.fault(ErrorKind::InvalidValue, message)),
+    }
+}
+
+// What `run` writes, laid out as `--format` says, which goes with tables.
+fn tabled_in(values: &Values<'_, '_>, emit: RunEmit) -> Result<RunEmit, UsageFault>
+    ensures { IfErr result (Refuses values.now.name.now (values_in values.now.matches.now)) }
+{
+    let message = "--format, text or csv, goes with --emit summary and waits";
+    match (emit, table_format_in(values, message)?) {
+        (emit, None) => Ok(emit),
+        (RunEmit::Summary(_), Some(format)) => Ok(RunEmit::Summary(format)),
+        (RunEmit::Waits(_), Some(format)) => Ok(RunEmit::Waits(format)),
+        _ => Err(values.fault(ErrorKind::ArgumentConflict, message)),
     }
 }
 
@@ -330,7 +379,7 @@ fn curve_in(values: &Values<'_, '_>) -> Result<Job, UsageFault>
             "the value of --predict is first, last, or 1 to 64 numbers 0 to 15 separated by commas, as in 1,0";
         return Err(values.fault(ErrorKind::InvalidValue, message));
     };
-    let emit = values.word("emit", &CURVE_EMITS, "the value of --emit is table or svg")?;
+    let emit = curve_emit_in(values)?;
     Ok(Job::Curve {
         certificate,
         units,
@@ -338,6 +387,19 @@ fn curve_in(values: &Values<'_, '_>) -> Result<Job, UsageFault>
         predict,
         emit,
     })
+}
+
+// What `curve` writes: `--format` goes with the table.
+fn curve_emit_in(values: &Values<'_, '_>) -> Result<CurveEmit, UsageFault>
+    ensures { IfErr result (Refuses values.now.name.now (values_in values.now.matches.now)) }
+{
+    let emit = values.word("emit", &CURVE_EMITS, "the value of --emit is table or svg")?;
+    let message = "--format, text or csv, goes with --emit table";
+    match (emit, table_format_in(values, message)?) {
+        (emit, None) => Ok(emit),
+        (CurveEmit::Table(_), Some(format)) => Ok(CurveEmit::Table(format)),
+        _ => Err(values.fault(ErrorKind::ArgumentConflict, message)),
+    }
 }
 
 fn units_in(values: &Values<'_, '_>) -> Result<Units, UsageFault>

@@ -313,7 +313,7 @@ For example:
 ];
 
 /// The arguments, in the order of the help. Files stand in the places that this order gives them.
-pub(crate) static ARGUMENTS: [ArgumentRow; 41] = [
+pub(crate) static ARGUMENTS: [ArgumentRow; 45] = [
     (
         "seq print annotate explain check replay run curve demonstrate",
         "program",
@@ -504,7 +504,8 @@ ui.perfetto.dev and other viewers of traces) or state (of the run and of each un
 often each task was assigned, and how that ended), svg (a picture: a lane for each unit, a bar for each task on
 it), trace (each event with what it changed), json (the same as JSON, an object on each line), perfetto (a
 timeline for ui.perfetto.dev and other viewers of traces) or, with --schedule steps, waits (in how many steps
-which task waited where, and for what) or vcd (the state of each unit in each step, for viewers of waveforms)",
+which task waited where, and for what), vcd (the state of each unit in each step, for viewers of waveforms) or
+kanata (each instruction of each task, for the pipeline viewer Konata)",
     ),
     (
         "curve",
@@ -542,7 +543,25 @@ which task waited where, and for what) or vcd (the state of each unit in each st
         "replay",
         "format",
         Kind::FreeWord("HOW"),
-        "How the verdict of --strict is laid out: text (for people) or json (a JSON object)
+        "How the verdict of --strict is laid out: text (for people) or json (a JSON object); or the table of
+--emit summary: text or csv (comma separated values, without sums)
+
+[default: text]",
+    ),
+    (
+        "run",
+        "format",
+        Kind::FreeWord("HOW"),
+        "How the table of --emit summary or waits is laid out: text (for people) or csv (comma separated values,
+without sums)
+
+[default: text]",
+    ),
+    (
+        "curve",
+        "format",
+        Kind::FreeWord("HOW"),
+        "How the table is laid out: text (for people) or csv (comma separated values)
 
 [default: text]",
     ),
@@ -553,6 +572,22 @@ which task waited where, and for what) or vcd (the state of each unit in each st
         "With --emit svg: what the columns of the picture are, events or, with --schedule steps, steps
 
 [default: steps with --schedule steps, else events]",
+    ),
+    (
+        "run",
+        "from",
+        Kind::FreeNumber(MOST_BUDGET),
+        "With --emit svg and --schedule steps: the first step that is drawn, 1 to 1000000
+
+[default: the run's first]",
+    ),
+    (
+        "run",
+        "to",
+        Kind::FreeNumber(MOST_BUDGET),
+        "With --emit svg and --schedule steps: the last step that is drawn, 1 to 1000000
+
+[default: the run's last]",
     ),
     (
         "run",

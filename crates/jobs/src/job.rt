@@ -77,6 +77,31 @@ pub enum VerdictFormat {
     Json,
 }
 
+/// How a table is laid out.
+#[derive(Clone, Copy, Debug, PartialEq, Eq)]
+pub enum TableFormat {
+    /// In columns, for a person.
+    Text,
+    /// As comma separated values, for spreadsheets and scripts.
+    Csv,
+}
+
+/// Steps of a run, from one to another, which is not before it; the first step of a run is 1. What is beyond the run's end
+/// is left out.
+#[derive(Clone, Copy, Debug, PartialEq, Eq)]
+pub struct StepRange {
+    /// The first of them.
+    pub first: u32,
+    /// The last of them.
+    pub last: u32,
+}
+
+/// All steps of a run.
+pub const ALL_STEPS: StepRange = StepRange {
+    first: 1,
+    last: u32::MAX,
+};
+
 /// What `run` writes for a run.
 #[derive(Clone, Copy, Debug, PartialEq, Eq)]
 pub enum RunEmit {
@@ -86,22 +111,25 @@ pub enum RunEmit {
     Script,
     /// The history with what each event did, as a script that `replay --strict` judges.
     ScriptWithValues,
-    /// How often each task was assigned, how that ended, and how much of its work was useful.
-    Summary,
+    /// How often each task was assigned, how that ended, and how much of its work was useful, as a table.
+    Summary(TableFormat),
     /// The run as a picture, in SVG, with a column for each event.
     Picture,
-    /// The run as a picture, in SVG, with a column for each step: of a run in steps.
-    StepPicture,
+    /// These steps of the run as a picture, in SVG, with a column for each step: of a run in steps.
+    StepPicture(StepRange),
     /// Each event of the history with what it changed.
     Trace,
     /// Each event of the history with what it changed, in JSON, an object on each line, for machines.
     Json,
-    /// How many steps each task waited, where, and for what: of a run in steps.
-    Waits,
+    /// How many steps each task waited, where, and for what, as a table: of a run in steps.
+    Waits(TableFormat),
     /// What each unit does in each step, as a value change dump: of a run in steps.
     Waveform,
     /// The tasks on each unit as a timeline, in the JSON that viewers of traces read.
     Timeline,
+    /// Each instruction from where it is executed to where its task ends, as a log that the pipeline viewer Konata reads: of a
+    /// run in steps.
+    Pipeline,
 }
 
 /// What `replay` writes for a script.
@@ -109,8 +137,8 @@ pub enum RunEmit {
 pub enum ReplayEmit {
     /// What the machine answers to each event, and how it then stands.
     Answers,
-    /// How often each task was assigned, how that ended, and how much of its work was useful.
-    Summary,
+    /// How often each task was assigned, how that ended, and how much of its work was useful, as a table.
+    Summary(TableFormat),
     /// The events that were allowed as a picture, in SVG.
     Picture,
     /// Each event of the script with what the machine answers to it, and what it changed.
@@ -127,7 +155,7 @@ pub enum ReplayEmit {
 #[derive(Clone, Copy, Debug, PartialEq, Eq)]
 pub enum CurveEmit {
     /// A table with a row for each run.
-    Table,
+    Table(TableFormat),
     /// A picture of the runs, in SVG.
     Picture,
 }

@@ -8,8 +8,9 @@ ghost use Rattle.task_lives.specs.Sums.{AreFew};
 ghost use Rattle.run_picture.specs.Meanings.{meanings};
 ghost use Rattle.run_picture.specs.Charts.{HasRoom, IsChartOfEvents, told};
 
-use crate::bars::{halted_unit, push_bars, push_waits};
+use crate::bars::{push_bars, push_waits};
 use crate::events::{numbers_to, single_events};
+use crate::heads::push_heads;
 use crate::marks::push_marks;
 use crate::shape::{Axis, Counted, Shape, Wait};
 use crate::stretches::push_shares;
@@ -29,14 +30,18 @@ pub struct Chart {
     pub axis: Axis,
     /// The column of each event, from 1.
     pub columns: Vec<u32>,
+    /// How many tasks retired before the events.
+    pub retired: u32,
     /// The events.
     pub events: Vec<Event>,
     /// The lives; their first and last events are columns, from 0.
     pub lives: Vec<Life>,
-    /// Their tally.
+    /// The tally of all lives of the run.
     pub tally: Tally,
-    /// The unit that halted; if none did, a number that no unit has.
-    pub halted: u32,
+    /// The unit that is the head when the run ends.
+    pub head: u32,
+    /// How the run stands at its end; `Running` also where that is not known.
+    pub standing: Standing,
     /// The waits, which pictures of steps have.
     pub waits: Vec<Wait>,
 }
@@ -50,13 +55,22 @@ impl Chart {
     }
 }
 
-/// What a picture of the events of a history of `units` units is of; it is known how the run stands, or not. The history
-/// has at most 1,000,000 events, and no event of it is at a position where there is no unit. An error means that memory was
+/// How many units have a lane: those from 0 on that ever had a task, and all those between.
+pub fn lanes_of(lives: &[Life]) -> u32 {
+    let mut lanes: u32 = 0;
+    for life in lives {
+        lanes = lanes.max(life.unit.saturating_add(1));
+    }
+    lanes
+}
+
+/// What a picture of the events of a history of `units` units is of; the run stands so, or it is not known how, which is
+/// `Running`. The history has at most 1,000,000 events, and no event of it is at a position where there is no unit. An error means that memory was
 /// refused.
 pub fn chart_of_events(
     alloc: Global,
     units: u32,
-    standing: Option<Standing>,
+    standing: Standing,
     runs: &[EventRun],
 ) -> Result<Chart, AllocError>
     requires some { 0 < units }
@@ -74,18 +88,23 @@ pub fn chart_of_events(
         axis: Axis {
             counted: Counted::Events,
             units,
+            lanes: lanes_of(&lives),
+            before: 0,
             count,
+            total: count,
         },
         columns,
+        retired: 0,
         events,
         lives,
         tally,
-        halted: halted_unit(units, tally.retired, standing),
+        head: tally.retired % units,
+        standing,
         waits: Vec::new(alloc),
     })
 }
 
-/// The shapes of a chart: of its lives, its waits and its events, or of the stretches of a long run. An error means that
+/// The shapes of a chart: of its lives, its waits, its heads and its events, or of the stretches of a long run. An error means that
 /// memory was refused.
 pub fn shapes_of(alloc: Global, chart: &Chart) -> Result<Vec<Shape>, AllocError>
     requires { HasRoom chart.now }
@@ -94,9 +113,11 @@ pub fn shapes_of(alloc: Global, chart: &Chart) -> Result<Vec<Shape>, AllocError>
     let mut shapes = Vec::new(alloc);
     if chart.is_single() {
         let axis = chart.axis;
-        push_bars(&mut shapes, axis, chart.halted, &chart.lives)?;
+        let (columns, retired) = (&chart.columns, chart.retired);
+        push_bars(&mut shapes, axis, chart.head, chart.standing, &chart.lives)?;
         push_waits(&mut shapes, axis, &chart.waits)?;
-        push_marks(&mut shapes, axis, &chart.columns, &chart.events)?;
+        push_heads(&mut shapes, axis, columns, retired, &chart.events)?;
+        push_marks(&mut shapes, axis, columns, retired, &chart.events)?;
     } else {
         push_shares(alloc, &mut shapes, chart)?;
     }

@@ -2,6 +2,8 @@
 
 ghost use Rattle.std.specs.Prelude.{◌≤◌, ◌<◌, ◌^◌};
 
+use crate::shape::Axis;
+
 /// Where the axis begins.
 pub(crate) const AXIS_LEFT: u64 = 8_800;
 
@@ -13,6 +15,9 @@ pub(crate) const LANES_TOP: u64 = 15_200;
 
 /// How high a lane is: a bar, and room for arrows above and below it.
 pub(crate) const LANE_HEIGHT: u64 = 6_800;
+
+/// How high the line is for the units that have no lane.
+const IDLE_HEIGHT: u64 = 2_600;
 
 /// How high a bar is.
 pub(crate) const BAR_HEIGHT: u64 = 4_000;
@@ -29,13 +34,25 @@ pub fn left_edge(count: u32, column: u32) -> u64
     AXIS_LEFT + u64::from(column) * AXIS_WIDTH / u64::from(count.max(1))
 }
 
-/// Where the middle of the room of a column is, numbered from 1.
-pub fn middle(count: u32, column: u32) -> u64
+/// Where a column, from 0, begins that a picture may have; one before it begins where the axis does, one after it where the
+/// axis ends.
+pub(crate) fn left_in(axis: Axis, column: u32) -> u64
     ensures low { 8800 ≤ result }
     ensures high { result < 2 ^ 60 }
 {
-    let begin = left_edge(count, column.saturating_sub(1));
-    let end = left_edge(count, column.max(1));
+    left_edge(
+        axis.count,
+        column.saturating_sub(axis.before).min(axis.count),
+    )
+}
+
+/// Where the middle of the room of a column is, numbered from 1.
+pub(crate) fn middle(axis: Axis, column: u32) -> u64
+    ensures low { 8800 ≤ result }
+    ensures high { result < 2 ^ 60 }
+{
+    let begin = left_in(axis, column.saturating_sub(1));
+    let end = left_in(axis, column.max(1));
     (begin + end) / 2
 }
 
@@ -58,6 +75,19 @@ pub fn bottom(units: u32) -> u64
     ensures high { result < 2 ^ 59 }
 {
     LANES_TOP + u64::from(units) * LANE_HEIGHT
+}
+
+/// Where the lanes of a picture end, from above, and the line for the units that have none.
+pub(crate) fn end_of_lanes(axis: Axis) -> u64
+    ensures low { 15200 ≤ result }
+    ensures high { result < 2 ^ 60 }
+{
+    let idle = if axis.lanes < axis.units {
+        IDLE_HEIGHT
+    } else {
+        0
+    };
+    bottom(axis.lanes) + idle
 }
 
 /// How far apart the numbers stand on an axis of `count` columns: the least of 1, 2 and 5, times 1, 10, 100 and so on up to

@@ -42,6 +42,10 @@ pub enum Style {
     SquashMark,
     /// The bar of the task that halted.
     Halted,
+    /// The bar of the task with which the run ended otherwise: by a trap, or at an exit that is not listed.
+    Trapped,
+    /// Where a unit is the head, over its bar.
+    Leads,
     /// A step in which a unit waits for a register.
     WaitForRegister,
     /// A step in which a unit waits to be the head.
@@ -59,6 +63,8 @@ pub enum LabelText {
     HowItStands(Standing),
     /// The number of a unit.
     OfUnit(u32),
+    /// Units from one number to another, which never had a task.
+    Idle(u32, u32),
     /// The number of an event or a step, from 1.
     ColumnNumber(u32),
     /// What the axis counts.
@@ -82,15 +88,21 @@ pub enum Counted {
     Steps,
 }
 
-/// How many columns a picture has from left to right, and of how many units it has lanes.
+/// What a picture has from left to right, and from above.
 #[derive(Clone, Copy, Debug)]
 pub struct Axis {
     /// What the columns are.
     pub counted: Counted,
     /// How many units there are.
     pub units: u32,
+    /// How many units have a lane: those from 0 on that ever had a task, and all those between.
+    pub lanes: u32,
+    /// How many events or steps come before the first one that is drawn.
+    pub before: u32,
     /// How many columns there are: events or steps.
     pub count: u32,
+    /// How many events or steps there are in all.
+    pub total: u32,
 }
 
 /// What happens in a stretch of events or steps, on all units.
@@ -169,8 +181,10 @@ pub struct Wait {
 pub enum Meaning {
     /// Nothing.
     Nothing,
-    /// A life, and whether it is that of the task that halted.
-    OfLife(Counted, Life, bool),
+    /// A life; and of the task with which the run ended, how it did. Of any other it is `Running`.
+    OfLife(Counted, Life, Standing),
+    /// After one event or step and up to another a unit is the head.
+    OfHead(Counted, u32, u32, u32),
     /// In this event or step a unit executes an instruction.
     OfExec(Counted, u32, u32),
     /// In this event or step a register goes from one unit to another.
@@ -212,6 +226,8 @@ pub struct Element {
 pub struct Shape {
     /// Its look and its place.
     pub element: Element,
+    /// Which of the events that are drawn it is of, from 0; of a shape that is of none, a number that no event has.
+    pub event: usize,
     /// What it stands for.
     pub meaning: Meaning,
 }

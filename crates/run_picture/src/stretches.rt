@@ -150,6 +150,7 @@ fn push_share(
     let below = below(&shares[part - part % 4..part]);
     shapes.push(Shape {
         element: rectangle(axis, share, below),
+        event: usize::MAX,
         meaning: Meaning::OfShare(axis.counted, share),
     })?;
     Ok(())

@@ -27,6 +27,8 @@ pub(crate) fn write_words(
             })
         }
         LabelText::OfUnit(unit) => write!(text, "unit {unit}"),
+        LabelText::Idle(unit, last) if unit == last => write!(text, "unit {unit}: idle"),
+        LabelText::Idle(first, last) => write!(text, "units {first} to {last}: idle"),
         LabelText::ColumnNumber(number) => write!(text, "{number}"),
         LabelText::OfAxis(Counted::Events) => {
             text.push_str("events that were allowed, numbered from 1")
@@ -58,7 +60,7 @@ pub fn write_how_it_stands(text: &mut String, standing: Standing) -> Result<(), 
     match standing {
         Standing::Running => text.push_str("has not ended"),
         Standing::Halted => text.push_str("halted"),
-        Standing::Trapped(_) => text.push_str("trapped"),
+        Standing::Trapped(trap) => write!(text, "trapped: {trap}"),
         Standing::Unlisted(address) => write!(
             text,
             "is unlisted: the head's task goes to 0x{address:x}, which it does not list"

@@ -1,7 +1,8 @@
 //! How far the marks of a program let its tasks overlap: the results of its runs in steps on 1, 2, 3 units and more,
-//! as a table and as a picture. The results and their numbers are proved; how they are written is not.
+//! as a table, as comma separated values and as a picture. The results and their numbers are proved; how they are written is not.
 #![tactic(auto)]
 
+pub mod csv;
 pub mod drawing;
 pub mod laws;
 pub mod numbers;

@@ -12,8 +12,7 @@ use crate::steps::{all_in_steps, count, steps};
 use crate::strips::strips;
 use machine_model::event::{Event, EventRun, Standing};
 use mark_checker::accept::Accepted;
-use run_picture::bars::halted_unit;
-use run_picture::chart::{Chart, MOST_SINGLE};
+use run_picture::chart::{Chart, MOST_SINGLE, lanes_of};
 use run_picture::events::single_events;
 use run_picture::shape::{Axis, Counted, Wait};
 use std::alloc::{AllocError, Global};
@@ -51,13 +50,18 @@ pub fn chart_of_steps(
         axis: Axis {
             counted: Counted::Steps,
             units,
+            lanes: lanes_of(&lives),
+            before: 0,
             count,
+            total: count,
         },
         columns,
+        retired: 0,
         events,
         lives,
         tally,
-        halted: halted_unit(units, tally.retired, Some(standing)),
+        head: tally.retired % units,
+        standing,
         waits,
     })
 }

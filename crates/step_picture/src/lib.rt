@@ -5,6 +5,7 @@
 
 pub mod chart;
 pub mod drawing;
+mod part;
 pub mod predictor_text;
 mod sheet;
 pub mod steps;

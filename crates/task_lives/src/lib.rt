@@ -2,6 +2,7 @@
 //! drops it, read off the history of a machine; and the summary of a run, counted over its lives.
 #![tactic(auto)]
 
+pub mod csv;
 mod following;
 pub mod laws;
 pub mod life;

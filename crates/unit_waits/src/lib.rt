@@ -4,6 +4,7 @@
 
 mod acting;
 mod alike;
+pub mod between;
 mod changes;
 pub mod count;
 pub mod counts;

@@ -97,6 +97,6 @@ fn show(
     ensures { IfOk result (λ shown. shown.items ≡ signals_of accepted.now.program units (state machine.now) events.now) }
 {
     let shown = signals(alloc, accepted, machine, units, events)?;
-    write_time(text, time, before, &shown)?;
+    write_time(text, accepted.program(), time, before, &shown)?;
     Ok(shown)
 }
