@@ -122,7 +122,8 @@ fn push_name(
     Ok(())
 }
 
-/// The name of a task; of letters, digits and `_` alone, so that nothing in it has a meaning in SVG.
+/// The name of a task, or `?` for a number that no task has; letters, digits and `_` alone, so that nothing in it has a
+/// meaning in SVG.
 pub fn name_of(tasks: &[Descriptor], task: u32) -> &str {
     match tasks.get(task as usize) {
         Some(descriptor) => descriptor.name.as_str(),

@@ -1,4 +1,4 @@
-//! What a picture is of, and its shapes.
+//! The content of a picture, and its shapes.
 
 ghost use Rattle.std.specs.Prelude.{◌≡◌, ◌<◌, ◌≤◌, IfOk, length, nat_le};
 ghost use Rattle.machine_model.specs.Answer.{most_events};
@@ -20,34 +20,34 @@ use task_lives::life::Life;
 use task_lives::lives::lives_of_runs;
 use task_lives::tally::{Tally, add_up};
 
-/// The most events or steps that are drawn singly; more are summed by stretches.
+/// The most events or steps that are drawn one by one; more are summed by stretches.
 pub const MOST_SINGLE: u32 = 2_000;
 
-/// What a picture is of: the lives, events and waits of a run, and in which columns they come.
+/// The content of a picture: the lives, events and waits of a run, and the columns in which they are.
 #[derive(Drop)]
 pub struct Chart {
-    /// How many columns and units there are.
+    /// What the columns are, and how many columns and units there are.
     pub axis: Axis,
     /// The column of each event, from 1.
     pub columns: Vec<u32>,
     /// How many tasks retired before the events.
     pub retired: u32,
-    /// The events.
+    /// The events, in order.
     pub events: Vec<Event>,
-    /// The lives; their first and last events are columns, from 0.
+    /// The lives; their `first` and `last` are columns, from 0.
     pub lives: Vec<Life>,
     /// The tally of all lives of the run.
     pub tally: Tally,
-    /// The unit that is the head when the run ends.
+    /// The number round the ring of the unit that is the head when the run ends.
     pub head: u32,
-    /// How the run stands at its end; `Running` also where that is not known.
+    /// How the run is at its end; `Running` also where that is not known.
     pub standing: Standing,
-    /// The waits, which pictures of steps have.
+    /// The waits, which only pictures of steps have.
     pub waits: Vec<Wait>,
 }
 
 impl Chart {
-    /// Whether events or steps are drawn singly.
+    /// Whether events or steps are drawn one by one: there are at most `MOST_SINGLE`.
     pub fn is_single(&self) -> bool
         ensures { result ≡ nat_le self.now.axis.count 2000 }
     {
@@ -64,9 +64,12 @@ pub fn lanes_of(lives: &[Life]) -> u32 {
     lanes
 }
 
-/// What a picture of the events of a history of `units` units is of; the run stands so, or it is not known how, which is
-/// `Running`. The history has at most 1,000,000 events, and no event of it is at a position where there is no unit. An error means that memory was
-/// refused.
+/// The content of a picture of the events of a history of `units` units, with how the run is at its end; `Running` also where
+/// that is not known. The history has at most 1,000,000 events, and no event of it is at a position where there is no unit.
+///
+/// # Errors
+///
+/// `AllocError` where memory was refused.
 pub fn chart_of_events(
     alloc: Global,
     units: u32,
@@ -104,8 +107,11 @@ pub fn chart_of_events(
     })
 }
 
-/// The shapes of a chart: of its lives, its waits, its heads and its events, or of the stretches of a long run. An error means that
-/// memory was refused.
+/// The shapes of a picture: of its lives, waits, heads and events, or of the stretches of a long run.
+///
+/// # Errors
+///
+/// `AllocError` where memory was refused.
 pub fn shapes_of(alloc: Global, chart: &Chart) -> Result<Vec<Shape>, AllocError>
     requires { HasRoom chart.now }
     ensures { IfOk result (λ shapes. meanings shapes.items ≡ told chart.now) }

@@ -19,10 +19,14 @@ use task_descriptor::descriptor::Descriptor;
 use task_descriptor::program::Program;
 use task_lives::tally::Tally;
 
-/// Draws the history of a run of a program of this name, which may be empty, on `units` units, at least one: one
-/// SVG file, with no script and no font of its own. The history has at most 1,000,000 events, and no event of it is
-/// at a position where there is no unit; this holds for every history of a machine
-/// (`task_lives::laws::histories_fit`). How the run stands is not said. An error means that memory was refused.
+/// The picture of the history of a run of a program of this name, which may be empty, on `units` units, at least one: an
+/// SVG file with no script and no font of its own. It does not say how the run ended. The history has at most 1,000,000
+/// events, and no event of it is at a position where there is no unit; this holds for every history of a machine
+/// (`task_lives::laws::histories_fit`).
+///
+/// # Errors
+///
+/// `AllocError` where memory was refused.
 pub fn draw(
     alloc: Global,
     program: &Program,
@@ -37,8 +41,13 @@ pub fn draw(
     draw_ended(alloc, program, name, "", units, None, &[], runs)
 }
 
-/// Draws a history as `draw` does; if it is known how the run stands after it, the picture says so, and shows which task
-/// halted. `said` is text of SVG that stands beside that, and may be empty. `notes` say what each event did; there may be none. An error means that memory was refused.
+/// The picture of a history, as `draw` makes it, which also says how the run is after the history, if that is known, and
+/// shows how the task ended with which it did. `said` is SVG text, which may be empty and is put to the right of the legend.
+/// `notes` say what each event did; there may be none.
+///
+/// # Errors
+///
+/// `AllocError` where memory was refused.
 pub fn draw_ended(
     alloc: Global,
     program: &Program,
@@ -93,7 +102,11 @@ fn write_opening(
     )
 }
 
-/// Writes the beginning of the root element, and its title. An error means that memory was refused.
+/// Adds the start tag of the root element, and its title.
+///
+/// # Errors
+///
+/// `AllocError` where memory was refused; a part may have been added.
 pub fn write_root(text: &mut String, name: &str, axis: Axis) -> Result<(), AllocError> {
     let height = (end_of_lanes(axis) + 9_200) / 100;
     write!(
@@ -120,7 +133,7 @@ fn outcome(
     Ok(elements)
 }
 
-/// Writes where the part that is drawn has its place in the whole run, if it is a part: a line above the lanes.
+// Adds a line above the lanes, which shows where in the whole run the part is that is drawn, if it is a part.
 fn write_place(text: &mut String, axis: Axis) -> Result<(), AllocError> {
     if axis.count >= axis.total {
         return Ok(());
@@ -140,8 +153,11 @@ fn write_place(text: &mut String, axis: Axis) -> Result<(), AllocError> {
     )
 }
 
-/// Writes lanes, the axis, the shapes of a chart with the notes on its events, its labels, and the end of the file. An
-/// error means that memory was refused.
+/// Adds the lanes, the axis, the shapes of a picture with the notes on its events, its labels, and the end of the file.
+///
+/// # Errors
+///
+/// `AllocError` where memory was refused; a part may have been added.
 pub fn write_chart(
     alloc: Global,
     text: &mut String,

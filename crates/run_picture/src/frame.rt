@@ -1,4 +1,4 @@
-//! What stands round the shapes: lanes, the axis, names and a note. By itself none of it stands for anything.
+//! The frame of the shapes: lanes, the axis, names and a note. By itself none of it has a meaning.
 
 use crate::bars::push_names;
 use crate::chart::Chart;

@@ -17,7 +17,7 @@ const SMALL_ROOM: u64 = 350;
 /// This much room after its arrow is enough for a register's number.
 const ROOM_OF_REGISTER: u64 = 2_600;
 
-/// Up to this many steps have room for all marks; more, for squashes alone.
+/// The most steps of a picture that shows the marks of all events; one of more steps shows squashes alone.
 pub const MOST_MARKED: u32 = 300;
 
 /// Adds the marks of some events, before which this many tasks retired, each in its column, numbered from 1.

@@ -1,4 +1,4 @@
-//! The queue of the units at work: where in it an event is, how long it is after an event, and where on the ring it begins.
+//! The queue of the units at work: the position of an event in it, its length after an event, and where on the ring it begins.
 
 ghost use Rattle.std.specs.Prelude.{◌≡◌, ◌+◌, ◌%◌, ◌<◌, ◌≤◌, ◌^◌, max};
 ghost use Rattle.machine_model.specs.HeadEvent.{active_after, position_of as position_of_event, retired_after};
@@ -6,7 +6,8 @@ ghost use Rattle.run_picture.specs.Meanings.{unit_before as unit_before_of};
 
 use machine_model::event::Event;
 
-/// The position of an event, where the given number of units are at work.
+/// The position of an event in the queue, 0 at the head, where `active` units are at work. An Assign is at the position
+/// after the tail.
 pub fn position_of(active: u64, event: Event) -> u64
     ensures { result ≡ position_of_event active event }
 {
@@ -22,7 +23,7 @@ pub fn position_of(active: u64, event: Event) -> u64
     }
 }
 
-/// How many units are at work after an event, given how many were before it.
+/// How many units are at work after an event, where `active` were before it.
 pub fn active_with(active: u64, event: Event) -> u64
     requires { active + 1 < 2 ^ 64 }
     ensures value { result ≡ active_after active event }

@@ -1,4 +1,4 @@
-//! What a picture is called: the program, if it has a name, and how many units and events or steps there are.
+//! The title of a picture: the program, if it has a name, and how many units and events or steps there are.
 
 use crate::shape::Axis;
 use crate::shape_text::word_of_counted;
@@ -8,8 +8,12 @@ use std::alloc::AllocError;
 /// How many bytes of a name are shown.
 const MOST_SHOWN: usize = 60;
 
-/// Writes what a picture is called: the program's name, unless that is empty, how many units and events or steps there
-/// are, and from which to which they are drawn, if that is a part. An error means that memory was refused.
+/// Adds the title of a picture: the program's name, unless that is empty, how many units and events or steps there are, and
+/// from which to which they are drawn, if that is a part.
+///
+/// # Errors
+///
+/// `AllocError` where memory was refused; a part may have been added.
 pub fn write_title(text: &mut String, name: &str, axis: Axis) -> Result<(), AllocError> {
     let between = if name.is_empty() { ": " } else { ", " };
     if name.is_empty() {
@@ -36,8 +40,11 @@ pub fn write_title(text: &mut String, name: &str, axis: Axis) -> Result<(), Allo
     write!(text, ", from {first} to {last}")
 }
 
-/// Writes a name as `write_escaped` does; of a long one, its first bytes and two periods. An error means that memory was
-/// refused.
+/// Adds a name; of a long one, its first bytes and two periods, as `write_escaped` writes it.
+///
+/// # Errors
+///
+/// `AllocError` where memory was refused; a part may have been added.
 pub fn write_name(text: &mut String, name: &[u8]) -> Result<(), AllocError> {
     write_escaped(text, &name[..name.len().min(MOST_SHOWN)])?;
     if name.len() > MOST_SHOWN {
@@ -46,8 +53,7 @@ pub fn write_name(text: &mut String, name: &[u8]) -> Result<(), AllocError> {
     Ok(())
 }
 
-/// Writes some bytes: one that has a meaning in SVG by its name there, and one that does not print as `\x` and two
-/// hexadecimal digits. An error means that memory was refused.
+// Adds bytes: one that has a meaning in SVG as its entity, and one that does not print as `\x` and two hexadecimal digits.
 pub(crate) fn write_escaped(text: &mut String, bytes: &[u8]) -> Result<(), AllocError> {
     for byte in bytes {
         match *byte {

@@ -1,4 +1,4 @@
-//! What labels say.
+//! The words of labels.
 
 ghost use Rattle.std.specs.Prelude.{◌≡◌};
 ghost use Rattle.run_picture.specs.WordsText.{plural as plural_of};
@@ -55,7 +55,11 @@ pub(crate) fn write_words(
     }
 }
 
-/// Writes how a run stands, to follow the words "the run". An error means that memory was refused.
+/// Adds how a run is at the end of its history, to follow the words "the run".
+///
+/// # Errors
+///
+/// `AllocError` where memory was refused; a part may have been added.
 pub fn write_how_it_stands(text: &mut String, standing: Standing) -> Result<(), AllocError> {
     match standing {
         Standing::Running => text.push_str("has not ended"),
@@ -68,7 +72,7 @@ pub fn write_how_it_stands(text: &mut String, standing: Standing) -> Result<(), 
     }
 }
 
-/// What follows a word for a number of things.
+/// The ending of a noun for a number of things: `s`, or nothing for one.
 pub fn plural(count: usize) -> &'static str
     ensures { result.now ≡ plural_of count }
 {

@@ -1,4 +1,4 @@
-//! What a picture of a run in steps is of.
+//! The content of a picture of a run in steps.
 
 ghost use Rattle.std.specs.Prelude.{◌≡◌, ℕ, ◌<◌, ◌≤◌, IfOk, length};
 ghost use Rattle.machine_model.specs.Answer.{most_events};
@@ -21,9 +21,13 @@ use task_lives::lives::lives_of_runs;
 use task_lives::tally::add_up;
 use unit_waits::waits::waits;
 
-/// What a picture of the history of a run in steps of an accepted program on `units` units, 1 to 16, with this final state
-/// is of. Each event of the history is allowed where it comes, and there are at most 1,000,000. An event at position 0 ends
-/// a step. An error means that memory was refused.
+/// The content of a picture of the history of a run in steps of an accepted program on `units` units, 1 to 16, with this
+/// final state. Each event of the history is allowed when it occurs, and there are at most 1,000,000. An event at position
+/// 0 ends a step.
+///
+/// # Errors
+///
+/// `AllocError` where memory was refused.
 pub fn chart_of_steps(
     alloc: Global,
     accepted: &Accepted,

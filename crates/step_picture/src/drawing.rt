@@ -23,11 +23,14 @@ use run_picture::title::write_title;
 use run_picture::words_text::write_how_it_stands;
 use std::alloc::{AllocError, Global};
 
-/// Draws a range of the steps of the history of a run in steps of an accepted program of this name, which may be empty, and
-/// of this text, on `units` units,
-/// 1 to 16, with this predictor and this final state: one SVG file, with no script and no font of its own. Each event
-/// of the history is allowed where it comes, and there are at most 1,000,000. An event at position 0 ends a step. An
-/// error means that memory was refused.
+/// The picture of a range of the steps of the history of a run in steps of an accepted program of this name, which may be empty,
+/// and of this text, on `units` units, 1 to 16, with this predictor and this final state: an SVG file with no script and no font
+/// of its own. Each event of the history is allowed when it occurs, and there are at most 1,000,000. An event at position 0
+/// ends a step.
+///
+/// # Errors
+///
+/// `AllocError` where memory was refused.
 pub fn draw(
     alloc: Global,
     accepted: &Accepted,

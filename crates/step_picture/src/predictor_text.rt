@@ -1,4 +1,4 @@
-//! What a predictor is called.
+//! The name of a predictor.
 
 use jobs::job::Prediction;
 use std::alloc::AllocError;
@@ -6,7 +6,11 @@ use std::alloc::AllocError;
 /// How many numbers of a list a picture names.
 const MOST_NAMED: usize = 24;
 
-/// Writes what a picture calls a predictor; of a long list, the first numbers. An error means that memory was refused.
+/// Adds the name of a predictor; of a long list, the first numbers.
+///
+/// # Errors
+///
+/// `AllocError` where memory was refused; a part may have been added.
 pub fn write_predictor(text: &mut String, predict: &Prediction) -> Result<(), AllocError> {
     let numbers = match predict {
         Prediction::First => return text.push_str("first"),
