@@ -324,17 +324,15 @@ fn run_in(values: &Values<'_, '_>) -> Result<Job, UsageFault>
 fn run_emit_in(values: &Values<'_, '_>, schedule: Schedule) -> Result<RunEmit, UsageFault>
     ensures { IfErr result (Refuses values.now.name.now (values_in values.now.matches.now)) }
 {
-    let message =
-        "the value of --emit is report, script, summary, svg, trace, json, perfetto or, with --schedule steps, waits, vcd or kanata; --with-values goes with script, --axis, events or steps, with svg, and --from and a --to that is not below it with svg of steps";
-    let named = values.word("emit", &RUN_EMITS, message)?;
+    let named = values.word(
+        "emit",
+        &RUN_EMITS,
+        "the value of --emit is report, script, summary, svg, trace, json, perfetto or, with --schedule steps, waits, vcd or kanata",
+    )?;
     let in_steps = schedule == Schedule::Steps;
     let valued = values.is_given("with-values");
-    let (first, last) = (values.number("from"), values.number("to"));
-    let is_part = first.is_some() || last.is_some();
-    let range = StepRange {
-        first: first.unwrap_or(ALL_STEPS.first),
-        last: last.unwrap_or(ALL_STEPS.last),
-    };
+    let range = range_in(values);
+    let is_part = is_part_in(values);
     let emit = match (named, values.text("axis")) {
         (RunEmit::Script, None) if valued && !is_part => Some(RunEmit::ScriptWithValues),
         _ if valued => None,
@@ -349,7 +347,43 @@ fn run_emit_in(values: &Values<'_, '_>, schedule: Schedule) -> Result<RunEmit, U
     };
     match emit {
         Some(emit) => Ok(emit),
-        None => Err(values.fault(ErrorKind::InvalidValue, message)),
+        None => Err(values.fault(
+            ErrorKind::ArgumentConflict,
+            misfit_of(values, named, in_steps),
+        )),
+    }
+}
+
+// The steps that `--from` and `--to` ask for, and whether one of the two is given.
+fn range_in(values: &Values<'_, '_>) -> StepRange {
+    StepRange {
+        first: values.number("from").unwrap_or(ALL_STEPS.first),
+        last: values.number("to").unwrap_or(ALL_STEPS.last),
+    }
+}
+
+fn is_part_in(values: &Values<'_, '_>) -> bool {
+    values.number("from").is_some() || values.number("to").is_some()
+}
+
+// Which of the options of `run` does not fit `--emit` and the schedule.
+fn misfit_of(values: &Values<'_, '_>, named: RunEmit, in_steps: bool) -> &'static str {
+    let axis = values.text("axis");
+    let range = range_in(values);
+    if values.is_given("with-values") && named != RunEmit::Script {
+        "--with-values goes with --emit script"
+    } else if !matches!(axis, None | Some("events" | "steps")) {
+        "the value of --axis is events or steps"
+    } else if axis.is_some() && named != RunEmit::Picture {
+        "--axis goes with --emit svg"
+    } else if axis == Some("steps") && !in_steps {
+        "--axis steps goes with --schedule steps"
+    } else if is_part_in(values) && range.first > range.last {
+        "the step of --to is before that of --from"
+    } else if is_part_in(values) {
+        "--from and --to go with --schedule steps --emit svg, and not with --axis events"
+    } else {
+        "--emit waits, vcd and kanata go with --schedule steps"
     }
 }
 
