@@ -7,7 +7,7 @@
 The first form runs each example with a program text on 1, 2, 4 and 16 units, by threads and in steps, for at most 300 events,
 and replays each script of events that it has; a program whose marks are wrong has no lines. It also removes a key from each
 object and adds one, and the schema must refuse that. This knows the words of JSON Schema that the file uses, and no other. What
-differs is told, and the script ends with status 1. It is no part of the tests.
+differs is told, and the script ends with status 1.
 """
 import argparse
 import json
