@@ -120,20 +120,20 @@ impl Log {
     ) -> Result<(), AllocError> {
         let mut is_executed = false;
         for change in changes {
-            if let Change::AtUnit {
-                position,
-                task,
-                change,
-            } = *change
-            {
-                let unit = ring.number_at(position);
-                self.add_at(unit, change)?;
-                if let UnitChange::Executed { index } = change {
-                    is_executed = true;
-                    self.execute(source, unit, task_name(program, task), index)?;
+            match change {
+                Change::AtUnit {
+                    position,
+                    task,
+                    change,
+                } => {
+                    let unit = ring.number_at(*position);
+                    is_executed |= self.add_at(source, unit, task_name(program, *task), *change)?;
                 }
-            } else if is_executed {
-                write_effect(&mut self.text, *change)?;
+                effect => {
+                    if is_executed {
+                        write_effect(&mut self.text, *effect)?;
+                    }
+                }
             }
         }
         if is_executed {
@@ -142,20 +142,34 @@ impl Log {
         Ok(())
     }
 
-    /// Adds what changed at a unit, but for an instruction.
-    fn add_at(&mut self, unit: usize, change: UnitChange) -> Result<(), AllocError> {
+    /// Adds what changed at a unit with a task of this name. Answers whether it executed an instruction: its line is then
+    /// left open.
+    fn add_at(
+        &mut self,
+        source: &Source<'_>,
+        unit: usize,
+        task: &str,
+        change: UnitChange,
+    ) -> Result<bool, AllocError> {
         match change {
-            UnitChange::Began { .. } => {
-                if let Some(thread) = self.threads.get_mut(unit) {
-                    *thread = self.tasks;
-                }
-                self.tasks = self.tasks.saturating_add(1);
-                Ok(())
+            UnitChange::Began { .. } => self.begin(unit),
+            UnitChange::Executed { index } => {
+                self.execute(source, unit, task, index)?;
+                return Ok(true);
             }
-            UnitChange::Retired { .. } => self.end(unit, Ending::Retired),
-            UnitChange::Squashed | UnitChange::Dropped => self.end(unit, Ending::Flushed),
-            _ => Ok(()),
+            UnitChange::Retired { .. } => self.end(unit, Ending::Retired)?,
+            UnitChange::Squashed | UnitChange::Dropped => self.end(unit, Ending::Flushed)?,
+            _ => {}
         }
+        Ok(false)
+    }
+
+    /// Begins the thread of a task on a unit.
+    fn begin(&mut self, unit: usize) {
+        if let Some(thread) = self.threads.get_mut(unit) {
+            *thread = self.tasks;
+        }
+        self.tasks = self.tasks.saturating_add(1);
     }
 
     /// Adds that a unit executes the instruction of this index in a task of this name; its line is left open for its effects.
