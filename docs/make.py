@@ -368,9 +368,9 @@ def made(text):
 
 
 def anchors(text):
-    """The names by which links lead to the headings of a page."""
+    """The names by which links lead to the headings of a page; a heading that has another name now may keep the old one in `<a id=..>`."""
     heads = re.findall(r"^#+ (.*)$", re.sub(r"^```.*?^```$", "", text, flags=re.M | re.S), re.M)
-    return {re.sub(r"[^\w -]", "", re.sub(r"\[([^]]*)\]\([^)]*\)", r"\1", it)).lower().replace(" ", "-") for it in heads}
+    return set(re.findall(r'^<a id="([\w-]+)"></a>$', text, re.M)) | {re.sub(r"[^\w -]", "", re.sub(r"\[([^]]*)\]\([^)]*\)", r"\1", it)).lower().replace(" ", "-") for it in heads}
 
 
 def links():

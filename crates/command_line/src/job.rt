@@ -266,7 +266,7 @@ fn verdict_format_in(values: &Values<'_, '_>) -> Result<VerdictFormat, UsageFaul
 fn played_emit_in(values: &Values<'_, '_>, named: ReplayEmit) -> Result<ReplayEmit, UsageFault>
     ensures { IfErr result (Refuses values.now.name.now (values_in values.now.matches.now)) }
 {
-    let message = "without --strict --format, text or csv, goes with --emit summary";
+    let message = "without --strict, --format goes with --emit summary, as text or csv";
     match (named, table_format_in(values, message)?) {
         (named, None) => Ok(named),
         (ReplayEmit::Summary(_), Some(format)) => Ok(ReplayEmit::Summary(format)),
