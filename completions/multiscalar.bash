@@ -5,7 +5,7 @@ _multiscalar_options() {
         # made: bash options
         seq) echo "--budget --output --help" ;;
         print) echo "--listing --output --help" ;;
-        annotate) echo "--emit --output --in-place --report --help" ;;
+        annotate) echo "--emit --output --in-place --releases --report --help" ;;
         explain) echo "--certificate --script --no-warnings --werror --format --color --fix --output --in-place --help" ;;
         check) echo "--format --least --workers --output --help" ;;
         replay) echo "--least --units --emit --until --strict --complete --format --output --help" ;;

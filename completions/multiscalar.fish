@@ -60,5 +60,6 @@ complete -c multiscalar -n '__fish_seen_subcommand_from run' -l with-values -d '
 complete -c multiscalar -n '__fish_seen_subcommand_from curve' -l progress -d 'says on standard error when each run is done'
 complete -c multiscalar -n '__fish_seen_subcommand_from seq print annotate explain check replay run curve demonstrate' -l output -s o -r -d 'writes the result to FILE, whole or not at all'
 complete -c multiscalar -n '__fish_seen_subcommand_from annotate explain' -l in-place -d 'writes the program with the proposed marks or the fixes to PROGRAM itself, whole or not at all'
+complete -c multiscalar -n '__fish_seen_subcommand_from annotate' -l releases -d 'also puts in the releases that make a run on 4 units shorter'
 complete -c multiscalar -n '__fish_seen_subcommand_from annotate' -l report -d 'says on standard error what is left to correct by hand'
 # end of fish options

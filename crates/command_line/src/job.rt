@@ -84,6 +84,7 @@ pub(crate) fn request_in(values: &Values<'_, '_>) -> Result<Request, UsageFault>
     let output = output_in(values, &job)?;
     let fixes = fixes_in(values, &job)?;
     let further = further_in(values, &job)?;
+    let releases = releases_in(values, &job)?;
     if !further.is_empty() {
         expect_alone(values, &job, output.is_some(), fixes.is_some())?;
     }
@@ -93,6 +94,7 @@ pub(crate) fn request_in(values: &Values<'_, '_>) -> Result<Request, UsageFault>
         output,
         fixes,
         further,
+        releases,
         report: values.is_given("report"),
         progress: values.is_given("progress"),
     })
@@ -144,11 +146,8 @@ fn job_in(values: &Values<'_, '_>) -> Result<Job, UsageFault>
 fn emit_in(values: &Values<'_, '_>) -> Option<Emit>
     ensures { result ≡ emit_in (values_in values.now.matches.now) }
 {
-    let otherwise = if values.is_given("in-place") {
-        "marks"
-    } else {
-        "text"
-    };
+    let is_own = values.is_given("in-place") || values.is_given("releases");
+    let otherwise = if is_own { "marks" } else { "text" };
     emit_named(values.text("emit").unwrap_or(otherwise))
 }
 
@@ -554,6 +553,26 @@ fn output_in(values: &Values<'_, '_>, job: &Job) -> Result<Option<String>, Usage
             ErrorKind::ArgumentConflict,
             "with --in-place PROGRAM is a file, there is no --output, and the value of --emit is marks or text",
         )),
+    }
+}
+
+// Whether releases are put in, which goes with the author's own text alone.
+fn releases_in(values: &Values<'_, '_>, job: &Job) -> Result<bool, UsageFault>
+    ensures value { IfOk result (λ releases. releases ≡ is_given (codes "releases") (values_in values.now.matches.now)) }
+    ensures fault { IfErr result (Refuses values.now.name.now (values_in values.now.matches.now)) }
+{
+    match (values.is_given("releases"), job) {
+        (
+            true,
+            Job::Annotate {
+                emit: Emit::Marks,
+            },
+        ) => Ok(true),
+        (true, _) => Err(values.fault(
+            ErrorKind::ArgumentConflict,
+            "--releases goes with --emit marks",
+        )),
+        (false, _) => Ok(false),
     }
 }
 

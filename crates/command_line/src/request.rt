@@ -18,6 +18,9 @@ pub struct Request {
     /// of `explain`; of every other job none. Where there is one, the job has no certificate in a file and no script, and
     /// `output` and `fixes` are `None`.
     pub further: Vec<String>,
+    /// Whether `annotate` is to put the releases that pay into the text that it writes; for every other job, and another
+    /// text than the author's own with the proposed marks, no.
+    pub releases: bool,
     /// Whether standard error is to report what `annotate` leaves to mend by hand; for every other job, no.
     pub report: bool,
     /// Whether standard error is to report each run of `curve` when it is done; for every other job, no.
