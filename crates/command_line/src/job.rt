@@ -562,12 +562,7 @@ fn releases_in(values: &Values<'_, '_>, job: &Job) -> Result<bool, UsageFault>
     ensures fault { IfErr result (Refuses values.now.name.now (values_in values.now.matches.now)) }
 {
     match (values.is_given("releases"), job) {
-        (
-            true,
-            Job::Annotate {
-                emit: Emit::Marks,
-            },
-        ) => Ok(true),
+        (true, Job::Annotate { emit: Emit::Marks }) => Ok(true),
         (true, _) => Err(values.fault(
             ErrorKind::ArgumentConflict,
             "--releases goes with --emit marks",

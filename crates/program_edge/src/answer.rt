@@ -150,7 +150,9 @@ fn serve_with<D: Folder, O: Write, E: Write, R: Threads + Wait + Sync>(
     if releases {
         release(rt, alloc, job, texts, place, reader, folder, output, errors)
     } else {
-        deliver(progress, rt, alloc, job, texts, place, reader, folder, output, errors)
+        deliver(
+            progress, rt, alloc, job, texts, place, reader, folder, output, errors,
+        )
     }
 }
 
@@ -176,7 +178,9 @@ fn release<D: Folder, O: Write, E: Write, R: Threads + Wait + Sync>(
             let place = place_of(place, is_refusal(job, end, text));
             let said = said_at(&place, text);
             let beside = made.beside.as_slice();
-            hand_over(alloc, place, text, said, beside, end, folder, output, errors)
+            hand_over(
+                alloc, place, text, said, beside, end, folder, output, errors,
+            )
         }
         Err(lack) => tell(&Fault::Serve(lack), output, errors),
     }

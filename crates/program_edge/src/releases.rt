@@ -76,10 +76,16 @@ fn line_of(alloc: Global, reader: &Reader, released: &Released) -> Result<String
     match released.steps {
         None => writeln!(line, "multiscalar: {name}: no release put in")?,
         Some((before, after)) if after < before => {
-            writeln!(line, "multiscalar: {name}: releases put in: a run on {TRIAL_UNITS} units takes {after} steps, without them {before}")?
+            writeln!(
+                line,
+                "multiscalar: {name}: releases put in: a run on {TRIAL_UNITS} units takes {after} steps, without them {before}"
+            )?
         }
         Some((before, _)) => {
-            writeln!(line, "multiscalar: {name}: no release put in: a run on {TRIAL_UNITS} units takes {before} steps")?
+            writeln!(
+                line,
+                "multiscalar: {name}: no release put in: a run on {TRIAL_UNITS} units takes {before} steps"
+            )?
         }
     }
     Ok(line)

@@ -48,7 +48,8 @@ fn help(subject: &Subject, waited: &Waited, registers: &Words) -> Made<Help> {
         by_text(alloc, message, Span { width: 0, ..here }, text)
     } else {
         let (line, blanks) = (above.line, blanks_before(subject, above)?);
-        let message = words!(in alloc; "write release {registers} on a new line after line {line}")?;
+        let message =
+            words!(in alloc; "write release {registers} on a new line after line {line}")?;
         let text = words!(in alloc; "{blanks}release {registers}\n")?;
         let place = Span {
             line: line.saturating_add(1),
@@ -75,7 +76,8 @@ pub(crate) fn proposed(subject: &Subject, waited: &Waited) -> Made<Diagnostic>
     let task = subject.task(waited.task);
     let is_one = waited.due.registers.bits().is_power_of_two();
     let them = if is_one { "it" } else { "them" };
-    let message = words!(in alloc; "from here on task {task} writes {registers} no more, and sends {them} only where it ends")?;
+    let message =
+        words!(in alloc; "from here on task {task} writes {registers} no more, and sends {them} only where it ends")?;
     Ok(Diagnostic {
         severity: Severity::Warning,
         code: Code::NotForwarded,
@@ -117,7 +119,8 @@ pub(crate) fn gain(
     let register = set_words(subject, awaited(first.reason))?;
     let task = subject.task(first.task);
     let (steps, fewer) = (before.steps, after.steps);
-    let message = words!(in alloc; "{place} task {task} waits {waits} steps for {register}; a run on {TRIAL_UNITS} units takes {steps} steps, with the release {fewer}")?;
+    let message =
+        words!(in alloc; "{place} task {task} waits {waits} steps for {register}; a run on {TRIAL_UNITS} units takes {steps} steps, with the release {fewer}")?;
     let mut notes = Vec::new(alloc);
     notes.push(Note {
         span: Some(span),

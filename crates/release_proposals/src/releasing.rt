@@ -46,7 +46,11 @@ fn best_attempt(
     let mut chosen: Vec<usize> = (0..said.len()).collect(alloc)?;
     let mut best = attempt(alloc, text, said, Some(&chosen))?;
     for number in (0..said.len()).rev() {
-        let rest: Vec<usize> = chosen.iter().copied().filter(|one| *one != number).collect(alloc)?;
+        let rest: Vec<usize> = chosen
+            .iter()
+            .copied()
+            .filter(|one| *one != number)
+            .collect(alloc)?;
         let other = attempt(alloc, text, said, Some(&rest))?;
         if is_no_slower(&other, &best) {
             chosen = rest;

@@ -29,14 +29,10 @@ fn owing(least: &Cert, due: &Due, waits: &Count) -> Option<u32> {
 
 // Whether each task that reaches a place may produce what is due there.
 fn is_created(program: &Program, least: &Cert, due: &Due) -> bool {
-    program
-        .tasks()
-        .iter()
-        .enumerate()
-        .all(
-            |(task, descriptor)| least.mask(task as u32, due.index).is_none()
-                || due.registers.is_subset(descriptor.create),
-        )
+    program.tasks().iter().enumerate().all(|(task, descriptor)| least
+        .mask(task as u32, due.index)
+        .is_none()
+        || due.registers.is_subset(descriptor.create))
 }
 
 /// The places where a release is due that other tasks wait for: at most so many, those with the most waits. The counts have
