@@ -143,6 +143,12 @@ class Place:
         names = sorted(it.name for it in dist.iterdir() if it.name != "SHA256SUMS")
         (dist / "SHA256SUMS").write_text("".join(f"{sum_of((dist / it).read_bytes())}  {it}\n" for it in names))
 
+    def settled(self, **how):
+        """Waits, so that the sources are old enough for the launcher to look at times alone, and has it look."""
+        time.sleep(2.2)
+        expect(self.call("seq", **{"env": self.bare(), **how}) == (0, "shipped\n", ""))
+        expect(self.call("seq", **{"env": self.bare("sha256sum"), **how}) == (0, "shipped\n", ""), "it looks at times alone")
+
     def bare(self, *missing, **more):
         """The settings of a system that has neither rt nor these."""
         return self.settings(PATH=str(without(self.folder, "rt", *missing)), **{"XDG_CACHE_HOME": str(self.folder / "cache"), **more})
@@ -420,10 +426,15 @@ def try_shipped(folder):
     expect(stat.S_IMODE((place.out / "shipped").stat().st_mode) == 0o755 and not (folder / "cache").exists())
     os.utime(place.main)
     expect(place.call("seq", **where) == (0, "shipped\n", ""), "touched")
+    place.settled()
+    expect(place.call("seq", env=place.bare("find"))[0] == 2, "it cannot look at times")
     others = {"text": lambda: place.main.write_text("second\n"), "new": lambda: make(place.top / "crates/low/proofs/New.antt", ""),
-              "crate": lambda: make(place.top / "crates/new/src/lib.rt", ""), "gone": (place.top / "crates/multiscalar/specs/Lib.antt").unlink}
+              "crate": lambda: make(place.top / "crates/new/src/lib.rt", ""), "no crate": lambda: shutil.rmtree(place.top / "crates/other"),
+              "gone": (place.top / "crates/multiscalar/specs/Lib.antt").unlink}
     for name, change in others.items():
         shutil.copytree(place.top, folder / "kept", symlinks=True)
+        if name == "no crate":
+            place.settled()
         change()
         status, out, said = place.call("seq", **where)
         expect((status, out) == (2, "") and "it was built from other sources" in said and "missing: rt" in said, name, status, out, said)
@@ -480,6 +491,9 @@ def try_cache(folder):
     place.ship()
     place.out.write_text("")
     home = folder / "home"
+    # Another checkout, with the same release.
+    shutil.copytree(place.top, folder / "other")
+    (folder / "other/HANDLES").write_text("Handles allowed: Threads.\n")
     for number, more in enumerate(({}, {"XDG_CACHE_HOME": "", "HOME": str(home)}, {"XDG_CACHE_HOME": "cache", "HOME": str(home)})):
         where = {"env": place.bare(**more), "preexec_fn": lambda: os.umask(0o002)}
         status, out, said = place.call("seq", **where)
@@ -487,15 +501,14 @@ def try_cache(folder):
         expect(place.call("seq", **where) == (0, "shipped\n", ""), more)
     for it in (folder / "cache", home / ".cache"):
         expect(stat.S_IMODE(it.stat().st_mode) == 0o700 == stat.S_IMODE((it / "multiscalar").stat().st_mode), it)
-    # Another checkout with the same program says nothing, and judges its own sources.
-    shutil.copytree(place.top, folder / "other")
+    place.settled()
     place.top = folder / "other"
-    expect(place.call("seq", env=place.bare()) == (0, "shipped\n", ""))
-    (place.top / "HANDLES").write_text("Handles allowed: Threads.\n")
     status, _, said = place.call("seq", env=place.bare())
     expect(status == 2 and "other sources" in said, said)
-    place.top = folder / "in sources"
-    expect(place.call("seq", env=place.bare()) == (0, "shipped\n", ""))
+    shutil.copy(folder / "in sources/HANDLES", place.top)
+    for top in ("other", "in sources"):
+        place.top = folder / top
+        expect(place.call("seq", env=place.bare()) == (0, "shipped\n", ""), top)
     status, out, said = place.call("seq", env=place.bare(XDG_CACHE_HOME="", HOME=""))
     expect((status, out) == (2, "") and "there is no folder for it" in said, said)
 
@@ -506,41 +519,36 @@ def try_unsafe_folders(folder):
     place.ship()
     out, cache = place.out / "shipped", folder / "cache/multiscalar"
     expect(place.call("seq", env=place.bare())[:2] == (0, "shipped\n"))
-    place.out.rename(folder / "out")
-    place.out.write_text("")
-    expect(place.call("seq", env=place.bare())[:2] == (0, "shipped\n"))
-    room = next(cache.iterdir())
-    place.out.unlink()
-    (folder / "out").rename(place.out)
-    make(folder / "worse", "#!/bin/bash\necho worse\n")
-
-    def other_user(it):
-        os.chown(it, 65534, 65534)
-
-    def as_link(it):
-        it.rename(folder / "moved")
-        it.symlink_to(folder / "moved")
-
-    faults = [lambda it: it.chmod(0o775), lambda it: it.chmod(0o1777), as_link, *([other_user] if os.geteuid() == 0 else [])]
-    for number, spoil in enumerate(faults):
-        for spoiled in (cache, room, room / "multiscalar"):
-            shutil.copytree(folder, folder.with_name(f"{folder.name}-kept"), symlinks=True)
-            for name in ("multiscalar", next(it.name for it in room.iterdir() if it.name.startswith("seen"))):
-                if name == "multiscalar":
-                    for it in (room, out):
-                        make(it / name, "#!/bin/bash\necho worse\n")
-            if number == 2 and spoiled.is_file():
-                spoiled = out
-            spoil(out)
-            if spoiled != out:
-                spoil(spoiled) if spoil != as_link else (spoiled.rename(folder / "moved too"), spoiled.symlink_to(folder / "moved too"))
-            if spoiled != out:
-                status, said_out, said = place.call("seq", env=place.bare())
-                expect((status, said_out) == (2, "") and "there is no folder for it" in said, number, spoiled, status, said_out, said)
-            shutil.rmtree(folder)
-            folder.with_name(f"{folder.name}-kept").rename(folder)
     out.chmod(0o775)
-    expect(place.call("seq", env=place.bare())[:2] == (0, "shipped\n"), "the cache instead")
+    status, said_out, said = place.call("seq", env=place.bare())
+    expect((status, said_out) == (0, "shipped\n") and ONCE in said and cache.is_dir(), "the cache instead", status, said_out, said)
+    place.settled()
+    out.chmod(0o755)
+    place.settled()
+    room, moved = next(cache.iterdir()), folder / "moved"
+    for it in (out, room):
+        make(it / "multiscalar", "#!/bin/bash\necho worse\n")
+
+    def linked(it):
+        it.rename(moved)
+        it.symlink_to(moved)
+
+    def as_before(it):
+        it.unlink()
+        moved.rename(it)
+
+    ways = [(lambda it: it.chmod(0o775), lambda it: it.chmod(0o755)), (lambda it: it.chmod(0o1777), lambda it: it.chmod(0o755)), (linked, as_before)]
+    if os.geteuid() == 0:
+        ways.append((lambda it: os.chown(it, 65534, 65534), lambda it: os.chown(it, 0, 0)))
+    # Of the checkout, without a cache; and of the cache, without the checkout's.
+    for files, settings in (((out, out / "multiscalar"), {"XDG_CACHE_HOME": "", "HOME": ""}), ((cache, room, room / "multiscalar"), {})):
+        for number, (spoil, undo) in enumerate(ways):
+            for it in files:
+                spoil(it)
+                status, said_out, said = place.call("seq", env=place.bare(**settings))
+                expect((status, said_out) == (2, "") and "there is no folder for it" in said, number, it, status, said_out, said)
+                undo(it)
+        out.chmod(0o775)
 
 
 def try_other_systems(folder):

@@ -43,7 +43,11 @@ def faults(top, folder):
     program, stripped = root / "multiscalar", folder / "stripped"
     if hashlib.sha256(program.read_bytes()).hexdigest() != named(dist / "MANIFEST", "^program sha256 (.*)$"):
         yield "the program has another digest than MANIFEST names"
-    called(top, "strip.sh", top / "crates/multiscalar/out/multiscalar", stripped)
+    built = top / "crates/multiscalar/out/multiscalar"
+    if not built.is_file():
+        yield "no program was built here"
+        return
+    called(top, "strip.sh", built, stripped)
     if program.read_bytes() != stripped.read_bytes():
         yield "the program is not the one that was built here"
 
