@@ -61,11 +61,8 @@ echo "== the package"
 inside 'dpkg -i /srv/multiscalar_*.deb > /dev/null && multiscalar check --least /usr/share/doc/multiscalar/examples/count/program.s'
 inside "cd /srv && gcc a.c -lmultiscalar -o a && $tried && PYTHONPATH=/usr/share/multiscalar/python python3 a.py"
 [ -z "$has_page" ] || inside 'cmp /srv/multiscalar-*/multiscalar.html /usr/share/doc/multiscalar/multiscalar.html'
-if [ -n "$has_page" ] && command -v chromium > /dev/null && command -v chromedriver > /dev/null; then
-    "$top/web/test" "$system/usr/share/doc/multiscalar/multiscalar.html" --browser chromium
-fi
 echo "== man page and completions"
-inside 'zcat /usr/share/man/man1/multiscalar.1.gz | mandoc -T lint -W warning && zcat /usr/share/man/man1/multiscalar.1.gz | mandoc -T ascii | head -n 5'
+inside '! zcat /usr/share/man/man1/multiscalar.1.gz | mandoc -T lint -W warning | grep -v "new sentence, new line" && zcat /usr/share/man/man1/multiscalar.1.gz | mandoc -T ascii | head -n 5'
 inside 'source /usr/share/bash-completion/completions/multiscalar; COMP_WORDS=(multiscalar r); COMP_CWORD=1; _multiscalar; echo "${COMPREPLY[@]}"'
 inside 'dpkg -r multiscalar > /dev/null && ! command -v multiscalar && [ ! -e /usr/lib/libmultiscalar.so.0 ]'
 
@@ -129,4 +126,8 @@ other=$work/other
 make_other
 echo "== a clone, in a system with the paths of Fedora"
 try_clone "$other"
+if [ -n "$has_page" ] && command -v chromium > /dev/null && command -v chromedriver > /dev/null; then
+    echo "== the page, in Chromium"
+    "$top/web/test" "$(echo "$system"/srv/multiscalar-*/multiscalar.html)" --browser chromium
+fi
 echo "release and clone work in two bare systems"
