@@ -108,6 +108,7 @@ try_clone() { # SYSTEM
         cp -R "$from" "$it/dist"
     done
     chown -R 1000:1000 "$home"
+    sleep 3 # the launcher looks at times alone where files are some seconds old
     ! chroot "$1" /bin/bash -c 'command -v rt'
     echo "a clone of the user: the first call, and another"
     as_user "$1" "cd \"\$HOME/a clone\" && time $first && grep 'proved elsewhere' said && time $first && [ ! -s said ] && rm said && [ -x crates/multiscalar/out/shipped/multiscalar ]"
