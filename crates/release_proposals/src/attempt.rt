@@ -31,7 +31,7 @@ fn only_insert(edits: &[Edit]) -> bool
 /// # Errors
 ///
 /// `AllocError` where memory was refused.
-pub(crate) fn attempt(
+pub(crate) fn attempted(
     alloc: Global,
     text: &[u8],
     said: &[Diagnostic],

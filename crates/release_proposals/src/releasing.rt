@@ -4,7 +4,7 @@ ghost use Rattle.std.specs.Prelude.{◌≡◌, Ok, IfOk, IfSome};
 ghost use Rattle.annotated_asm.specs.ProgramText.{parse};
 ghost use Rattle.release_proposals.specs.Paying.{IsAttempt, IsReleased, IsTried};
 
-use crate::attempt::{Attempt, attempt};
+use crate::attempt::{Attempt, attempted};
 use crate::base::{Base, base_of};
 use crate::due::dues_in;
 use crate::proposal::proposed;
@@ -44,14 +44,14 @@ fn best_attempt(
     ensures { IfOk result (λ found. IfSome found (IsAttempt text.now said.now)) }
 {
     let mut chosen: Vec<usize> = (0..said.len()).collect(alloc)?;
-    let mut best = attempt(alloc, text, said, Some(&chosen))?;
+    let mut best = attempted(alloc, text, said, Some(&chosen))?;
     for number in (0..said.len()).rev() {
         let rest: Vec<usize> = chosen
             .iter()
             .copied()
             .filter(|one| *one != number)
             .collect(alloc)?;
-        let other = attempt(alloc, text, said, Some(&rest))?;
+        let other = attempted(alloc, text, said, Some(&rest))?;
         if is_no_slower(&other, &best) {
             chosen = rest;
             best = other;

@@ -5,7 +5,7 @@ ghost use Rattle.std.specs.List.{All};
 ghost use Rattle.annotated_asm.specs.ProgramText.{parse};
 ghost use Rattle.release_proposals.specs.Paying.{IsForgotten, IsTried};
 
-use crate::attempt::attempt;
+use crate::attempt::attempted;
 use crate::base::base_of;
 use crate::due::dues_in;
 use crate::proposal::{gain, proposed};
@@ -15,6 +15,7 @@ use diagnostics::diagnostic::Diagnostic;
 use mark_subjects::subject::Subject;
 use mask_certificate::certificate::Cert;
 use std::alloc::{AllocError, Global};
+use std::slice::from_ref;
 use task_descriptor::program::Program;
 
 /// The most releases that are tried for warnings.
@@ -35,8 +36,8 @@ fn judged(
     requires { IsTried text.now before.now }
     ensures { IfOk result (λ found. IfSome found (IsForgotten text.now)) }
 {
-    let said = [proposed(subject, waited)?];
-    let Some(new) = attempt(alloc, text, &said, None)? else {
+    let draft = proposed(subject, waited)?;
+    let Some(new) = attempted(alloc, text, from_ref(&draft), None)? else {
         return Ok(None);
     };
     let saved = before.steps.saturating_sub(new.trial.steps);
@@ -44,7 +45,6 @@ fn judged(
         return Ok(None);
     }
     let notes = gain(subject, waited, before, &new.trial)?;
-    let [draft] = said;
     Ok(Some(Diagnostic { notes, ..draft }))
 }
 
