@@ -6,7 +6,7 @@ import subprocess
 from explain import places, region_of, spelled
 from model import assemble, certify, dests, exits, inner, verdict
 
-UNITS, MOST_EVENTS, MOST_WARNED, LEAST_SHARE = 4, 200_000, 4, 50
+UNITS, MOST_EVENTS, MOST_WARNED, LEAST_SHARE = 4, 100_000, 4, 50
 SAID = "from here on task "
 
 

@@ -19,11 +19,11 @@ use Rattle.release_proposals.specs.declared.trial.Trial.{Trial}
 
 -- the run in steps on four units, with the first target predicted, of at most so many events
 abbrev pub run_after : Listing → (steps : ℕ) → Course
-run_after p steps = after_steps p 4 200000 steps (beginning p predictor.First)
+run_after p steps = after_steps p 4 100000 steps (beginning p predictor.First)
 
 -- it halts after these steps, with this output
 pub record IsTrialOf (p : Listing) (t : Trial) : Type 0 where
-  pub takes : Takes p 4 200000 (beginning p predictor.First) t.steps
+  pub takes : Takes p 4 100000 (beginning p predictor.First) t.steps
   pub halted : (run_after p t.steps).state.outcome ≡ Halted
   pub output : t.output.items ≡ (run_after p t.steps).state.output
 

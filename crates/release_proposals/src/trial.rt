@@ -21,7 +21,7 @@ use unit_turns::runner::run_steps_on;
 pub const TRIAL_UNITS: u32 = 4;
 
 /// The most events of a trial.
-pub const MOST_TRIED: u32 = 200_000;
+pub const MOST_TRIED: u32 = 100_000;
 
 /// A run in steps that halts.
 #[derive(Debug, Drop)]
@@ -63,7 +63,7 @@ pub(crate) fn accepted_of(alloc: Global, text: &[u8]) -> Result<Option<Accepted>
 ///
 /// `AllocError` where memory was refused.
 pub(crate) fn run_of(alloc: Global, accepted: &Accepted) -> Result<StepsReport<'_>, AllocError>
-    ensures { IfOk result (IsStepsReportOf accepted.now 4 200000 Predictor.First) }
+    ensures { IfOk result (IsStepsReportOf accepted.now 4 100000 Predictor.First) }
 {
     let (units, budget) = (Units::of(TRIAL_UNITS), Budget::of(MOST_TRIED));
     run_steps_on(alloc, accepted, units, budget, Predictor::First)
@@ -79,7 +79,7 @@ pub(crate) fn trial_of(
     accepted: &Accepted,
     report: &StepsReport<'_>,
 ) -> Result<Option<Trial>, AllocError>
-    requires { IsStepsReportOf accepted.now 4 200000 Predictor.First report.now }
+    requires { IsStepsReportOf accepted.now 4 100000 Predictor.First report.now }
     ensures { IfOk result (λ found. IfSome found (IsTrialOf accepted.now.program)) }
 {
     match report.machine.outcome() {
