@@ -1,5 +1,5 @@
 -- An attempt that pays, and that what the help of a diagnostic proposes does not depend on its notes.
-use Rattle.std.proofs.Common.{◌≡◌, ◌⊎◌, inl, inr, ℕ, ◌<◌, List, [], ◌∷◌, refl, sym, subst}
+use Rattle.std.proofs.Common.{arith, ◌≡◌, ◌⊎◌, inl, inr, ℕ, ◌<◌, List, [], ◌∷◌, Option, Some, IfSome, refl, sym, subst}
 use Rattle.std.specs.List.{All, Contains}
 use Rattle.std.proofs.lemmas.List.Elements.{All-weaker, Contains-push, Contains-push_cases}
 use Rattle.diagnostics.specs.declared.diagnostic.Diagnostic.{Diagnostic}
@@ -10,11 +10,11 @@ use Rattle.release_proposals.specs.declared.attempt.Attempt.{Attempt}
 use Rattle.release_proposals.specs.declared.trial.Trial.{Trial}
 use Rattle.release_proposals.specs.Paying.{IsAttempt, IsPaying, IsTried}
 
-pub noted : Diagnostic → List Note → Diagnostic
+abbrev pub noted : Diagnostic → List Note → Diagnostic
 noted d notes = record d { notes = notes }
 
 only_of : (d x : Diagnostic) → Contains [] x ⊎ (d ≡ x) → d ≡ x
-only_of d x (inl has) = absurd (omega has.1)
+only_of d x (inl has) = absurd (omega (arith, has.1))
 only_of d x (inr same) = same
 
 only : (d x : Diagnostic) → Contains (d ∷ []) x → d ≡ x
@@ -56,3 +56,7 @@ paying text said a before h tried same fewer = record {
   output = same;
   fewer = fewer;
 }
+
+pub found_pays : (text : List ℕ) (said : List Diagnostic) (found : Option Attempt) (a : Attempt) (before : Trial) → IfSome found (IsAttempt text said) → found ≡ Some a
+    → IsTried text before → a.trial.output.items ≡ before.output.items → a.trial.steps < before.steps → IsPaying text said a.text.items
+found_pays text said found a before h is tried same fewer = paying text said a before (subst (λ (f : Option Attempt). IfSome f (IsAttempt text said)) is h) tried same fewer

@@ -76,7 +76,6 @@ fn all_proposed(
 }
 
 // The text of an accepted program with the releases that pay, compared with its trial.
-#[tactic(auto, using(crate::proofs::Noting::paying))]
 fn improved(
     alloc: Global,
     text: &[u8],

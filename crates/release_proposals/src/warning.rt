@@ -25,7 +25,6 @@ const MOST_WARNED: usize = 4;
 const LEAST_SHARE: u32 = 50;
 
 // The warning about one place, if its fix pays.
-#[tactic(auto, using(crate::proofs::Noting::with_notes, crate::proofs::Noting::paying))]
 fn judged(
     alloc: Global,
     text: &[u8],
@@ -48,7 +47,7 @@ fn judged(
     Ok(Some(Diagnostic { notes, ..draft }))
 }
 
-// The warnings about the places whose fix pays; none in a text that gives places by their indexes.
+// The warnings about the places whose fix pays.
 fn all_judged(
     alloc: Global,
     text: &[u8],
@@ -61,10 +60,8 @@ fn all_judged(
 {
     let mut list = Vec::new(alloc);
     for waited in places {
-        if subject.names_no_index() {
-            if let Some(said) = judged(alloc, text, subject, before, waited)? {
-                list.push(said)?;
-            }
+        if let Some(said) = judged(alloc, text, subject, before, waited)? {
+            list.push(said)?;
         }
     }
     Ok(list)
@@ -96,5 +93,9 @@ pub fn release_warnings(
         return Ok(Vec::new(alloc));
     };
     let subject = Subject::read(alloc, text, program, least)?;
+    if !subject.names_no_index() {
+        // An insertion would move the places that the text gives by their indexes.
+        return Ok(Vec::new(alloc));
+    }
     all_judged(alloc, text, &subject, &base.before, &base.waited)
 }
