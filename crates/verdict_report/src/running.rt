@@ -81,17 +81,11 @@ fn run_accepted<R: Threads + Wait + Sync>(
     ensures report { IfOk result (λ report. IsRunReport extent.schedule extent.units extent.budget predict.now emit accepted.now.program report) }
     ensures memory { OnErr result (result ≡ Err ServeFault.OutOfMemory) }
 {
+    let units = extent.units;
+    let budget = extent.budget;
     let ran = run_scheduled(rt, alloc, extent, predict, accepted)?;
     let report = report_of_run(
-        alloc,
-        emit,
-        extent.units,
-        extent.budget,
-        predict,
-        &ran,
-        name,
-        text,
-        accepted,
+        alloc, emit, units, budget, predict, &ran, name, text, accepted,
     )?;
     Ok(report)
 }
