@@ -145,7 +145,7 @@ class Place:
 
     def settled(self, **how):
         """Waits, so that the sources are old enough for the launcher to look at times alone, and has it look."""
-        time.sleep(2.2)
+        time.sleep(3.1)
         expect(self.call("seq", **{"env": self.bare(), **how}) == (0, "shipped\n", ""))
         expect(self.call("seq", **{"env": self.bare("sha256sum"), **how}) == (0, "shipped\n", ""), "it looks at times alone")
 
