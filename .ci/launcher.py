@@ -8,6 +8,7 @@ In the places of `rt`, GCC and the program stand scripts that are made here. Eac
 
 import concurrent.futures
 import contextlib
+import hashlib
 import os
 import pathlib
 import re
@@ -71,6 +72,10 @@ def expect(holds, *said):
         raise AssertionError(" ".join(str(it) for it in said))
 
 
+def sum_of(data):
+    return hashlib.sha256(data).hexdigest()
+
+
 def make(file, text, bits=0o755):
     file.parent.mkdir(parents=True, exist_ok=True)
     file.write_text(text)
@@ -88,7 +93,7 @@ class Place:
 
     def __init__(self, folder, name="sources"):
         self.folder, self.top, self.bin = folder, folder / name, folder / "bin"
-        copied(self.top, "multiscalar", "release/build_program.py", "release/progress.py", "compiler/names.py")
+        copied(self.top, "multiscalar", "release/build_program.py", "release/progress.py", "release/digests.sh", "compiler/names.py")
         make(self.top / "crates.txt", "low:\nmultiscalar: low\nother: low\n", 0o644)
         make(self.top / "HANDLES", "Handles allowed: none.\n", 0o644)
         for it in ("low/src/lib.rt", "multiscalar/src/main.rt", "multiscalar/specs/Lib.antt", "other/src/lib.rt"):
@@ -114,6 +119,39 @@ class Place:
         with contextlib.suppress(OSError):
             return (self.folder / "calls").read_text().split().count("ci")
         return 0
+
+    def digest(self, *words):
+        return subprocess.run([self.top / "release/digests.sh", *words], stdout=subprocess.PIPE, check=True, text=True).stdout.strip()
+
+    def ship(self, program="#!/bin/bash\necho shipped\n"):
+        """Makes a dist/ of the sources as they are, with this program, and with a package that is none."""
+        name, dist = "multiscalar-1.0-x86_64-linux", self.top / "dist"
+        shutil.rmtree(dist, ignore_errors=True)
+        dist.mkdir()
+        make(self.folder / name / "multiscalar", program)
+        make(self.folder / name / "page", "page\n", 0o644)
+        text = f"multiscalar 1.0\nmade from {self.digest('made-from', 'kit')}\nfiles {self.digest('files', self.folder / name)}\n"
+        text += f"proved and built with kit\nprogram sha256 {sum_of(program.encode())}\n"
+        for it in (dist, self.folder / name):
+            (it / "MANIFEST").write_text(text)
+        subprocess.run(["tar", "-czf", dist / f"{name}.tar.gz", "-C", self.folder, name], check=True)
+        (dist / "multiscalar_1.0_amd64.deb").write_text("package\n")
+        self.sum_up()
+
+    def sum_up(self):
+        dist = self.top / "dist"
+        names = sorted(it.name for it in dist.iterdir() if it.name != "SHA256SUMS")
+        (dist / "SHA256SUMS").write_text("".join(f"{sum_of((dist / it).read_bytes())}  {it}\n" for it in names))
+
+    def settled(self, **how):
+        """Waits, so that the sources are old enough for the launcher to look at times alone, and has it look."""
+        time.sleep(3.1)
+        expect(self.call("seq", **{"env": self.bare(), **how}) == (0, "shipped\n", ""))
+        expect(self.call("seq", **{"env": self.bare("sha256sum"), **how}) == (0, "shipped\n", ""), "it looks at times alone")
+
+    def bare(self, *missing, **more):
+        """The settings of a system that has neither rt nor these."""
+        return self.settings(PATH=str(without(self.folder, "rt", *missing)), **{"XDG_CACHE_HOME": str(self.folder / "cache"), **more})
 
 
 def ended(started, said=b""):
@@ -281,7 +319,8 @@ def without(folder, *missing):
     """A folder with the commands that the launcher calls, but for some."""
     tools = folder / f"tools-{'-'.join(missing)}"
     tools.mkdir(exist_ok=True)
-    for it in ("bash", "cat", "chmod", "dirname", "env", "find", "grep", "mkdir", "mktemp", "mv", "python3", "readlink", "rm", "rt", "sed", "sleep", "touch"):
+    for it in ("bash", "cat", "chmod", "cut", "dirname", "env", "find", "grep", "gzip", "mkdir", "mktemp", "mv", "python3", "readlink", "rm", "rt", "sed", "sha256sum",
+               "sleep", "sort", "stat", "tar", "touch", "uname", "xargs"):
         found = sys.executable if it == "python3" else shutil.which(it)
         if it not in missing and found and it != "rt":
             (tools / it).unlink(missing_ok=True)
@@ -332,37 +371,248 @@ def try_install(folder):
 
 
 def try_verify(folder):
-    """The tarball, and the package that lies beside it."""
-    sources, release = folder / "sources", folder / "release"
-    copied(sources, "release/verify.sh")
-    make(sources / "release/build.sh", "mkdir -p \"$1\" && cp ../../release.tar.gz \"$1/m.tar.gz\" && echo package > \"$1/m.deb\"\n".replace("../..", str(folder)))
-    make(sources / "crates/multiscalar_c/out/libmultiscalar_c.a", "")
-    git = ["git", "-c", "user.name=a", "-c", "user.email=a@localhost", "-c", "commit.gpgsign=false", "-C", sources]
+    """A release in dist/ and elsewhere; files, tarball and package that differ."""
+    place = Place(folder, "in sources")
+    place.ship()
+    copied(place.top, "release/verify.sh")
+    made = folder / "made"
+    make(place.top / "release/build.sh", f"#!/bin/bash\nmkdir -p \"$1\" && cp '{made}'/* \"$1\"\n")
+    make(place.top / "crates/multiscalar_c/out/libmultiscalar_c.a", "")
+    make(place.bin / "dpkg-deb", "#!/bin/bash\nexec cat \"$2\"\n")
+    shutil.copytree(place.top / "dist", made)
+    git = ["git", "-c", "user.name=a", "-c", "user.email=a@localhost", "-c", "commit.gpgsign=false", "-C", place.top]
     for words in (["init", "-q"], ["add", "-f", "."], ["commit", "-qm", "a"]):
         subprocess.run([*git, *words], check=True, capture_output=True)
-    commit = subprocess.run([*git, "rev-parse", "HEAD"], check=True, capture_output=True, text=True).stdout.strip()
-    make(folder / "m/MANIFEST", f"commit {commit}\nproved and built with kit\n")
-    subprocess.run(["tar", "-czf", "release.tar.gz", "m"], cwd=folder, check=True)
-    release.mkdir()
+    place.main.write_text("second\n")
+    subprocess.run([*git, "commit", "-qam", "b"], check=True)
     (folder / "elsewhere/release").mkdir(parents=True)
-    shutil.copy(folder / "release.tar.gz", release / "m.tar.gz")
-    place = Place(folder, "unused")
 
-    def verify():
-        words = ["bash", "release/verify.sh", release / "m.tar.gz", "true"]
-        return subprocess.run(words, env=place.settings(CDPATH=f"{folder}/elsewhere"), capture_output=True, text=True, cwd=sources)
+    def verify(*words):
+        words = ["bash", "release/verify.sh", *(words or ["dist"]), "true"]
+        return subprocess.run(words, env=place.settings(CDPATH=f"{folder}/elsewhere"), capture_output=True, text=True, cwd=place.top)
 
-    done = verify()
-    expect(done.returncode == 0 and "was not compared" in done.stdout, done)
-    (release / "m.deb").write_text("package\n")
-    done = verify()
-    expect(done.returncode == 0 and "the tarball and the package are what" in done.stdout, done)
-    (release / "m.deb").write_text("another\n")
+    shutil.copytree(made, folder / "release")
+    for it in ([], [folder / "release"]):
+        done = verify(*it)
+        expect(done.returncode == 0 and "the tarball and the package are what" in done.stdout, done)
+    (made / "multiscalar_1.0_amd64.deb").write_text("another\n")
     done = verify()
     expect(done.returncode == 1 and "the package differs" in done.stderr, done)
-    (release / "m.tar.gz").write_bytes((release / "m.tar.gz").read_bytes() + b"\0")
-    (release / "m.deb").write_text("package\n")
-    expect(verify().returncode == 1, "a tarball that differs")
+    shutil.rmtree(made)
+    place.main.write_text("first\n")
+    place.ship("#!/bin/bash\necho another\n")
+    shutil.move(place.top / "dist", made)
+    subprocess.run([*git, "checkout", "-q", "."], check=True)
+    done = verify()
+    expect(done.returncode == 1 and "ours/multiscalar differ" in done.stderr and "the files differ" in done.stderr, done)
+    (folder / "release/multiscalar_1.0_amd64.deb").write_text("another\n")
+    done = verify(folder / "release")
+    expect(done.returncode == 1 and "SHA256SUMS does not fit" in done.stderr, done)
+
+
+# 5. the shipped program
+
+ONCE = "proved elsewhere"
+
+
+def try_shipped(folder):
+    """It answers, says once where it is from, and only while the sources are those that it was built from."""
+    place = Place(folder, "in sources")
+    place.ship()
+    where = {"env": place.bare()}
+    status, out, said = place.call("seq", **where)
+    expect((status, out) == (0, "shipped\n") and ONCE in said and "./multiscalar --prove" in said and "40 to 90 minutes" in said, status, out, said)
+    expect(place.call("seq", **where) == (0, "shipped\n", ""))
+    expect(stat.S_IMODE((place.out / "shipped").stat().st_mode) == 0o755 and not (folder / "cache").exists())
+    os.utime(place.main)
+    expect(place.call("seq", **where) == (0, "shipped\n", ""), "touched")
+    place.settled()
+    expect(place.call("seq", env=place.bare("find"))[0] == 2, "it cannot look at times")
+    others = {"text": lambda: place.main.write_text("second\n"), "new": lambda: make(place.top / "crates/low/proofs/New.antt", ""),
+              "crate": lambda: make(place.top / "crates/new/src/lib.rt", ""), "no crate": lambda: shutil.rmtree(place.top / "crates/other"),
+              "gone": (place.top / "crates/multiscalar/specs/Lib.antt").unlink}
+    for name, change in others.items():
+        shutil.copytree(place.top, folder / "kept", symlinks=True)
+        if name == "no crate":
+            place.settled()
+        change()
+        status, out, said = place.call("seq", **where)
+        expect((status, out) == (2, "") and "it was built from other sources" in said and "missing: rt" in said, name, status, out, said)
+        shutil.rmtree(place.top)
+        (folder / "kept").rename(place.top)
+        expect(place.call("seq", **where) == (0, "shipped\n", ""), name)
+    place.main.write_text("second\n")
+    expect(place.call("seq")[:2] == (0, "second\n") and place.builds() == 1, "with rt")
+    place.main.write_text("first\n")
+    expect(place.call("seq") == (0, "shipped\n", "") and place.builds() == 1, "these sources again")
+
+
+def try_three_unpack(folder):
+    place = Place(folder)
+    place.ship()
+    answers = [ended(it) for it in [place.begin("seq", env=place.bare()) for _ in range(3)]]
+    expect(all(it[:2] == (0, "shipped\n") for it in answers), answers)
+    expect(sorted(it.name.split("-")[0] for it in (place.out / "shipped").iterdir()) == ["multiscalar", "seen"], list((place.out / "shipped").iterdir()))
+
+
+def try_damaged_release(folder):
+    place = Place(folder)
+    place.ship("#!/bin/bash\necho another\n")
+    other = (place.top / "dist/multiscalar-1.0-x86_64-linux.tar.gz").read_bytes()
+
+    def refused(what):
+        status, out, said = place.call("seq", env=place.bare())
+        expect((status, out) == (2, "") and "not what its checksums say" in said and "missing: rt" in said, what, status, out, said)
+        expect(not (place.out / "shipped").exists() or not list((place.out / "shipped").iterdir()), what, "something is left")
+
+    place.ship()
+    tarball = place.top / "dist/multiscalar-1.0-x86_64-linux.tar.gz"
+    right = tarball.read_bytes()
+    tarball.write_bytes(right[:-1] + b"\1")
+    refused("a byte")
+    tarball.write_bytes(other)
+    refused("another program")
+    place.sum_up()
+    refused("another program, and its checksum")
+    for it in (b"", b"made from \x1b[31m\n"):
+        (place.top / "dist/MANIFEST").write_bytes(it)
+        status, out, said = place.call("seq", env=place.bare())
+        expect((status, out) == (2, "") and is_harmless(said), it, said)
+    place.ship()
+    (place.top / "dist/SHA256SUMS").unlink()
+    refused("no checksums")
+    place.ship()
+    expect(place.call("seq", env=place.bare())[:2] == (0, "shipped\n"))
+
+
+def try_cache(folder):
+    """Where nothing can be written in the checkout."""
+    place = Place(folder, "in sources")
+    place.ship()
+    place.out.write_text("")
+    home = folder / "home"
+    # Another checkout, with the same release.
+    shutil.copytree(place.top, folder / "other")
+    (folder / "other/HANDLES").write_text("Handles allowed: Threads.\n")
+    for number, more in enumerate(({}, {"XDG_CACHE_HOME": "", "HOME": str(home)}, {"XDG_CACHE_HOME": "cache", "HOME": str(home)})):
+        where = {"env": place.bare(**more), "preexec_fn": lambda: os.umask(0o002)}
+        status, out, said = place.call("seq", **where)
+        expect((status, out) == (0, "shipped\n") and (ONCE in said) == (number < 2), more, status, out, said)
+        expect(place.call("seq", **where) == (0, "shipped\n", ""), more)
+    for it in (folder / "cache", home / ".cache"):
+        expect(stat.S_IMODE(it.stat().st_mode) == 0o700 == stat.S_IMODE((it / "multiscalar").stat().st_mode), it)
+    place.settled()
+    place.top = folder / "other"
+    status, _, said = place.call("seq", env=place.bare())
+    expect(status == 2 and "other sources" in said, said)
+    shutil.copy(folder / "in sources/HANDLES", place.top)
+    for top in ("other", "in sources"):
+        place.top = folder / top
+        expect(place.call("seq", env=place.bare()) == (0, "shipped\n", ""), top)
+    status, out, said = place.call("seq", env=place.bare(XDG_CACHE_HOME="", HOME=""))
+    expect((status, out) == (2, "") and "there is no folder for it" in said, said)
+
+
+def try_unsafe_folders(folder):
+    """A folder that others may write to, that belongs to another, or that is a link, is not used, and nothing in it is run."""
+    place = Place(folder)
+    place.ship()
+    out, cache = place.out / "shipped", folder / "cache/multiscalar"
+    expect(place.call("seq", env=place.bare())[:2] == (0, "shipped\n"))
+    out.chmod(0o775)
+    status, said_out, said = place.call("seq", env=place.bare())
+    expect((status, said_out) == (0, "shipped\n") and ONCE in said and cache.is_dir(), "the cache instead", status, said_out, said)
+    place.settled()
+    out.chmod(0o755)
+    place.settled()
+    room, moved = next(cache.iterdir()), folder / "moved"
+    for it in (out, room):
+        make(it / "multiscalar", "#!/bin/bash\necho worse\n")
+
+    def linked(it):
+        it.rename(moved)
+        it.symlink_to(moved)
+
+    def as_before(it):
+        it.unlink()
+        moved.rename(it)
+
+    ways = [(lambda it: it.chmod(0o775), lambda it: it.chmod(0o755)), (lambda it: it.chmod(0o1777), lambda it: it.chmod(0o755)), (linked, as_before)]
+    if os.geteuid() == 0:
+        ways.append((lambda it: os.chown(it, 65534, 65534), lambda it: os.chown(it, 0, 0)))
+    # Of the checkout, without a cache; and of the cache, without the checkout's.
+    for files, settings in (((out, out / "multiscalar"), {"XDG_CACHE_HOME": "", "HOME": ""}), ((cache, room, room / "multiscalar"), {})):
+        for number, (spoil, undo) in enumerate(ways):
+            for it in files:
+                spoil(it)
+                status, said_out, said = place.call("seq", env=place.bare(**settings))
+                expect((status, said_out) == (2, "") and "there is no folder for it" in said, number, it, status, said_out, said)
+                undo(it)
+        out.chmod(0o775)
+
+
+def try_other_systems(folder):
+    """Another machine, an old C library, tools that are missing: as without a release, and a line says why."""
+    place = Place(folder)
+    place.ship()
+    for it in ("find", "tar", "gzip", "sha256sum", "xargs", "sort"):
+        status, out, said = place.call("seq", env=place.bare(it))
+        expect((status, out) == (2, "") and f"cannot be unpacked without {it}\n" in said and "missing: rt" in said, it, status, out, said)
+    tools = without(folder, "rt", "uname")
+    make(tools / "uname", "#!/bin/bash\necho Linux aarch64\n")
+    place.ship()
+    why = "it needs x86-64 Linux with glibc 2.34 or later"
+    status, out, said = place.call("seq", env=place.bare("uname"))
+    expect((status, out) == (2, "") and why in said and not place.out.exists(), status, out, said)
+    expect(place.call("seq", env=place.settings(PATH=f"{place.bin}:{tools}"))[:2] == (0, "first\n") and place.builds() == 1)
+    shutil.rmtree(place.out)
+    place.ship("#!/bin/bash\necho \"version GLIBC_2.34 not found\" >&2\nexit 1\n")
+    status, out, said = place.call("seq", env=place.bare())
+    expect((status, out) == (2, "") and why in said and "GLIBC_2" not in said and not list((place.out / "shipped").iterdir()), status, out, said)
+
+
+def try_prove(folder):
+    """What is proved here comes first, while the sources are as they were."""
+    place = Place(folder)
+    place.ship()
+    expect(place.call("seq")[:2] == (0, "shipped\n") and place.builds() == 0, "with rt")
+    status, out, said = place.call("--prove", "seq", env=place.bare())
+    expect((status, out) == (2, "") and "missing: rt" in said, status, out, said)
+    status, out, said = place.call("--prove", "seq")
+    expect((status, out) == (0, "first\n") and "built: " in said and place.builds() == 1, status, out, said)
+    for it in (place.settings(), place.bare()):
+        expect(place.call("seq", env=it) == (0, "first\n", ""), "proved here")
+        status, out, said = place.call("--prove", env=it)
+        expect((status, out) == (0, "") and "proved and built here" in said and place.builds() == 1, status, out, said)
+        os.utime(place.main)
+    place.main.write_text("second\n")
+    place.ship()
+    expect(place.call("seq")[:2] == (0, "shipped\n") and place.builds() == 1, "other sources, that are shipped")
+    expect(place.call("--unproved", "seq")[:2] == (1, "<seq>\n"))
+
+
+def try_gate(folder):
+    """What .ci/shipped.py says of a release."""
+    place = Place(folder)
+    copied(place.top, ".ci/shipped.py")
+    make(place.top / "release/strip.sh", "#!/bin/bash\nexec cp \"$1\" \"$2\"\n")
+
+    def judged():
+        done = subprocess.run([sys.executable, place.top / ".ci/shipped.py"], env=place.settings(), capture_output=True, text=True)
+        return done.returncode, done.stdout + done.stderr
+
+    expect(judged() == (0, "shipped: there is no release in dist/\n"), judged())
+    place.ship()
+    make(place.out / "multiscalar", "#!/bin/bash\necho shipped\n")
+    expect(judged() == (0, "shipped: the program in dist/ is the one that was built here, byte for byte\n"), judged())
+    for file, data, what in ((place.out / "multiscalar", b"other", "is not the one that was built here"), (place.top / "dist/multiscalar_1.0_amd64.deb", b"", "has another digest"),
+                             (place.top / "dist/more", b"", "has other files")):
+        kept = file.read_bytes() if file.exists() else None
+        file.write_bytes(data)
+        expect(judged()[0] == 1 and what in judged()[1], what, judged())
+        file.unlink() if kept is None else file.write_bytes(kept)
+    place.main.write_text("second\n")
+    expect(judged()[0] == 0 and "is older than the sources" in judged()[1], judged())
 
 
 # c2ms.py
@@ -473,7 +723,7 @@ def try_places_in_the_text(folder):
     expect([it.split("#")[0].strip() for it in lines] == wanted and all(it.endswith("# at one.c:12") for it in lines), out)
 
 
-# 5. c2ms.py -o
+# 6. c2ms.py -o
 
 
 def try_whole_files(folder):
@@ -555,7 +805,7 @@ def try_steps_of_a_whole_file(folder):
     expect(to.read_text() == "old" and len(os.listdir(folder)) == 3 + 16, os.listdir(folder))
 
 
-# 6. names
+# 7. names
 
 
 def try_names(_):

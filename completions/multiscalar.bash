@@ -5,12 +5,12 @@ _multiscalar_options() {
         # made: bash options
         seq) echo "--budget --output --help" ;;
         print) echo "--listing --output --help" ;;
-        annotate) echo "--emit --output --in-place --report --help" ;;
+        annotate) echo "--emit --output --in-place --releases --report --help" ;;
         explain) echo "--certificate --script --no-warnings --werror --format --color --fix --output --in-place --help" ;;
         check) echo "--format --least --workers --output --help" ;;
         replay) echo "--least --units --emit --until --strict --complete --format --output --help" ;;
-        run) echo "--least --schedule --units --workers --budget --predict --emit --axis --with-values --output --help" ;;
-        curve) echo "--least --units --budget --predict --emit --progress --output --help" ;;
+        run) echo "--least --schedule --units --workers --budget --predict --emit --format --axis --from --to --with-values --output --help" ;;
+        curve) echo "--least --units --budget --predict --emit --format --progress --output --help" ;;
         demonstrate) echo "--units --steps --emit --output --help" ;;
         # end of bash options
     esac
@@ -34,12 +34,16 @@ _multiscalar_values() {
         run:--predict | curve:--predict) echo "first last" ;;
         annotate:--emit) echo "text cert keep marks" ;;
         replay:--emit) echo "answers summary svg trace json perfetto state" ;;
-        run:--emit) echo "report script summary svg trace json waits vcd perfetto" ;;
+        run:--emit) echo "report script summary svg trace json waits vcd perfetto kanata" ;;
         curve:--emit) echo "table svg" ;;
         demonstrate:--emit) echo "events svg" ;;
         replay:--until) echo " " ;;
-        replay:--format) echo "text json" ;;
+        replay:--format) echo "text json csv" ;;
+        run:--format) echo "text csv" ;;
+        curve:--format) echo "text csv" ;;
         run:--axis) echo "events steps" ;;
+        run:--from) echo " " ;;
+        run:--to) echo " " ;;
         # end of bash values
     esac
 }

@@ -28,7 +28,8 @@ TEXT = r'"((?:[^"\\]|\\.)*)"'
 LISTS = {("explain", "format"): "FORMATS", ("check", "format"): "CHECK_FORMATS", ("explain", "color"): "COLORS", ("run", "schedule"): "SCHEDULES",
          ("replay", "emit"): "REPLAY_EMITS", ("run", "emit"): "RUN_EMITS", ("curve", "emit"): "CURVE_EMITS",
          ("demonstrate", "emit"): "DEMONSTRATE_EMITS"}
-VALUES = {("annotate", "emit"): "text cert keep marks", ("run", "axis"): "events steps", ("replay", "format"): "text json", ("run curve", "predict"): "first last"}
+VALUES = {("annotate", "emit"): "text cert keep marks", ("run", "axis"): "events steps", ("replay", "format"): "text json csv", ("run", "format"): "text csv",
+          ("curve", "format"): "text csv", ("run curve", "predict"): "first last"}
 
 # What the instructions of each row of the instruction table do, in words.
 EFFECTS = {
@@ -306,7 +307,7 @@ def statuses():
 
 def short(said):
     """What an option does, in a few words."""
-    said = re.split(r" ?[:.;(]", re.sub(r"^With --[\w-]+ \w+: ", "", said))[0]
+    said = re.split(r" ?[:.;(]", re.sub(r"^With --[\w-]+ \w+(?: and --[\w-]+ \w+)?: ", "", said))[0]
     return re.sub(r"[][]", "", said[:1].lower() + said[1:]).replace("'", "’")
 
 
@@ -367,9 +368,9 @@ def made(text):
 
 
 def anchors(text):
-    """The names by which links lead to the headings of a page."""
+    """The names by which links lead to the headings of a page; a heading that has another name now may keep the old one in `<a id=..>`."""
     heads = re.findall(r"^#+ (.*)$", re.sub(r"^```.*?^```$", "", text, flags=re.M | re.S), re.M)
-    return {re.sub(r"[^\w -]", "", re.sub(r"\[([^]]*)\]\([^)]*\)", r"\1", it)).lower().replace(" ", "-") for it in heads}
+    return set(re.findall(r'^<a id="([\w-]+)"></a>$', text, re.M)) | {re.sub(r"[^\w -]", "", re.sub(r"\[([^]]*)\]\([^)]*\)", r"\1", it)).lower().replace(" ", "-") for it in heads}
 
 
 def links():

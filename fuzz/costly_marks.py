@@ -4,7 +4,7 @@
 Takes random programs, changes marks that cost speed (a register more in a create mask, a forward bit left out,
 a release, code that no task reaches), and compares the log of `explain` of right marks with the model; of wrong marks
 it must have no warning. Of warnings about where jumps to addresses in registers lead it compares the codes and places with those of
-`returns.py`. Then it makes the changes of each other fix alone, but of those that let a task begin, whose mask is to be
+`returns.py`, and of those about releases all, and the text with each, with those of `releases.py`. Then it makes the changes of each other fix alone, but of those that let a task begin, whose mask is to be
 written then: that warning must be gone, and the marks must still be right. PROGRAM is the built `multiscalar`; with `--model` the
 changes are the model's, and no program is needed.
 """
@@ -17,6 +17,7 @@ import time
 
 import accepted as generator
 import explain
+import releases
 import returns
 from accepted import accepted
 from explain import MOST_SHOWN, Bench, changed, columns, instructions, laid_out, lists, place_of, places, plant, region_of, spelled
@@ -381,14 +382,19 @@ def wrong(bench, text, counts):
         return wrong_by_model(text, counts)
     results, status = bench.results(text)
     proposed = sorted(it[:2] for it in said_of(results) if it[0] in PROPOSED)
-    results = [it for it in results if it["ruleId"] not in PROPOSED]
+    forgotten = [it for it in results if it["message"]["text"].startswith(releases.SAID)]
+    results = [it for it in results if it["ruleId"] not in PROPOSED and it not in forgotten]
     without, _ = bench.results(text, "--no-warnings")
     if verdict(program, certify(program)):
         counts["wrong"] += 1
-        return "a warning of wrong marks" if results != without else None
+        return "a warning of wrong marks" if results != without or forgotten else None
     counts["right"] += 1
     if without or status or said_of(results) != told(program, text):
         return f"other warnings: {said_of(results)}, not {told(program, text)}"
+    counts["releases"] += len(forgotten)
+    other = releases.other_warnings(bench, program, text, forgotten, changed)
+    if other:
+        return other
     if proposed != sorted(proposals(program, text)):
         return f"other proposals: {proposed}, not {sorted(proposals(program, text))}"
     counts["proposed"] += len(proposed)
@@ -415,7 +421,7 @@ def main():
         chooser.seed(given.seed)
     bench, counts, end = None if given.model else Bench(given.program), collections.Counter(), time.time() + given.seconds
     while time.time() < end:
-        text = print_program(accepted()[0])
+        text = releases.text_with_branch(R) if R.random() < .1 else print_program(accepted()[0])
         text = laid_out(loosened(plant(text) if R.random() < .3 else text))
         what = wrong(bench, text, counts)
         if what:

@@ -25,6 +25,7 @@ NAME = 'f0'
 def known(sub): return subprocess.run([PROG, sub, '--help'], capture_output=True).returncode == 0
 # A program whose help says so writes a trace as lines of JSON, too.
 TRACES = ['trace'] + ['json'] * ('json' in subprocess.run([PROG, 'replay', '--help'], capture_output=True, text=True).stdout)
+CSV = 'csv' in subprocess.run([PROG, 'curve', '--help'], capture_output=True, text=True).stdout
 STEPS = ['report', 'script', 'summary', *TRACES] + ['waits'] * ('waits' in subprocess.run([PROG, 'run', '--help'], capture_output=True, text=True).stdout)
 # A program whose help says so plays the first events of a script alone, and says how the units then stand.
 CUT = '--until' in subprocess.run([PROG, 'replay', '--help'], capture_output=True, text=True).stdout
@@ -37,6 +38,9 @@ def marked(text):
 def curve_text(text, cert, units, budget, predict):
     p, said = accepted_program(text, cert)
     return (said, 1) if said else curve.table(curve.rows_of(p, units, budget, predict))
+def tabled(as_csv, said, status):
+    """a table, if there is one, as comma separated values"""
+    return (csv_of(said) if as_csv and said.startswith(('assigned', 'units')) else said), status
 def model(words, files, got):
     """what is written, and the status; of a trace of threads, what its own events write, with the status if that fits"""
     f = [lat(x) for x in files]
@@ -48,15 +52,16 @@ def model(words, files, got):
     if w == 'print': return print_text(f[0])
     if w == 'check': return check_text(*f)
     if w == 'annotate' and opt.get('--emit') == 'marks': return marked(f[0])
-    if w == 'curve': return curve_text(f[0], f[1], int(opt['--units']), int(opt['--budget']), opt['--predict'])
+    as_csv = opt.get('--format') == 'csv'
+    if w == 'curve': return tabled(as_csv, *curve_text(f[0], f[1], int(opt['--units']), int(opt['--budget']), opt['--predict']))
     if w == 'annotate': return annotate_text(f[0], opt.get('--emit', 'text'))
     if w == 'replay':
         until = int(opt['--until']) if '--until' in opt else None
-        return replay_text(*f, int(opt.get('--units', 4)), opt.get('--emit', 'answers'), until, NAME)
+        return tabled(as_csv, *replay_text(*f, int(opt.get('--units', 4)), opt.get('--emit', 'answers'), until, NAME))
     if w == 'run' and opt.get('--schedule') == 'steps':
-        return steps_text(f[0], f[1], int(opt['--units']), int(opt['--budget']), opt['--predict'], opt['--emit'], NAME)
+        return steps_text(f[0], f[1], int(opt['--units']), int(opt['--budget']), opt['--predict'], opt['--emit'] + ' csv' * as_csv, NAME)
     if w == 'run' and opt.get('--emit') in TRACES:
-        said, statuses = traced_run(f[0], f[1], int(opt['--units']), got[0], NAME)
+        said, statuses = traced_run(f[0], f[1], int(opt['--units']), got[0], NAME, opt.get('--predict', 'first'), int(opt.get('--budget', 1000000)))
         return said, got[1] if got[1] in statuses else max(statuses, default=-1)
     if w == 'run': return run_text(f[0], f[1])
 found = collections.Counter(); nfound = 0
@@ -157,10 +162,12 @@ def one():
     if R.random() < (.3 if s == 'check' else .05): c = mutate_cert(c)
     if s == 'check': return certified(['check', '--workers', str(R.choice([1, 1, 2, 3, 16]))], t, c)
     predict = ['--predict', R.choice(['first', 'last', '1,0', '3,1,2,0,15'])]
-    if s == 'curve': return certified(['curve', '--units', str(R.choice([1, 2, 3, 5, 16])), '--budget', str(R.choice([1, 7, 60, 400, 1000])), *predict], t, c)
+    def form(emit=None): return R.choice([[], ['--format', 'text'], ['--format', 'csv']]) if CSV and emit in (None, 'summary', 'waits') else []
+    if s == 'curve': return certified(['curve', '--units', str(R.choice([1, 2, 3, 5, 16])), '--budget', str(R.choice([1, 7, 60, 400, 1000])), *predict, *form()], t, c)
     machine = ['--units', str(R.choice([1, 2, 3, 4, 16])), '--budget', str(R.choice([1, 7, 60, 400, 3000])), *predict]
     if s == 'run' and R.random() < .6:
-        return certified(['run', '--schedule', 'steps', *machine, '--emit', R.choice(STEPS)], t, c)
+        emit = R.choice(STEPS)
+        return certified(['run', '--schedule', 'steps', *machine, '--emit', emit, *form(emit)], t, c)
     if s == 'run' and R.random() < .4: return certified(['run', *machine, '--workers', str(R.choice([1, 2, 16])), '--emit', R.choice(TRACES)], t, c)
     if s == 'run':
         try: q = assemble(lat(t)); cert_parse(lat(c), q)
@@ -172,6 +179,6 @@ def one():
     ev = '\n'.join(events_for(Machine(p, u), R.choice([5, 30, 100, 300]))) + R.choice(['', '\n'])
     if R.random() < .1:
         k = R.randrange(len(ev) + 1); ev = ev[:k] + R.choice(['\n', ' ', 'x', '0', '-', '\r', '$', '34']) + ev[k + R.choice([0, 1]):]
-    return certified(['replay', '--units', str(u)] + R.choice([[], [], ['--emit', 'summary'], ['--emit', R.choice(STATES)]]) + R.choice(UNTIL), t, c, ev)
+    return certified(['replay', '--units', str(u)] + R.choice([[], [], ['--emit', 'summary', *form('summary')], ['--emit', R.choice(STATES)]]) + R.choice(UNTIL), t, c, ev)
 while time.time() < end and SUBS: one()
 finish()

@@ -37,13 +37,14 @@ import curve
 import demonstrate
 import explain
 import faults
+import kanata
 import marks
 import picture
 import sarif
 import seeds
 import timeline
 import waveform
-from model import (Fault, ScriptFault, Steps, accepted_program, allowed_script, annotate_text, assemble, certify, check_text,
+from model import (Fault, ScriptFault, Steps, accepted_program, allowed_script, annotate_text, assemble, certify, check_text, csv_of,
                    least_cert, print_text, replay_text, run_text, script_parse, seq_text, strict_text, traced_run, verdict)
 
 UNITS, BUDGETS = (1, 2, 3, 4, 16), (1, 7, 60, 400, 3000)
@@ -53,16 +54,17 @@ RUN_EMITS = ("report", "script", "summary", "svg")
 # `check --least` take any number of programs.
 FILES = {"seq": (1, 1), "print": (1, 1), "annotate": (1, 1), "explain": (1, 1), "check": (1, 2), "run": (1, 2), "replay": (2, 3), "curve": (1, 2),
          "demonstrate": (1, 1)}
-NUMBERS = {"budget": 1000000, "units": 16, "workers": 16, "until": 1000000, "steps": 1000000}
+NUMBERS = {"budget": 1000000, "from": 1000000, "to": 1000000, "units": 16, "workers": 16, "until": 1000000, "steps": 1000000}
 # Options that have no value.
 FLAGS = ("least", "no-warnings", "fix", "in-place", "report", "strict", "complete", "with-values", "progress")
 OPTIONS = {"seq": ("budget",), "print": (), "annotate": ("emit", "in-place", "report"), "explain": ("certificate", "script", "no-warnings", "format", "color", "fix", "in-place"),
            "check": ("least", "workers"), "replay": ("least", "units", "emit", "until", "strict", "complete", "format"), "demonstrate": ("units", "steps", "emit"),
-           "run": ("least", "schedule", "units", "workers", "budget", "predict", "emit", "axis", "with-values"),
-           "curve": ("least", "units", "budget", "predict", "emit", "progress")}
+           "run": ("least", "schedule", "units", "workers", "budget", "predict", "emit", "format", "axis", "from", "to", "with-values"),
+           "curve": ("least", "units", "budget", "predict", "emit", "format", "progress")}
 CHOICES = {"annotate": (*EMITS, "marks"), "replay": ("answers", "summary", "svg", "trace", "json", "perfetto", "state"),
-           "run": (*RUN_EMITS, "trace", "json", "perfetto", "waits", "vcd"), "curve": ("table", "svg"), "demonstrate": ("events", "svg")}
-VALUES = {"schedule": ("threads", "steps"), "format": ("text", "sarif", "json"), "color": ("auto", "always", "never"), "axis": ("events", "steps")}
+           "run": (*RUN_EMITS, "trace", "json", "perfetto", "waits", "vcd", "kanata"), "curve": ("table", "svg"), "demonstrate": ("events", "svg")}
+FORMATS = {"explain": ("text", "sarif", "json"), "replay": ("text", "json", "csv"), "run": ("text", "csv"), "curve": ("text", "csv")}
+VALUES = {"schedule": ("threads", "steps"), "color": ("auto", "always", "never"), "axis": ("events", "steps")}
 VERSION = "multiscalar 0.1.0 (proved with rattle-kit-13f logic dac8208d650f15bf)\n"
 # The first byte of a case picks one of so many jobs, but for its highest bit.
 JOBS = 24
@@ -199,11 +201,15 @@ def fit(name, options, files):
     if "in-place" in options:
         return "output" not in options and files != ["-"] and emit in (None, "marks", "text")
     if "strict" in options:
-        return emit in (None, "answers") and "until" not in options
-    if name == "replay" and {"complete", "format"} & {*options}:
+        return emit in (None, "answers") and "until" not in options and options.get("format") != "csv"
+    if name == "replay" and "complete" in options:
         return False
-    return name != "run" or ((in_steps or emit not in ("waits", "vcd")) and ("with-values" not in options or emit == "script")
-                             and ("axis" not in options or emit == "svg" and (in_steps or options["axis"] == "events")))
+    if name != "explain" and "format" in options and (options["format"] == "json" or emit not in {"curve": (None, "table"), "run": ("summary", "waits")}.get(name, ("summary",))):
+        return False
+    return name != "run" or ((in_steps or emit not in ("waits", "vcd", "kanata")) and ("with-values" not in options or emit == "script")
+                             and ("axis" not in options or emit == "svg" and (in_steps or options["axis"] == "events"))
+                             and (not {"from", "to"} & {*options} or in_steps and emit == "svg" and options.get("axis") != "events"
+                                  and int(options.get("from", 1)) <= int(options.get("to", 1000000))))
 
 
 def is_value(name, key, value):
@@ -211,8 +217,10 @@ def is_value(name, key, value):
         return bool(re.fullmatch(r"\+?[0-9]+", value)) and 1 <= int(value) <= NUMBERS[key]
     if key == "emit":
         return value in CHOICES[name]
+    if key == "format":
+        return value in FORMATS[name]
     if key in VALUES:
-        return value in VALUES[key] and (name != "replay" or value != "sarif")
+        return value in VALUES[key]
     if key != "predict":
         return True
     return value in ("first", "last") or bool(re.fullmatch(r"[0-9]{1,2}(,[0-9]{1,2}){0,63}", value)) and all(int(it) <= 15 for it in value.split(","))
@@ -324,9 +332,10 @@ def wanted_curve(options, given, name):
     for units in range(1, int(options.get("units", 16)) + 1):
         rows.append(curve.Steps(program, units, budget, predict, MODEL_EVENTS))
         if not rows[-1].over():
-            return lambda out, status: status in (0, 1, 3) and out.startswith((curve.HEADING, "<svg "))
+            return lambda out, status: status in (0, 1, 3) and out.startswith((curve.HEADING, "units,", "<svg "))
     rows = [row.row() for row in rows]
     text, status = curve.table(rows)
+    text = csv_of(text) if options.get("format") == "csv" else text
     return (picture_of(rows, name, budget, predict), status) if options.get("emit") == "svg" else (text, status)
 
 
@@ -500,7 +509,8 @@ def wanted_replay(options, given, name):
         said, status = strict_text(program, given[2], units, "complete" in options, given[0])
         return (lambda out, ended: ended == status and is_verdict(out, said)) if options.get("format") == "json" else (said, status)
     if emit not in ("svg", "perfetto") or not program:
-        return replay_text(*given, units, emit, until, name)
+        said, status = replay_text(*given, units, emit, until, name)
+        return (csv_of(said) if options.get("format") == "csv" and said.startswith("assigned") else said), status
     try:
         script_parse(given[2], program)
         script, stands = allowed_script(program, b"".join(line + b"\n" for line in given[2].removesuffix(b"\n").split(b"\n")[:until]) if given[2] else b"", units)
@@ -522,14 +532,19 @@ def wanted_run(options, given, name, call):
     if "with-values" in options:
         return lambda out, status: is_valued(program, units, out, run) and status in (0, 1, 3) and call(["replay", "--strict", "--units", str(units), "p", "c", "s"], dict(
             zip("pcs", [*given, out.encode("latin-1")])))[1] == 0
+    if {"from", "to"} & {*options}:
+        return lambda out, status: is_well_formed(out) and status in (0, 1, 3)
     if in_steps:
+        emit = f"{emit} csv" if options.get("format") == "csv" else emit
         return wanted_steps(run, program, units, emit, name, options.get("axis", "steps"))
     one = run_text(*given, MODEL_EVENTS)
 
     def fits(out, status):
         if emit in ("trace", "json"):
-            told, statuses = traced_run(*given, units, out, name)
+            told, statuses = traced_run(*given, units, out, name, options.get("predict", "first"), budget)
             return out == told and status in statuses and (status == 3 or one[1] in (status, 3))
+        if options.get("format") == "csv":
+            return status in (one[1], 3) and out.startswith("assigned,")
         if emit in ("summary", "svg", "perfetto"):
             return status in (one[1], 3) and (is_summary(out, one, status) if emit == "summary" else is_well_formed(out) if emit == "svg" else is_timeline(out, None, units, False))
         if emit == "script":
@@ -572,6 +587,14 @@ def is_well_formed(out):
         return False
 
 
+def is_log(out):
+    """Whether this is a log of instructions."""
+    try:
+        return kanata.read(out) is not None
+    except (AssertionError, KeyError, ValueError):
+        return False
+
+
 def wanted_steps(run, program, units, emit, name, axis):
     """What a run in steps of a program of this name writes, unless the model gave it up."""
     if not run.over():
@@ -580,7 +603,9 @@ def wanted_steps(run, program, units, emit, name, axis):
         shows = {"svg": lambda out: is_picture(out, run.script(), units, axis.removesuffix("s")), "perfetto": lambda out: is_timeline(out, run.script(), units, True),
                  "vcd": lambda out: is_waveform(out, program, units, run.events)}[emit]
         return lambda out, status: status == run.status() and shows(out)
-    return {"report": run.report, "script": run.script, "summary": run.summary, "trace": run.trace, "json": lambda: run.json(name), "waits": run.waits}[emit](), run.status()
+    if emit == "kanata":
+        return lambda out, status: status == run.status() and is_log(out)
+    return run.written(emit, name), run.status()
 
 
 def allowed_seconds(words, out):

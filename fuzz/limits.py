@@ -273,7 +273,7 @@ def scripts(folder, traces):
     yield "the script of the most events", [*words, "--emit", "summary"], 0, b"assigned  retired ", BOUNDS["replay"]
     yield "the script of the most events", [*words, "--emit", "svg"], 0, b"<svg ", BOUNDS["replay"]
     for emit in traces:
-        first = b"1 fault: refused 3 NoSuch\n" if emit == "trace" else b'{"format":"multiscalar-trace","version":1,"program_name":"program.s","units":4,"instructions":6}\n{"event":1,"kind":"fault","answer":"refused","code":3,"name":"NoSuch","changes":[]}\n'
+        first = b"1 fault: refused 3 NoSuch\n" if emit == "trace" else b'{"format":"multiscalar-trace","version":2,"program_name":"program.s","units":4,"instructions":6}\n{"event":1,"kind":"fault","answer":"refused","code":3,"name":"NoSuch","changes":[]}\n'
         yield "the script of the most events", [*words, "--emit", emit], 0, first, bound_of("replay", emit)
     script(path, FILE_LIMIT + 1)
     yield "a script of one byte more", words, 2, path, ENDLESS
@@ -291,7 +291,7 @@ def scripts(folder, traces):
 
 
 # How a trace begins whose first task is S, and how one in JSON begins.
-FIRST_OF = {"trace": b"1 assign S: ok\n", "json": b'{"format":"multiscalar-trace","version":1,"program_name":"sends.s",'}
+FIRST_OF = {"trace": b"1 assign S: ok\n", "json": b'{"format":"multiscalar-trace","version":2,"program_name":"sends.s",'}
 
 
 def sends(tasks, name):

@@ -38,7 +38,8 @@ OF_TEXT = (
     "explain --format json", "check --least", "check --least --format json", "demonstrate", "demonstrate --units 3 --emit svg",
 )
 OF_REFUSED = ("seq", "explain", "explain --format sarif", "explain --format json", "explain --color always")
-OF_RUN = ("report", "script", "script --with-values", "summary", "svg", "svg --axis events", "trace", "json", "perfetto", "waits", "vcd")
+OF_RUN = ("report", "script", "script --with-values", "summary", "svg", "svg --axis events", "svg --from 3 --to 9", "trace", "json", "perfetto", "waits", "vcd", "kanata")
+OF_TABLES = ("summary --format csv", "waits --format csv")
 OF_REPLAY = ("answers", "summary", "svg", "trace", "json", "perfetto", "state")
 OF_CURVE = ("--units 4", "--units 16", "--units 4 --emit svg", "--units 16 --emit svg", "--units 3 --progress", "--units 8 --predict last")
 FORMATS = ("text", "sarif", "json")
@@ -116,7 +117,8 @@ def add_example(net, folder):
     net.add_all(folder, OF_TEXT, "program.s")
     net.add_all(folder, (run_in_steps(units, emit) for units, emit in itertools.product(UNITS, OF_RUN)), "program.s")
     net.add_all(folder, (run_in_steps(3, emit, 30, "last") for emit in ("report", "svg", "waits", "vcd")), "program.s")
-    net.add_all(folder, (f"curve --least --budget 3000 {how}" for how in OF_CURVE), "program.s")
+    net.add_all(folder, (f"curve --least --budget 3000 {how}" for how in (*OF_CURVE, "--units 4 --format csv")), "program.s")
+    net.add_all(folder, (run_in_steps(3, emit) for emit in OF_TABLES), "program.s")
     add_threads(net, folder, "program.s")
     for certificate in names[".cert1"] + names[".cert2"]:
         net.add(folder, "check", "program.s", certificate)
@@ -124,7 +126,7 @@ def add_example(net, folder):
         net.add(folder, f"explain program.s --certificate {certificate}")
         net.add(folder, "run --schedule steps --budget 3000", "program.s", certificate)
     for script in names[".events"]:
-        net.add_all(folder, (f"replay --least --units 3 --emit {emit}" for emit in OF_REPLAY), "program.s", script)
+        net.add_all(folder, (f"replay --least --units 3 --emit {emit}" for emit in (*OF_REPLAY, OF_TABLES[0])), "program.s", script)
         net.add_all(folder, ("replay --least --units 2 --until 7 --emit state", "replay --least --strict --units 2"), "program.s", script)
         net.add_all(folder, (f"explain --format {form} --script {script}" for form in FORMATS), "program.s")
 
@@ -331,7 +333,7 @@ WRONG_WORDS = (
     "check --least a.s c", "check a.s c d", "check --workers 0 --least a.s", "check --workers 17 --least a.s", "check --least --least a.s",
     "replay --least a.s", "replay --least a.s e --units 0", "replay --least a.s e --units 17", "replay --least a.s e --emit vcd",
     "replay --least --strict --emit trace a.s e", "replay --least --strict --until 4 a.s e", "replay --least --until 0 a.s e", "run a.s",
-    "run --least a.s c", "run --least --schedule step a.s", "run --least --emit vcd a.s", "run --least --emit waits a.s", "run --least --axis steps a.s",
+    "run --least a.s c", "run --least --schedule step a.s", "run --least --emit vcd a.s", "run --least --emit waits a.s", "run --least --emit kanata a.s", "run --least --schedule steps --from 2 a.s", "run --least --emit svg --from 2 a.s", "run --least --schedule steps --emit svg --from 3 --to 2 a.s", "run --least --axis steps a.s",
     "run --least --axis steps --emit svg a.s", "run --least --with-values a.s", "run --least --predict 16 a.s", "run --least --predict 1,,2 a.s",
     "run --least --predict fisrt a.s", "run --least --workers 0 a.s", "run --least --budget 0 a.s", "curve a.s", "curve --least --emit json a.s",
     "curve --least --units 17 a.s", "curve --least --workers 2 a.s", "demonstrate", "demonstrate --units 0 a.s", "demonstrate --steps 0 a.s",

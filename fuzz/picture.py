@@ -12,8 +12,8 @@ events and by steps. With --seconds it cuts their runs short, goes on with rando
 lives of the tasks, the instructions, the registers passed on and the squashes, by their
 events or steps. The picture must be well-formed XML with no script and no reference
 outside, and must have exactly these: for each life one bar with its task, unit, events
-or steps, instructions and ending, at its place. Names may not be wider than their bars,
-nor bars of a unit overlap. A picture of steps must have strips exactly where a unit has
+or steps, instructions and ending, at its place, and a line where a unit is the head. Names may
+not be wider than their bars, or the room after them, nor bars of a unit overlap. A picture of steps must have strips exactly where a unit has
 a task and does nothing, and no two that are neighbours and say the same. Of a run of
 more than 2,000 events or steps it compares the height of each part of each column. What
 differs is told, and the script ends with status 1. It is no part of the tests.
@@ -35,7 +35,8 @@ MOST_SINGLE = 2000
 LEFT, WIDTH = 88.0, 1160.0
 Life = collections.namedtuple("Life", "task unit first last executed ending")
 MOST_MARKED = 300
-TITLE = re.compile(r"task (\w+), unit (\d+), (?:event|step)s? (\d+)(?: to (\d+))?, instructions: (\d+), (\w+)")
+TITLE = re.compile(r"task (\w+), unit (\d+), (?:event|step)s? (\d+)(?: to (\d+))?, instructions: (\d+), (\w+|trapped: .+|is unlisted: .+)")
+HEAD = re.compile(r"(?:event|step)s? (\d+)(?: to (\d+))?: unit (\d+) is the head")
 STRIP = re.compile(r"steps? (\d+)(?: to (\d+) \((\d+) steps\))?: (.+)")
 STRETCHES = 290
 
@@ -109,6 +110,7 @@ def faults_of(svg, script, units, counted="event"):
         yield from stretch_faults(root, lives, events, units)
         return
     yield from bar_faults(root, lives, events)
+    yield from head_faults(root, script, units, list(numbers))
     has_room = counted == "event" or events <= MOST_MARKED
     yield from mark_faults(root, lives if has_room else [], passes if has_room else [], squashes, counted)
     yield from drain_faults(root, drains if has_room else [], counted)
@@ -118,10 +120,7 @@ def faults_of(svg, script, units, counted="event"):
 
 def strip_faults(root, lives, steps, script, units, numbers):
     """A strip stands where a unit has a task in a step, and does nothing in it."""
-    busy = doers_of(script, units, numbers)
-    wanted = {(life.unit, step) for life in lives for step in range(life.first, life.last + 1)} - busy
-    if script and not ends_step(script):
-        wanted = {(unit, step) for unit, step in wanted if step < steps}
+    wanted = waits_of(lives, steps, script, units, numbers)
     drawn, said = collections.Counter(), {}
     for bar in root.iter(SVG + "rect"):
         title = bar.find(SVG + "title")
@@ -144,6 +143,12 @@ def strip_faults(root, lives, steps, script, units, numbers):
         yield f"{sum(drawn.values())} steps of waiting, where there are {len(wanted)}, or others"
 
 
+def waits_of(lives, steps, script, units, numbers):
+    """The units and the steps in which they have a task and do nothing; a last step that the head does not end has none."""
+    waits = {(life.unit, step) for life in lives for step in range(life.first, life.last + 1)} - doers_of(script, units, numbers)
+    return waits if not script or ends_step(script) else {(unit, step) for unit, step in waits if step < steps}
+
+
 def doers_of(text, units, numbers):
     """Which unit does something in which step."""
     busy, head, active = set(), 0, 0
@@ -163,7 +168,7 @@ def ends_step(text):
 
 
 def mark_faults(root, lives, passes, squashes, counted):
-    told = [title.text for title in root.iter(SVG + "title")]
+    told = [title.text.split("; ")[0] for title in root.iter(SVG + "title") if title.text]
     for number, register, source, target in passes:
         wanted = 1 if target else 2
         if told.count(f"{counted} {number}: ${register} goes from unit {source} to unit {target}") != wanted:
@@ -181,7 +186,7 @@ def mark_faults(root, lives, passes, squashes, counted):
 
 
 def drain_faults(root, drains, counted):
-    told = [title.text for title in root.iter(SVG + "title") if " is sent by unit " in title.text]
+    told = [title.text.split("; ")[0] for title in root.iter(SVG + "title") if " is sent by unit " in title.text]
     if sorted(told) != sorted(f"{counted} {number}: ${register} is sent by unit {unit}, which has stopped" for number, register, unit in drains):
         yield f"{len(told)} marks of {len(drains)} drains, or others"
 
@@ -191,7 +196,7 @@ def bar_faults(root, lives, events):
     rows = collections.defaultdict(list)
     for bar in root.iter(SVG + "rect"):
         title = bar.find(SVG + "title")
-        if title is None or bar.get("class").startswith("wait "):
+        if title is None or bar.get("class").startswith(("wait ", "leads")):
             continue
         task, unit, first, last, executed, ending = TITLE.fullmatch(title.text).groups()
         life = Life(task, int(unit), int(first), int(last or first), int(executed), ending)
@@ -200,10 +205,11 @@ def bar_faults(root, lives, events):
         behind = LEFT + life.last * WIDTH / events
         if abs(left - begin) > 0.02 or abs(left + width - behind) > 0.04:
             yield f"the bar of {life} is at {left}, {width} wide"
-        if ending == "halted":
+        look = "trapped" if ending.startswith(("trapped", "is unlisted")) else ending
+        if look in ("halted", "trapped"):
             life = life._replace(ending="unfinished")
         drawn.append(life)
-        if bar.get("class") != ending:
+        if bar.get("class") != look:
             yield f"the bar of {life} looks {bar.get('class')}"
         rows[float(bar.get("y"))].append((left, left + width))
     if drawn != lives:
@@ -215,9 +221,24 @@ def bar_faults(root, lives, events):
     for text in root.iter(SVG + "text"):
         if text.get("class") == "task":
             x, y = float(text.get("x")), float(text.get("y")) - 18
-            width = max((end - start for start, end in rows[y] if start <= x <= end), default=0)
+            after = min((start for start, _ in rows[y] if start > x), default=LEFT + WIDTH)
+            width = max((end - start for start, end in rows[y] if start <= x <= end), default=after - x)
             if 4 * len(text.text) > width:
-                yield f"the name {text.text} is wider than its bar"
+                yield f"the name {text.text} is wider than its bar, or than the room after it"
+
+
+def head_faults(root, script, units, numbers):
+    """A line over the bars of the unit that is the head, from one retirement to the next."""
+    wanted, after, retired = [], 0, 0
+    for number, line in zip(numbers, script.splitlines()):
+        if line.strip() == "retire":
+            wanted.append((after + 1, number, retired % units))
+            after, retired = number, retired + 1
+    if numbers and numbers[-1] > after:
+        wanted.append((after + 1, numbers[-1], retired % units))
+    told = [HEAD.fullmatch(bar.find(SVG + "title").text) for bar in root.iter(SVG + "rect") if bar.get("class") == "leads" and bar.find(SVG + "title") is not None]
+    if [(int(it[1]), int(it[2] or it[1]), int(it[3])) for it in told] != wanted:
+        yield f"{len(told)} heads of {len(wanted)}, or others"
 
 
 def stretch_faults(root, lives, events, units):

@@ -10,7 +10,8 @@ the time is up. From the script alone, by the model of picture.py, it computes t
 registers passed on and the squashes; and the time of each event, which is its number, or for a run in steps that of
 its step. The timeline must be JSON with exactly these: a lane for each unit; for each life one slice with its unit,
 task, time, instructions and ending; for each register passed on one arrow, which begins and ends inside a slice of
-its unit; and for each squash one instant. Slices of one lane may not overlap. The lives must be as many as the
+its unit; and for each squash one instant. A run of at most 2,000 steps has slices where a unit has a task and does nothing.
+Slices of tasks on one lane may not overlap. The lives must be as many as the
 summary says. What differs is told, and the script ends with status 1. It is no part of the tests.
 """
 import argparse
@@ -51,10 +52,19 @@ def expected(script, units, by_steps):
     return slices, arrows, [(unit, times[number]) for number, unit in squashes]
 
 
+def waits_of(script, units):
+    """The units and the steps, from 1, in which they wait, of at most 2,000 steps."""
+    numbers = list(picture.steps_of(script))
+    if not numbers or numbers[-1] > picture.MOST_SINGLE:
+        return ()
+    picture.history_of.next = 0
+    return picture.waits_of(picture.history_of(script, units, numbers)[0], numbers[-1], script, units, numbers)
+
+
 def found(entries):
     """The same of a timeline."""
     slices = [(it["tid"], it["name"], it["ts"], it["dur"], it["args"]["instructions"], it["args"]["ending"])
-              for it in entries["X"]]
+              for it in entries["X"] if it["cat"] == "task"]
     ends = {it["id"]: it for it in entries["f"]}
     arrows = [(it["id"], it["name"], it["ts"], it["tid"], ends[it["id"]]["tid"]) for it in entries["s"]]
     return slices, arrows, [(it["tid"], it["ts"]) for it in entries["i"]]
@@ -75,8 +85,18 @@ def faults_of(text, script, units, by_steps):
     for what, there, wanted in zip(("slices", "arrows", "squashes"), found(entries), expected(script, units, by_steps)):
         if there != wanted:
             yield f"{len(there)} {what}, not {len(wanted)}, or others"
+    ticks = collections.Counter((it["tid"], it["ts"], it["dur"]) for it in entries["X"] if it["cat"] == "instruction")
+    if sum(ticks.values()) != sum(line.startswith("exec ") for line in script.splitlines()) or any(count > 1 or dur != 1 for (_, _, dur), count in ticks.items()):
+        yield f"{sum(ticks.values())} instructions, or two at one time"
     for it in entries["X"]:
+        if it["cat"] == "instruction" and not any(one["cat"] == "task" and one["tid"] == it["tid"] and one["ts"] <= it["ts"] < one["ts"] + one["dur"] for one in entries["X"]):
+            yield f"an instruction of unit {it['tid']} at {it['ts']} is in no task"
+        if it["cat"] != "task":
+            continue
         lanes[it["tid"]].append((it["ts"], it["ts"] + it["dur"]))
+    waits = collections.Counter((it["tid"], step) for it in entries["X"] if it["cat"] == "wait" for step in range(it["ts"] + 1, it["ts"] + it["dur"] + 1))
+    if waits != collections.Counter(waits_of(script, units) if by_steps else ()):
+        yield f"{sum(waits.values())} steps of waiting, or others than there are"
     for unit, spans in lanes.items():
         spans.sort()
         if any(one[1] > two[0] for one, two in zip(spans, spans[1:])) or any(begin >= end for begin, end in spans):
@@ -128,7 +148,7 @@ def main():
         seen += 1
         faults = list(faults_of(timeline, script, units, by_steps))
         assigned = next(int(line.split()[0]) for line in summary.splitlines() if line.endswith("(all)"))
-        if timeline.count('"ph":"X"') != assigned:
+        if timeline.count('"cat":"task"') != assigned:
             faults.append(f"not {assigned} slices, as the summary has lives")
         failed += len(faults)
         for fault in faults:

@@ -62,6 +62,9 @@ def shown(machine, acting):
     for number in range(machine.units):
         names = (f"ring.unit{number}.unit{number}_{name}" for name in UNIT)
         values |= zip(names, of_unit(machine, (number - head) % machine.units, acting))
+    for number in range(machine.units):
+        task = values[f"ring.unit{number}.unit{number}_task"]
+        values[f"ring.unit{number}.unit{number}_name"] = "-" if task is None else machine.p.tasks[task][0]
     return values
 
 
@@ -98,6 +101,8 @@ def parse(text):
             (name, width), value = signals[next(words)], None if word == "bz" else int(word[1:], 2)
             assert len(word) - 1 <= width and values.get(name, ...) != value, f"{word} {name}"
             values[name] = value
+        elif word[0] == "s":
+            values[signals[next(words)][0]] = word[1:]
         if word[0] == "$" and word not in ("$dumpvars", "$end"):
             while next(words) != "$end":
                 pass
@@ -116,6 +121,7 @@ def faults(program, path, units, budget, predict):
     if said or (status, len(found)) != (told_status, len(wanted)):
         yield f"status {status}, wanted {told_status}; {len(found)} times, wanted {len(wanted)}: {said}"
     for at, (values, right) in enumerate(zip(found, wanted)):
+        right["ring.step"] = at + 1
         for name in right:
             if values.get(name, ...) != right[name]:
                 yield f"time {at}, {name}: {values.get(name, ...)}, wanted {right[name]}"

@@ -102,7 +102,8 @@ typedef enum {
     MULTISCALAR_REPLAY_TRACE,
     MULTISCALAR_REPLAY_JSON,
     MULTISCALAR_REPLAY_PERFETTO,
-    MULTISCALAR_REPLAY_STATE
+    MULTISCALAR_REPLAY_STATE,
+    MULTISCALAR_REPLAY_SUMMARY_CSV /* comma separated values */
 } multiscalar_replay_emit;
 
 int multiscalar_replay(multiscalar_text program, multiscalar_text certificate, multiscalar_text script, uint32_t units,
@@ -125,7 +126,10 @@ typedef enum {
     MULTISCALAR_RUN_WAITS,
     MULTISCALAR_RUN_VCD,
     MULTISCALAR_RUN_PERFETTO,
-    MULTISCALAR_RUN_SVG_STEPS /* a column for each step; MULTISCALAR_RUN_SVG has one for each event */
+    MULTISCALAR_RUN_SVG_STEPS, /* a column for each step; MULTISCALAR_RUN_SVG has one for each event */
+    MULTISCALAR_RUN_KANATA,
+    MULTISCALAR_RUN_SUMMARY_CSV, /* comma separated values */
+    MULTISCALAR_RUN_WAITS_CSV
 } multiscalar_run_emit;
 
 int multiscalar_run_in_steps(multiscalar_text program, multiscalar_text certificate, uint32_t units, uint32_t budget,
@@ -133,7 +137,11 @@ int multiscalar_run_in_steps(multiscalar_text program, multiscalar_text certific
                              size_t *length);
 
 /* Runs a program in steps on 1, 2, 3 units and more, up to `units`. */
-typedef enum { MULTISCALAR_CURVE_TABLE, MULTISCALAR_CURVE_SVG } multiscalar_curve_emit;
+typedef enum {
+    MULTISCALAR_CURVE_TABLE,
+    MULTISCALAR_CURVE_SVG,
+    MULTISCALAR_CURVE_TABLE_CSV /* comma separated values */
+} multiscalar_curve_emit;
 
 int multiscalar_curve(multiscalar_text program, multiscalar_text certificate, uint32_t units, uint32_t budget,
                       multiscalar_prediction prediction, multiscalar_curve_emit emit, char **answer, size_t *length);

@@ -63,6 +63,7 @@ class ReplayEmit(IntEnum):
     JSON = 4
     PERFETTO = 5
     STATE = 6
+    SUMMARY_CSV = 7
 
 
 class RunEmit(IntEnum):
@@ -79,6 +80,9 @@ class RunEmit(IntEnum):
     VCD = 8
     PERFETTO = 9
     SVG_STEPS = 10
+    KANATA = 11
+    SUMMARY_CSV = 12
+    WAITS_CSV = 13
 
 
 class CurveEmit(IntEnum):
@@ -86,6 +90,7 @@ class CurveEmit(IntEnum):
 
     TABLE = 0
     SVG = 1
+    TABLE_CSV = 2
 
 
 class _Guess(IntEnum):

@@ -46,6 +46,8 @@ class Calls(unittest.TestCase):
         self.assertEqual(multiscalar.replay(RIGHT, script.data, units=2).status, 0)
         waits = multiscalar.run_in_steps(RIGHT, units=2, emit=multiscalar.RunEmit.WAITS)
         self.assertEqual((waits.status, waits.text.splitlines()[-1]), (0, "       0  (all)"))
+        rows = multiscalar.run_in_steps(RIGHT, units=2, emit=multiscalar.RunEmit.WAITS_CSV)
+        self.assertEqual((rows.status, rows.text), (0, "waits,task,place,reason,register,sent,from\n"))
         waveform = multiscalar.run_in_steps(RIGHT, units=2, emit=multiscalar.RunEmit.VCD)
         self.assertEqual((waveform.status, waveform.text.splitlines()[0]), (0, "$version multiscalar $end"))
         timeline = multiscalar.replay(RIGHT, script.data, units=2, emit=multiscalar.ReplayEmit.PERFETTO)
@@ -55,6 +57,8 @@ class Calls(unittest.TestCase):
 
     def test_curve(self):
         self.assertEqual(multiscalar.curve(RIGHT, units=2, prediction=[0]).status, 0)
+        rows = multiscalar.curve(RIGHT, units=2, emit=multiscalar.CurveEmit.TABLE_CSV)
+        self.assertEqual((rows.status, len(rows.text.splitlines())), (0, 3))
 
     def test_demonstrate(self):
         self.assertEqual(multiscalar.demonstrate(RIGHT).text, "the marks are right: no run shows anything\n")

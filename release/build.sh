@@ -1,6 +1,7 @@
 #!/usr/bin/env bash
-# Makes the release: multiscalar-VERSION-x86_64-linux.tar.gz and multiscalar_VERSION_amd64.deb, from the
-# program that was proved and built from what is committed. The same commit gives the same bytes.
+# Makes the release: multiscalar-VERSION-x86_64-linux.tar.gz and multiscalar_VERSION_amd64.deb, with MANIFEST and SHA256SUMS,
+# from the program that was proved and built from what is committed. The same files, but for those in dist/, give the same
+# bytes: a release names digests (release/digests.sh), no commit and no time, so that a commit can hold its own.
 #
 #     release/build.sh [FOLDER]        FOLDER: where they are written, release/out if it is left out
 set -eu
@@ -18,14 +19,13 @@ refuse() { printf 'release/build.sh: %s\n' "$*" >&2; exit 2; }
 
 command -v rt >/dev/null || refuse "rt, which names the toolchain, is not on PATH"
 command -v dpkg-deb >/dev/null || refuse "dpkg-deb is missing (Debian's package dpkg)"
-[ -z "$(git status --porcelain --untracked-files=no)" ] || refuse "there are changes that are not committed"
+[ -z "$(git status --porcelain --untracked-files=no -- . ':!dist')" ] || refuse "there are changes that are not committed"
 [ -x "$program" ] || refuse "there is no $program: run ./multiscalar --help first, which proves and builds it"
 [ -f "$core" ] || refuse "there is no $core: run release/build_program.py /dev/null multiscalar_c, which proves and builds it"
 
 version=$(sed -n 's/^pub const VERSION: &str = "\([0-9.]*\).*/\1/p' crates/command_line/src/help.rt)
-commit=$(git rev-parse HEAD)
-SOURCE_DATE_EPOCH=$(git log -1 --format=%ct)
-export SOURCE_DATE_EPOCH
+# The time of all files of all releases: 1 January 2025.
+export SOURCE_DATE_EPOCH=1735689600
 toolchain=$(rt version)
 named=$(sed -n 's/^pub const VERSION_AND_TOOLCHAIN: &str = "\(.*\)";$/\1/p' crates/command_line/src/help.rt)
 [ "$version (proved with $toolchain)" = "$named" ] || refuse "this toolchain is $toolchain, and --version says $named"
@@ -43,8 +43,8 @@ committed README.md CHANGELOG.md CONTRIBUTING.md LICENSE-APACHE LICENSE-MIT docs
 committed bench/README.md bench/results.txt fuzz/README.md fuzz/results.txt fuzz/entry/README.md web/README.md
 rm -f "$root"/examples/*.py "$root"/docs/*.py
 cp release/install.sh "$root/install.sh"
-install -m 755 "$program" "$root/multiscalar"
-strip --strip-all "$root/multiscalar"
+release/strip.sh "$program" "$root/multiscalar"
+chmod 755 "$root/multiscalar"
 
 # The library.
 committed library/multiscalar.h library/example.c python
@@ -61,12 +61,14 @@ sum_of() { sha256sum "$1" | cut -d' ' -f1; }
 
 {
     printf 'multiscalar %s\n' "$version"
-    printf 'commit %s\n' "$commit"
+    printf 'made from %s\n' "$(release/digests.sh made-from "$toolchain")"
+    printf 'files %s\n' "$(release/digests.sh files "$root")"
     printf 'proved and built with %s\n' "$toolchain"
     printf 'program sha256 %s\n' "$(sum_of "$root/multiscalar")"
     printf 'program as built, with its symbols, sha256 %s\n' "$(sum_of "$program")"
     printf 'library sha256 %s\n' "$(sum_of "$root/lib/libmultiscalar.so.0")"
     printf 'its proved core as built, sha256 %s\n' "$(sum_of "$core")"
+    printf 'the rest of it compiled with %s\n' "$(gcc --version | head -n 1)"
     if [ -f "$root/multiscalar.html" ]; then printf 'page sha256 %s\n' "$(sum_of "$root/multiscalar.html")"; fi
 } > "$root/MANIFEST"
 
@@ -104,7 +106,7 @@ Package: multiscalar
 Version: $version
 Architecture: amd64
 Maintainer: The authors of multiscalar <multiscalar@localhost.localdomain>
-Installed-Size: $(du -k --apparent-size -s "$deb/usr" | cut -f1)
+Installed-Size: $(find "$deb/usr" -type f -printf '%s\n' | awk '{ sum += int(($1 + 1023) / 1024) } END { print sum }')
 Depends: libc6 (>= 2.34)
 Suggests: python3, gcc-mipsel-linux-gnu
 Section: devel
@@ -124,5 +126,4 @@ find "$deb" -exec touch -h -d "@$SOURCE_DATE_EPOCH" {} +
 dpkg-deb --root-owner-group -Zxz -z9 --build "$deb" "$out/multiscalar_${version}_amd64.deb" > /dev/null
 
 cp "$root/MANIFEST" "$out/MANIFEST"
-(cd "$out" && sha256sum "$name.tar.gz" "multiscalar_${version}_amd64.deb" >> MANIFEST)
-cat "$out/MANIFEST"
+(cd "$out" && sha256sum MANIFEST "$name.tar.gz" "multiscalar_${version}_amd64.deb" | tee SHA256SUMS)

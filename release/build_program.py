@@ -3,6 +3,7 @@
 
     release/build_program.py [LOG [CRATE]]     the log of rt, and the crate: multiscalar, if none is named
     release/build_program.py --unless-built    the program, if it is not built from the sources as they are
+    release/build_program.py --is-built [CRATE]    builds nothing; the status is 0 if it is built from them
 
 It runs `rt ci` in a copy of these crates alone. So what it proves is kept on this machine, and `rt ci` at the top does
 not prove it again, nor this script what that proved. It says each crate as it is done, and how long the rest may take.
@@ -86,14 +87,29 @@ def noted(name, what):
 
 
 def is_built(name):
-    """Whether the program is built from the sources as they are; then the launcher is told so."""
-    now, program = time.time(), TOP / "crates" / name / "out" / name
-    kept = noted(name, "built")
-    if not kept or not os.access(program, os.X_OK) or not program.is_file() or kept != checksum(needed(name), TOP):
+    """Whether the program, or the library, is built from the sources as they are; then the launcher is told so."""
+    now, out = time.time(), TOP / "crates" / name / "out"
+    kept, program, library = noted(name, "built"), out / name, out / f"lib{name}.a"
+    is_there = library.is_file() or program.is_file() and os.access(program, os.X_OK)
+    if not kept or not is_there or kept != checksum(needed(name), TOP):
         return False
     with contextlib.suppress(OSError):  # of sources that another user owns
         note(name, "built", kept, now)
     return True
+
+
+def is_built_now(name):
+    """The same, while no other call builds it; it does not wait for one."""
+    held = os.open(TOP / "crates" / name / "src", os.O_RDONLY)
+    try:
+        with contextlib.suppress(OSError):  # some file systems have no locks
+            try:
+                fcntl.flock(held, fcntl.LOCK_EX | fcntl.LOCK_NB)
+            except BlockingIOError:
+                return False
+        return is_built(name)
+    finally:
+        os.close(held)
 
 
 @contextlib.contextmanager
@@ -231,6 +247,8 @@ def run_unless_built(name):
 
 
 def main(log="/dev/null", name="multiscalar"):
+    if log == "--is-built":
+        return 0 if is_built_now(name) else 1
     if not shutil.which("rt"):
         say("rt, of the Rattle kit, is not on PATH")
         return 2

@@ -9,10 +9,10 @@
 #     browsers   web/test: Chromium and Firefox, with screenshots                                     4 min
 #     library    library/build.sh, library/test/run.sh: the library, its tests, stack, sizes, times   2 min
 #     agree      docs/make.py: pages, man page and completions beside --help                         1 s
-#     release    release/build.sh in two clones of this commit: the same bytes                        7 min
+#     release    release/ship.sh in two clones of this commit: the same bytes                         7 min
 #     package    lintian                                                                             15 s
 #     python     pip installs the module of the release, and its tests run                           25 s
-#     bare       release/bare.sh: the release in a Debian system that has nothing else                5 min
+#     bare       release/bare.sh: release and clone in two systems that have nothing else             6 min
 #     verify     release/verify.sh: proves and builds the release anew; only where it is named        an hour
 #
 # The times are those of a machine with four cores that was busy with proofs. `page` builds the core first, if web/build.sh
@@ -44,7 +44,7 @@ released() { # FOLDER
     git clone -q "$top" "$work/clone" && mkdir -p "$work/clone/web/out" \
         && for it in multiscalar multiscalar_c; do cp -a "crates/$it/out" "$work/clone/crates/$it/out" || return; done \
         && cp -p web/out/core.bc "$work/clone/web/out/" \
-        && "$work/clone/web/build.sh" && "$work/clone/release/build.sh" "$out/$1"
+        && "$work/clone/release/ship.sh" && mv "$work/clone/dist" "$out/$1"
     local status=$?
     rm -rf "$work"
     return $status
@@ -75,7 +75,7 @@ try_python() {
 }
 
 try_bare() { release/bare.sh "$out/one"; }
-try_verify() { release/verify.sh "$out"/one/*.tar.gz; }
+try_verify() { release/verify.sh "$out/one"; }
 
 [ $# -gt 0 ] || set -- page answers browsers library agree release package python bare
 failed=0

@@ -113,14 +113,14 @@ def is_wasted(events, task, least):
     for event in events:
         lost = None
         for change in event.get('changes', []):
-            kind, unit = change['change'], change.get('unit')
+            kind, position = change['change'], change.get('position')
             if kind == 'began':
                 queue.append([change['task'], 0])
             elif kind == 'executed':
-                queue[unit][1] += 1
+                queue[position][1] += 1
             elif kind in ('squashed', 'dropped'):
-                lost = unit if lost is None else min(lost, unit)
-                if kind == 'squashed' and queue[unit][0] == task and queue[unit][1] >= least:
+                lost = position if lost is None else min(lost, position)
+                if kind == 'squashed' and queue[position][0] == task and queue[position][1] >= least:
                     return True
             elif kind == 'retired':
                 del queue[0]

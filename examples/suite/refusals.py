@@ -4,8 +4,8 @@
     refusals.py            makes all of them
     refusals.py --check    says which are not as stored (status 1)
 
-The toy simulator says which event is refused, and why. Each event is tried with each refusal that a script can reach, and
-an `exec` ahead of the head with each kind of instruction that waits for that, in at least three scripts.
+The toy simulator says which event is refused, and why. Each event is tried with each refusal that a script can reach, in
+each situation of TRIED, in at least three scripts.
 """
 import argparse
 import collections
@@ -13,29 +13,39 @@ import copy
 import pathlib
 import sys
 
-from program_text import LOADS, STORES, Program
-from simulator import REGISTERS, Machine, NotAllowed, events
+from program_text import HI, LO, LOADS, STORES, Program, word
+from simulator import Machine, NotAllowed, events
 
 HERE = pathlib.Path(__file__).resolve().parent
 OFTEN = 3
-# The refusals that a script can reach, by event. No script reaches a 3 of `assign`, as it names no other task, nor a 16 or 17.
-REACHED = {"assign": (1, 2, 4), "exec": (1, 3, 5, 6, 7), "transfer": (1, 3, 9, 10), "drain": (1, 3, 8, 9, 10), "squash": (1, 3, 8, 11),
-           "retire": (1, 3, 8, 12, 13, 14), "fault": (1, 3, 8, 15), "drop": (1, 3)}
-WAITING = ("load", "store", "out", "halt")
+# By event and by refusal, the situations in which it is tried; `-` is any other. No script reaches a 3 of `assign`, as it
+# names no other task, nor a 16 or 17.
+TRIED = {
+    "assign": {1: "-", 2: "- stopped", 4: "start retired running target"},
+    "exec": {1: "-", 3: "-", 5: "head ahead", 6: "first second release hi-lo",
+             7: "load store out halt trap next-load next-store next-out next-halt"},
+    "transfer": {1: "-", 3: "- head", 9: "- taken", 10: "- beyond arrived written stopped"},
+    "drain": {1: "-", 3: "- outside", 8: "- arrived written", 9: "- released", 10: "-"},
+    "squash": {1: "-", 3: "- last", 8: "- several", 11: "-"},
+    "retire": {1: "-", 3: "-", 8: "-", 12: "- written", 13: "-", 14: "-"},
+    "fault": {1: "-", 3: "-", 8: "-", 15: "-"},
+    "drop": {1: "-", 3: "- head"},
+}
 
 
 def wanted():
-    """What is to be tried: an event, its refusal, and the kind of instruction if that is what has to wait for the head."""
-    pairs = [(event, number, "") for event, numbers in REACHED.items() for number in numbers if (event, number) != ("exec", 7)]
-    return pairs + [("exec", 7, kind) for kind in WAITING]
+    """What is to be tried: an event, its refusal, and the situation."""
+    return [(event, number, words) for event, numbers in TRIED.items() for number, all_words in numbers.items()
+            for words in all_words.split()]
 
 
 def candidates(machine):
-    """Events that may be refused in a state."""
+    """Events that may be refused in a state, with the registers that a task may produce, and register 0."""
     units = range(len(machine.queue) + 1)
+    registers = sorted({0}.union(*(task.create for task in machine.program.tasks.values())))
     yield from (("assign", name) for name in machine.program.tasks)
     yield from ((kind, k) for kind in ("exec", "squash", "drop") for k in units)
-    yield from ((kind, k, r) for kind in ("transfer", "drain") for k in units for r in REGISTERS)
+    yield from ((kind, k, r) for kind in ("transfer", "drain") for k in units for r in registers)
     yield from (("retire",), ("fault",))
 
 
@@ -62,12 +72,59 @@ def refusal_of(machine, event):
     return None
 
 
-def pair_of(machine, event, refused):
-    """What a refusal tries."""
-    if (event[0], refused.number) != ("exec", 7):
-        return event[0], refused.number, ""
-    name = machine.instruction(machine.queue[event[1]]).name
-    return "exec", 7, "load" if name in LOADS else "store" if name in STORES else name
+def situation(machine, event, refused):
+    """What tells apart the events of a kind that are refused for one reason: a simulator may have thought of one of them."""
+    queue, (name, *operands) = machine.queue, event
+    # The unit that the event is about, if there is one.
+    at = 0 if name in ("retire", "fault") else len(queue) - 1 if name == "assign" else operands[0]
+    unit = queue[at] if 0 <= at < len(queue) else None
+    r = refused.register if name == "retire" else operands[1] if len(operands) == 2 else None
+    match name, refused.number:
+        case "assign", 2:
+            return "stopped" if any(unit.exit is not None for unit in queue) else "-"
+        case "assign", 4:  # at first, or when all have retired; the last has not stopped; it has, elsewhere than at this target
+            entry = machine.program.tasks[operands[0]].entry
+            if not unit:
+                before = [task for task in machine.program.tasks.values() if machine.next in task.targets]
+                is_target = all(entry in task.targets for task in before)  # so the one that retired last lists it too
+                return "start" if machine.next == machine.program.start else "retired" if is_target else ""
+            return "running" if unit.exit is None else "target" if entry in unit.task.targets else "-"
+        case "exec", 5:
+            return "ahead" if at else "head"
+        case "exec", 6:  # what waits for the first operand that it reads, or for another
+            i = machine.instruction(unit)
+            first = next(operand for kind, operand in zip(i.kinds, i.operands) if kind == "s")
+            return "release" if i.name == "release" else "hi-lo" if first in (HI, LO) else "first" if unit.value(first) is None else "second"
+        case "exec", 7:  # `next`: the head has stopped, and this is the right task after it
+            i = machine.instruction(unit)
+            if i.name in LOADS or i.name in STORES:
+                is_trap = machine.trap(i.name, word(i.operands[1] + unit.value(i.operands[2])))
+                kind = "trap" if is_trap else "load" if i.name in LOADS else "store"
+            else:
+                kind = i.name
+            return f"next-{kind}" if at == 1 and queue[0].exit == unit.task.entry and kind != "trap" else kind
+        case "transfer", 9:
+            return "taken" if r > 0 else "-"
+        case "transfer", 10:  # what the unit before has of it, which it has not sent; `beyond`: only an older one has sent it
+            before = queue[at - 1]
+            has = "written" if r in before.written else "arrived" if r in before.arrived else "-"
+            is_sent = has == "-" and any(r in older.sent for older in queue[:at - 1])
+            return "beyond" if is_sent else "stopped" if before.exit is not None and has != "-" else has
+        case "drain", 3:
+            return "-" if not unit else "outside" if r > 0 and unit.exit is not None and unit.value(r) is not None else ""
+        case "drain", 8:
+            return "written" if r in unit.written else "arrived" if r in unit.arrived else "-"
+        case "drain", 9:
+            return "-" if r in unit.written else "released"
+        case "squash", 3:
+            return "-" if not unit else "last" if unit.exit is not None else ""
+        case "squash", 8:
+            return "several" if len(set(unit.task.targets)) > 1 else "-"
+        case "retire", 12:
+            return "written" if r in unit.written else "-"
+        case "transfer" | "drop", 3:
+            return "head" if unit else "-"
+    return "-"
 
 
 def spelled(event):
@@ -80,7 +137,7 @@ def probes(machine, left):
         if not any(pair[0] == event[0] for pair in left):
             continue
         refused = refusal_of(machine, event)
-        pair = refused and pair_of(machine, event, refused)
+        pair = refused and (event[0], refused.number, situation(machine, event, refused))
         if pair in left:
             left.remove(pair)
             register = f" ${refused.register}" if refused.register is not None else ""
@@ -93,7 +150,8 @@ def script_of(path, counts):
     machine = Machine(Program((HERE / "programs" / f"{name}.s").read_text()), int(units))
     left = [pair for pair in wanted() if counts[pair] < OFTEN]
     before, lines, end = list(left), [], 0
-    for _, event, _ in [*events(path.read_text()), (0, None, [])]:
+    played = [event for _, event, expected in events(path.read_text()) if not any(part.startswith("refused ") for part in expected)]
+    for event in [*played, None]:
         found = list(probes(machine, left)) if left else []
         lines += found
         end = len(lines) if found else end

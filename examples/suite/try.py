@@ -11,7 +11,8 @@ import pathlib
 import subprocess
 import sys
 
-from make import UNITS
+import refusals
+from make import UNITS, runs, script_of
 from program_text import KINDS, Program
 from simulator import BUGS, EVENTS, Machine, log, play
 
@@ -84,7 +85,7 @@ class Suite:
 
     def in_simulator(self, script, bug=None):
         name, units = units_of(script)
-        return play(Watched(self.programs[name], units, bug), script.read_text())
+        return play(Watched(self.programs[name], units, bug), script.read_text(), exact=True)
 
     def by_replay(self, name, units, script, *options):
         """The first line that `replay --strict` says."""
@@ -101,6 +102,15 @@ class Suite:
                 said = f"as expected: {events} event{'s' * (events != 1)}; the run {machine.end or 'goes on'}"
                 yield f"{name}, units {units}", self.by_replay(name, units, "\n".join(lines)), said
 
+    def as_made(self):
+        """That the scripts of runs and of refused events are as make.py and refusals.py make them."""
+        made = {f"scripts/{name}-{units}-{predict}.script": script_of(self.binary, name, units, predict)
+                for name, units, predict in runs()}
+        made.update({f"refused/{name}": text for name, text in refusals.made()[0].items()})
+        stored = {f"{path.parent.name}/{path.name}": path.read_text() for path in self.scripts if path.parent.name != "by-hand"}
+        other = sorted(name for name in made.keys() | stored.keys() if made.get(name) != stored.get(name))
+        self.tell(not other, f"scripts that are not as made: {', '.join(other) or 'none'}")
+
     def run(self):
         right = {script: self.in_simulator(script) for script in self.scripts}
         self.told("scripts in the simulator", [(script.name, said, said) for script, said in right.items()])
@@ -110,13 +120,14 @@ class Suite:
                     for script, said in right.items()]
         self.told("scripts by replay --strict", replayed)
         self.told("logs of the simulator by replay --strict", list(self.logs()))
-        runs = [(script, *units_of(script)) for script in self.scripts if script.parent.name == "scripts"]
+        played = [(script, *units_of(script)) for script in self.scripts if script.parent.name == "scripts"]
         self.told("scripts of runs with --complete", [(script.name, self.by_replay(name, units, script.read_text(), "--complete"), right[script])
-                                                      for script, name, units in runs])
-        retired = {script: "".join(as_retired(script.read_text().splitlines())) for script, _, _ in runs}
+                                                      for script, name, units in played])
+        self.as_made()
+        retired = {script: "".join(as_retired(script.read_text().splitlines())) for script, _, _ in played}
         self.told("logs of tasks as they retire with --complete", [
             (script.name, self.by_replay(name, 1, retired[script], "--complete"), with_events(right[script], retired[script].count("\n")))
-            for script, name, _ in runs])
+            for script, name, _ in played])
         for bug in BUGS:
             found = [script for script, said in right.items() if self.in_simulator(script, bug) != said]
             logged = next((f"the log of {name}" for name, said, _ in self.logs(bug) if is_departure(said)), None)

@@ -18,9 +18,9 @@ TOP = Path(__file__).resolve().parent.parent.parent
 PROGRAM, TEXTS = sys.argv[1], int(sys.argv[2])
 EMITS = {
     "annotate": (multiscalar.AnnotateEmit, ["text", "cert", "keep", "marks"]),
-    "replay": (multiscalar.ReplayEmit, ["answers", "summary", "svg", "trace", "json", "perfetto", "state"]),
-    "run": (multiscalar.RunEmit, ["report", "script", "summary", "svg --axis events", "trace", "json", "script --with-values", "waits", "vcd", "perfetto", "svg"]),
-    "curve": (multiscalar.CurveEmit, ["table", "svg"]),
+    "replay": (multiscalar.ReplayEmit, ["answers", "summary", "svg", "trace", "json", "perfetto", "state", "summary --format csv"]),
+    "run": (multiscalar.RunEmit, ["report", "script", "summary", "svg --axis events", "trace", "json", "script --with-values", "waits", "vcd", "perfetto", "svg", "kanata", "summary --format csv", "waits --format csv"]),
+    "curve": (multiscalar.CurveEmit, ["table", "svg", "table --format csv"]),
 }
 PREDICTIONS = {"first": multiscalar.FIRST, "last": multiscalar.LAST, "1,0": [1, 0]}
 
@@ -63,7 +63,7 @@ class Comparison:
                     words = ["run", "--least", "--schedule", "steps", "--units", units, "--predict", word, "--budget", 2000, "--emit", *name.split(), "-"]
                     self.compare(words, multiscalar.run_in_steps(text, units=units, budget=2000, prediction=prediction, emit=emit), text)
         for emit, name in emits("curve"):
-            self.compare(["curve", "--least", "--units", 6, "--budget", 2000, "--emit", name, "-"], multiscalar.curve(text, units=6, budget=2000, emit=emit), text)
+            self.compare(["curve", "--least", "--units", 6, "--budget", 2000, "--emit", *name.split(), "-"], multiscalar.curve(text, units=6, budget=2000, emit=emit), text)
 
     def replay(self, file, certificate, script):
         """By a certificate, or by the least one."""
@@ -73,7 +73,7 @@ class Comparison:
         program = file.read_bytes()
         for emit, name in emits("replay"):
             report = multiscalar.replay(program, script.read_bytes(), text, emit=emit)
-            self.compare(["replay", *given, "--units", 4, "--emit", name, "-", *others], report, program)
+            self.compare(["replay", *given, "--units", 4, "--emit", *name.split(), "-", *others], report, program)
         self.compare(["replay", "--strict", *given, file, *others], multiscalar.replay_strictly(program, script.read_bytes(), text))
 
     def certify(self, file, certificate):

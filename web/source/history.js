@@ -12,7 +12,7 @@ export function readLines(text) {
 export function scriptLine(event) {
   const words = [event.kind];
   if (event.kind === 'assign') words.push(event.task);
-  if (event.unit !== undefined) words.push(event.unit);
+  if (event.position !== undefined) words.push(event.position);
   if (event.register !== undefined && ['transfer', 'drain'].includes(event.kind)) words.push(`$${event.register}`);
   return words.join(' ');
 }
@@ -25,23 +25,23 @@ const NO_UNIT = { life: null, task: '', line: null, hasStopped: false, exit: nul
 
 const CHANGES = {
   began(state, change, event, lives) {
-    const seat = (state.head + change.unit) % state.units;
+    const seat = (state.head + change.position) % state.units;
     const life = { number: lives.length, task: change.task, seat, from: event.event, to: null, fate: 'unfinished', acts: [] };
     lives.push(life);
-    state.queue[change.unit] = { ...NO_UNIT, life, seat, task: change.task, line: change.line };
-    state.taker = change.unit;
+    state.queue[change.position] = { ...NO_UNIT, life, seat, task: change.task, line: change.line };
+    state.taker = change.position;
   },
   executed(state, change) {
-    withUnit(state, change.unit, { executed: state.queue[change.unit].executed + 1, last: change.line });
+    withUnit(state, change.position, { executed: state.queue[change.position].executed + 1, last: change.line });
   },
   wrote(state, change, event) {
-    withUnit(state, event.unit, { written: { ...state.queue[event.unit].written, [change.register]: change.word } });
+    withUnit(state, event.position, { written: { ...state.queue[event.position].written, [change.register]: change.word } });
   },
   sent(state, change, event) {
-    withUnit(state, event.unit, { sent: { ...state.queue[event.unit].sent, [change.register]: change.word } });
+    withUnit(state, event.position, { sent: { ...state.queue[event.position].sent, [change.register]: change.word } });
   },
   drained(state, change) {
-    withUnit(state, change.unit, { sent: { ...state.queue[change.unit].sent, [change.register]: change.word } });
+    withUnit(state, change.position, { sent: { ...state.queue[change.position].sent, [change.register]: change.word } });
   },
   became_head(state) {
     state.taker = 0;
@@ -51,15 +51,15 @@ const CHANGES = {
     withUnit(state, state.taker, { arrived: { ...unit.arrived, [change.register]: change.word } });
   },
   arrived(state, change) {
-    const unit = state.queue[change.unit];
-    withUnit(state, change.unit, { arrived: { ...unit.arrived, [change.register]: change.word } });
-    state.moved = { from: state.queue[change.unit - 1].seat, to: unit.seat, register: change.register, word: change.word };
+    const unit = state.queue[change.position];
+    withUnit(state, change.position, { arrived: { ...unit.arrived, [change.register]: change.word } });
+    state.moved = { from: state.queue[change.position - 1].seat, to: unit.seat, register: change.register, word: change.word };
   },
   moved_to(state, change, event) {
-    withUnit(state, event.unit, { line: change.line ?? null });
+    withUnit(state, event.position, { line: change.line ?? null });
   },
   stopped_at(state, change, event) {
-    withUnit(state, event.unit, { hasStopped: true, line: null, exit: { line: change.line ?? null, address: change.address } });
+    withUnit(state, event.position, { hasStopped: true, line: null, exit: { line: change.line ?? null, address: change.address } });
   },
   put_out(state, change) {
     state.output = [...state.output, change.word];
@@ -93,15 +93,15 @@ function end(life, event, fate) {
 }
 
 function lose(state, change, event, fate) {
-  const unit = state.before.queue[change.unit];
+  const unit = state.before.queue[change.position];
   end(unit.life, event, fate);
   state.left = [...state.left, { ...unit, fate }];
-  state.queue = state.queue.slice(0, change.unit);
+  state.queue = state.queue.slice(0, change.position);
 }
 
 // The seat on the ring of the unit that acts: the free unit for an assign, the head for a retire.
 function seatOf(state, event) {
-  const position = event.kind === 'assign' ? state.queue.length : event.unit ?? 0;
+  const position = event.kind === 'assign' ? state.queue.length : event.position ?? 0;
   return (state.head + position) % state.units;
 }
 
@@ -117,7 +117,7 @@ function stateAfter(before, event, lives) {
 }
 
 function noteAct(state, before, event) {
-  const position = event.kind === 'assign' ? before.queue.length : event.unit ?? 0;
+  const position = event.kind === 'assign' ? before.queue.length : event.position ?? 0;
   const life = (state.queue[position]?.life?.seat === state.actor ? state.queue[position] : before.queue[position])?.life;
   life?.acts.push({ event: event.event, kind: event.kind, isRefused: event.answer === 'refused' });
 }

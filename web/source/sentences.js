@@ -89,7 +89,7 @@ function takesText(changes) {
 
 function beganText(state, { actor, changes, task }) {
   const began = changes.find(it => it.change === 'began');
-  const head = began?.unit === 0 ? ` ${actor} is the head${takesText(changes)}.` : '';
+  const head = began?.position === 0 ? ` ${actor} is the head${takesText(changes)}.` : '';
   return `${actor} takes task ${task}, which begins at line ${began?.line}.${head}`;
 }
 

@@ -12,10 +12,10 @@ use crate::resolve::{check_names, parts_of};
 use std::alloc::Global;
 use task_descriptor::program::{BuildFault, Parts, Program};
 
-/// The longest text, in bytes.
+/// The most bytes of a program text.
 pub const MOST_TEXT: usize = 4_194_304;
 
-/// The most lines that such a text can have: one more than its bytes.
+/// The most lines of a program text: an LF for each byte, and the line after the last.
 pub const MOST_LINES: usize = 4_194_305;
 
 /// The program that the parts make. This takes no memory, so each refusal is the parts' own.
@@ -65,8 +65,12 @@ fn assembled(alloc: Global, text: &[u8]) -> Result<Program, AsmFault>
     program_of(alloc, &items, &layout)
 }
 
-/// The program that a text spells, or the first fault of the text (see `AsmFault`). A refusal leaves
-/// nothing.
+/// The program that a text spells.
+///
+/// # Errors
+///
+/// The first fault of the text (see `AsmFault`); nothing is left behind. `OutOfMemory`, where memory was
+/// refused, may come in place of any other answer.
 pub fn assemble(alloc: Global, text: &[u8]) -> Result<Program, AsmFault>
     // The result is the text's program or fault, unless memory ran out.
     ensures exact { Answers (λ p. p) result (parse text.now) }

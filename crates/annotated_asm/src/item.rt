@@ -13,14 +13,14 @@ use program_tokens::line::first_line;
 use program_tokens::token::Token;
 use std::alloc::{AllocError, Global};
 
-/// A label or a statement, with its place in the text.
+/// A label or a statement, with its line and section.
 #[derive(Debug, Drop)]
 pub struct PlacedStatement {
     /// The line, counted from 1.
     pub line: u32,
-    /// The section of the line.
+    /// The section that its line adds to.
     pub section: Section,
-    /// What stands there.
+    /// What the line says there.
     pub statement: Statement,
 }
 
@@ -157,7 +157,12 @@ fn join_last(items: &mut Vec<PlacedStatement>) -> Result<(), AllocError>
     }
 }
 
-/// The items of a text, or others that mean the same.
+/// The labels and statements of a text in order, or others that mean the same program.
+///
+/// # Errors
+///
+/// The first fault of a line, with the line's number from 1: `NotAscii`, `Token`, `Mnemonic`, `Operand`,
+/// `Number` or `Mark`. `OutOfMemory`, where memory was refused, may come in place of any of these.
 #[tactic(auto, using(crate::proofs::ItemSteps::told_none, crate::proofs::ItemSteps::told_more))]
 pub fn items_of(alloc: Global, text: &[u8]) -> Result<Vec<PlacedStatement>, AsmFault>
     requires { length text.now ≤ 4194304 }

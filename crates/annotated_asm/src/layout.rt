@@ -1,4 +1,4 @@
-//! Where labels stand, and what is defined twice.
+//! The offsets of labels, and names that are defined twice.
 
 ghost use Rattle.std.specs.Prelude.{◌≡◌, List};
 ghost use Rattle.annotated_asm.specs.Steps.{Answers};
@@ -12,10 +12,10 @@ use crate::table::{Symbol, Table};
 use program_statements::statement::{Section, Statement};
 use std::alloc::Global;
 
-/// How many instructions there are, and how many bytes of data and of read-only data.
+/// The number of instructions, and of bytes of data and of read-only data.
 #[derive(Clone, Copy, Debug, PartialEq, Eq)]
 pub struct Sizes {
-    /// Instructions.
+    /// Machine instructions.
     pub code: u64,
     /// Bytes of data.
     pub bytes: u64,
@@ -23,14 +23,14 @@ pub struct Sizes {
     pub fixed: u64,
 }
 
-/// What is known of the items so far.
+/// What is known of the items so far: sizes, labels, tasks and the start.
 #[derive(Drop)]
 pub struct Layout {
-    /// How much there is.
+    /// The sizes after these items.
     pub sizes: Sizes,
-    /// The labels.
+    /// The labels of code and data.
     pub labels: Table,
-    /// The tasks, with where their statements stand.
+    /// The names of the `.task` statements.
     pub tasks: Table,
     /// Whether there was a `.start`.
     pub started: bool,
@@ -109,7 +109,12 @@ fn with_item(alloc: Global, layout: &mut Layout, item: &PlacedStatement) -> Resu
     Ok(())
 }
 
-/// The layout of items.
+/// The layout of a text's items.
+///
+/// # Errors
+///
+/// `Duplicate` for the first line that defines a label, a task or the start a second time; `OutOfMemory` where
+/// memory was refused.
 pub fn laid_out(alloc: Global, items: &[PlacedStatement]) -> Result<Layout, AsmFault>
     ensures { Answers (λ layout. layout) result (laid no_layout items.now) }
 {
@@ -130,7 +135,7 @@ pub fn laid_out(alloc: Global, items: &[PlacedStatement]) -> Result<Layout, AsmF
     Ok(layout)
 }
 
-/// Whether there are more instructions or bytes than a program may have.
+/// Whether these are more instructions or bytes than a program may have.
 pub fn is_beyond(sizes: Sizes) -> bool
     ensures { result ≡ is_beyond sizes }
 {

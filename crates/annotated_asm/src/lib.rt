@@ -1,6 +1,7 @@
-//! The assembler: a program text with its tasks and marks becomes a program (our own text format, in the
-//! style of MIPS assemblers; tasks and marks as in Sohi, Breach, Vijaykumar, ISCA 1995). Also the map from
-//! instructions, tasks, targets and data to their lines.
+//! The assembler: a program text with its tasks and marks becomes a program.
+//! The text format is our own, in the style of MIPS assemblers; tasks and marks are the paper's (Sohi, Breach,
+//! Vijaykumar, "Multiscalar Processors", ISCA 1995). Also the map from instructions, tasks, targets and data to
+//! their lines.
 #![tactic(auto)]
 
 pub mod assembler;

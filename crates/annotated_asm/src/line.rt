@@ -15,11 +15,11 @@ use program_tokens::line::read_tokens;
 use program_tokens::token::{Token, TokenFault};
 use std::alloc::Global;
 
-/// Replaces the tokens that are there with those of a line.
+/// Replaces what the vector holds with the tokens of line `line`, counted from 1.
 ///
 /// # Errors
 ///
-/// `NotAscii`, `Token` or `OutOfMemory`.
+/// `NotAscii` or `Token` with the line's number, or `OutOfMemory` where memory was refused.
 pub fn tokens_of(tokens: &mut Vec<Token>, line: u32, text: &[u8]) -> Result<(), AsmFault>
     ensures { Answers (λ _. tokens.new.items) result (tokens_on_line line (line_tokens text.now)) }
 {
@@ -31,11 +31,11 @@ pub fn tokens_of(tokens: &mut Vec<Token>, line: u32, text: &[u8]) -> Result<(), 
     }
 }
 
-/// The statement that the tokens after a line's labels spell in this section.
+/// The statement that the tokens after the labels of line `line`, counted from 1, spell in this section.
 ///
 /// # Errors
 ///
-/// `Mnemonic`, `Operand`, `Number`, `Mark` or `OutOfMemory`.
+/// `Mnemonic`, `Operand`, `Number` or `Mark` with the line's number, or `OutOfMemory` where memory was refused.
 pub fn statement_at(
     alloc: Global,
     line: u32,
@@ -63,7 +63,7 @@ fn at_line(line: u32, fault: StatementFault) -> AsmFault
     }
 }
 
-/// The section of the lines after a statement.
+/// The section that the lines after a statement add to.
 pub fn section_after(section: Section, statement: &Statement) -> Section
     ensures { result ≡ section_after section statement.now }
 {
@@ -73,7 +73,7 @@ pub fn section_after(section: Section, statement: &Statement) -> Section
     }
 }
 
-/// How many machine instructions an instruction of the text expands to.
+/// The number of machine instructions, 1 or 2, that an instruction of the text expands to.
 pub fn instruction_count(instruction: &Instruction) -> u64
     ensures { result ≡ instruction_count instruction.now }
 {

@@ -7,7 +7,7 @@ use crate::item::PlacedStatement;
 use program_statements::statement::Statement;
 use std::hash::{BuildHasher, DefaultHasher, FoldHasher, Hasher};
 
-/// Makes the hashers of the tables of names, from a key of 64 bits that depends on every name of the text.
+/// The key, of 64 bits, with which the tables of names hash; it depends on every name of the text.
 ///
 /// With hashers that are the same for every text, names could be chosen that all fall into one group of a
 /// table; each look-up would then walk through all of them.
@@ -28,7 +28,7 @@ fn take_name(names: &mut DefaultHasher, item: &PlacedStatement)
 }
 
 impl NameKey {
-    /// The key of the labels and tasks that items define.
+    /// The key for the labels and tasks that items define.
     pub fn of(items: &[PlacedStatement]) -> NameKey
         ensures { result.hasher ≡ keyed_by items.now }
     {

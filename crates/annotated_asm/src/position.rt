@@ -1,27 +1,27 @@
-//! Places in a text, and what stands at them.
+//! Positions in a program text, and what begins at them.
 
 use program_statements::statement::Section;
 use task_descriptor::name::Name;
 
-/// A place in a text.
+/// A line and a column of a text.
 #[derive(Clone, Copy, Debug, PartialEq, Eq)]
 pub struct Position {
     /// The line, counted from 1.
     pub line: u32,
-    /// The column, counted in bytes, from 1 on.
+    /// The column, counted in bytes from 1.
     pub column: usize,
 }
 
-/// A part of a line.
+/// A part of a line: where it begins and how wide it is.
 #[derive(Clone, Copy, Debug, PartialEq, Eq)]
 pub struct Stretch {
-    /// Where it begins.
+    /// The position of its first byte.
     pub position: Position,
-    /// How many bytes it has.
+    /// Its width in bytes.
     pub width: usize,
 }
 
-/// Where the two lists of a `.task` stand.
+/// The two lists of a `.task` statement in the text.
 #[derive(Clone, Copy, Debug, PartialEq, Eq)]
 pub struct TaskLists {
     /// `create=` and its registers.
@@ -30,43 +30,43 @@ pub struct TaskLists {
     pub targets: Stretch,
 }
 
-/// A label, and where it stands.
+/// A label and its position.
 #[derive(Clone, Copy, Debug, PartialEq, Eq)]
 pub struct LabelSource {
-    /// Its name.
+    /// The label's name.
     pub name: Name,
-    /// Where its name begins.
+    /// The position of the name's first byte.
     pub position: Position,
 }
 
-/// A `.word`, `.byte` or `.space`, and where it stands.
+/// A `.word`, `.byte` or `.space` statement and its position.
 #[derive(Clone, Copy, Debug, PartialEq, Eq)]
 pub struct DataSource {
     /// The section that it adds to.
     pub section: Section,
-    /// Where the directive begins.
+    /// The position of the directive's first byte.
     pub position: Position,
 }
 
-/// Where the parts of a text stand.
+/// The map from a program's instructions, tasks, targets and data to their positions in its text.
 #[derive(Debug, Drop)]
 pub struct SourceMap {
-    /// For each machine instruction, index 0 first, where the instruction of the text that it is part of begins:
-    /// the two of a pseudo-instruction stand at one place.
+    /// For each machine instruction, index 0 first, the position of the instruction of the text that it is part
+    /// of: the two of a pseudo-instruction have one position.
     pub code: Vec<Position>,
-    /// For each machine instruction, how many bytes the instruction of the text has, from its mnemonic
-    /// to its last operand or mark.
+    /// For each machine instruction, the width in bytes of the instruction of the text, from its mnemonic to
+    /// its last operand or mark.
     pub widths: Vec<usize>,
-    /// For each task, task 0 first, where its `.task` begins.
+    /// For each task, task 0 first, the position of its `.task`.
     pub tasks: Vec<Position>,
-    /// For each task, where its lists stand.
+    /// For each task, its two lists.
     pub lists: Vec<TaskLists>,
-    /// For each task, where its targets stand, in their order; if it has none, where the `-` does.
+    /// For each task, its targets in their order; if it has none, the `-`.
     pub targets: Vec<Vec<Stretch>>,
     /// The labels, in the order of the text.
     pub labels: Vec<LabelSource>,
     /// The pieces of data, in the order of the text.
     pub pieces: Vec<DataSource>,
-    /// Where `.start` begins, if there is one.
+    /// The position of `.start`, if there is one.
     pub start: Option<Position>,
 }

@@ -154,13 +154,13 @@ fn add_line(
     Ok(section_after(section, &statement))
 }
 
-/// The source map of a text, or the first fault of one of its lines. Faults of the text as a whole, such as
-/// an unknown label, do not count here: the map is made all the same.
+/// The source map of a text. Faults of the text as a whole, such as an unknown label, do not count here: the
+/// map is made all the same.
 ///
 /// # Errors
 ///
-/// `TooLong`, then the first fault of a line: `NotAscii`, `Token`, `Mnemonic`, `Operand`, `Number` or
-/// `Mark`. `OutOfMemory` may be reported in place of any of these.
+/// `TooLong`, then the first fault of a line, with the line's number from 1: `NotAscii`, `Token`, `Mnemonic`,
+/// `Operand`, `Number` or `Mark`. `OutOfMemory`, where memory was refused, may come in place of any of these.
 #[tactic(auto, unfolding(crate::specs::Sources::sources_of))]
 pub fn source_map(alloc: Global, text: &[u8]) -> Result<SourceMap, AsmFault>
     ensures { Answers (λ map. sources_in map) result (sources_of text.now) }

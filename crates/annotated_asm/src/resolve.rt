@@ -1,4 +1,4 @@
-//! The program that items make, with their names resolved.
+//! The parts of the program that items make, with their names resolved.
 
 ghost use Rattle.std.specs.Prelude.{◌≡◌, ◌++◌, ◌/◌, ◌%◌, ◌^◌, List, [], ◌∷◌, replicate, is_some, OnOk};
 ghost use Rattle.mips_instructions.specs.declared.instruction.Op.TheVariants.{Lui, Logic};
@@ -25,12 +25,12 @@ use task_descriptor::name::Name;
 use task_descriptor::places::Places;
 use task_descriptor::program::{BuildFault, Parts};
 
-/// One or two instructions of the machine.
+/// The machine instructions, one or two, that an instruction of the text expands to.
 #[derive(Clone, Copy, Debug)]
 pub enum Expansion {
-    /// One.
+    /// One machine instruction.
     One(Op),
-    /// Two, in their order.
+    /// Two machine instructions, in their order.
     Two(Op, Op),
 }
 
@@ -95,7 +95,11 @@ fn is_known(labels: &Table, statement: &Statement) -> bool
     }
 }
 
-/// Finds the first item that uses a name that is no label of the wanted kind.
+/// Checks that each name that an item uses is a label of the wanted kind.
+///
+/// # Errors
+///
+/// `Unknown` with the line, from 1, of the first item that uses another name.
 pub fn check_names(labels: &Table, items: &[PlacedStatement]) -> Result<(), AsmFault>
     ensures { result ≡ known labels.now items.now }
 {
@@ -325,6 +329,11 @@ fn add_part(
 }
 
 /// The parts of the program that items make.
+///
+/// # Errors
+///
+/// `Unknown` with the line, from 1, of an item that uses a name which is no label of the wanted kind;
+/// `Build(TooMany)` where a label lies beyond what a program may have. `OutOfMemory` where memory was refused.
 pub fn parts_of(alloc: Global, labels: &Table, items: &[PlacedStatement]) -> Result<Parts, AsmFault>
     ensures { Answers listing_of result (parts labels.now no_parts items.now) }
 {

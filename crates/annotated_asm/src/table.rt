@@ -1,4 +1,4 @@
-//! Names and where they stand.
+//! Names and their symbols.
 
 use crate::name_key::NameKey;
 use indexmap::IndexMap;
@@ -7,16 +7,16 @@ use std::alloc::{AllocError, Global};
 use std::marker::Model;
 use task_descriptor::name::Name;
 
-/// What a label stands for.
+/// The value of a label: its section and its offset there.
 #[derive(Clone, Copy, Debug, PartialEq, Eq)]
 pub struct Symbol {
-    /// The section of its line.
+    /// The section of the label's line.
     pub section: Section,
-    /// In code the index of the next instruction, else the offset of the next byte.
+    /// In code the code index of the next instruction, else the offset in bytes of the next byte.
     pub offset: u64,
 }
 
-/// Names, each with where it stands, in the order of the text.
+/// Names with their symbols, in the order of the text; a name is found in one step.
 #[derive(Drop)]
 pub struct Table {
     // Texts, not vectors: a text is hashed up to 16 bytes at a time, a vector byte by byte.
@@ -38,7 +38,7 @@ impl Table {
     ghost use Rattle.std.specs.Prelude.{◌≡◌, ◌++◌, [], ◌∷◌, None, OnOk};
     ghost use Rattle.annotated_asm.specs.Tables.{lookup};
 
-    /// An empty table. Names added later are hashed with the key.
+    /// A table without names; those added later are hashed with the key.
     pub fn new(alloc: Global, key: NameKey) -> Table
         ensures { result ≡ [] }
     {
@@ -47,14 +47,18 @@ impl Table {
         }
     }
 
-    /// Where a name stands, if it is in the table.
+    /// The symbol of a name; `None` where the table does not have the name.
     pub fn get(&self, name: &Name) -> Option<Symbol>
         ensures { result ≡ lookup self.now name.now }
     {
         self.rows.get(name.as_str()).copied()
     }
 
-    /// Adds a name that is not in the table.
+    /// Adds a name that is not in the table yet.
+    ///
+    /// # Errors
+    ///
+    /// `AllocError` where memory was refused; what the table holds then is not known.
     pub fn add(&mut self, alloc: Global, name: &Name, symbol: Symbol) -> Result<(), AllocError>
         requires { lookup self.old name.now ≡ None }
         ensures { OnOk result (self.new ≡ self.old ++ (name.now, symbol) ∷ []) }

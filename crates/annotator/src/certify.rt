@@ -13,9 +13,9 @@ use std::alloc::{AllocError, Global};
 use task_descriptor::program::Program;
 use task_graph::members::members;
 
-/// The certificate with the least masks: for each task one list, an index in it exactly where the task
-/// reaches the instruction, and its mask exactly the registers that some path from there writes. The
-/// program's marks stay as they are.
+/// The certificate with the least masks: for each task one list, a code index in it exactly where the task
+/// reaches the instruction, and its mask exactly the registers that some path from there writes. It does not
+/// change the marks.
 ///
 /// # Errors
 ///

@@ -9,18 +9,18 @@ ghost use Rattle.mask_certificate.specs.Lists.{mask_at, list_of};
 ghost use Rattle.mark_checker.specs.Places.{IsAccepted};
 ghost use Rattle.annotator.specs.Least.{IsLeast, IsWithin};
 
-/// The least certificate decides: it is accepted exactly where the program's annotations are sound. So
-/// where it is refused no certificate helps, and the marks themselves are wrong.
+/// Law: the least certificate is accepted exactly where the program's annotations are sound. So where it is
+/// refused no certificate helps, and the marks themselves are wrong.
 pub fn least_decides()
     ensures { (p : Listing) (cert : List (List (ℕ × ℕ))) → IsWellFormed p → IsLeast p cert → (IsAccepted p cert ↔ Sound p) }
 {}
 
-/// Where any certificate of a program is accepted, the least one is.
+/// Law: where any certificate of a program is accepted, the least one is.
 pub fn least_is_accepted()
     ensures { (p : Listing) (cert other : List (List (ℕ × ℕ))) → IsWellFormed p → IsLeast p cert → IsAccepted p other → IsAccepted p cert }
 {}
 
-/// The least masks lie within those of any certificate that is accepted.
+/// Law: each least mask lies within the mask of any certificate that is accepted.
 pub fn least_is_within()
     ensures { (p : Listing) (cert other : List (List (ℕ × ℕ))) → IsWellFormed p → IsLeast p cert → IsAccepted p other
         → (t : ℕ) (d : Descriptor) → slice_get p.tasks t ≡ Some d → IsWithin (list_of cert t) (list_of other t) }

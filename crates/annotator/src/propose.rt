@@ -32,13 +32,13 @@ struct Found {
     cert: Cert,
 }
 
-/// The program with the marks that are proposed for it, and its least certificate: each create mask is
-/// what members of the task write or release; a member of a task carries a forward bit exactly where it
-/// has a destination and no destination may be written again; everything else stays.
+/// The program with the marks that are proposed for it, and its least certificate. Each create mask is what
+/// members of the task write or release; a member of a task has a forward bit exactly where it has a
+/// destination and no destination may be written again; everything else stays.
 ///
 /// # Errors
 ///
-/// `OutOfMemory` with the program as it was.
+/// `OutOfMemory` where memory was refused, with the program as it was.
 pub fn propose(alloc: Global, program: Program) -> Result<(Program, Cert), (Program, AnnotateFault)>
     ensures { MatchResult result
         (λ proposed. IsProposed program proposed.0 × IsLeast proposed.0 proposed.1)

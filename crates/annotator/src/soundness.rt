@@ -8,8 +8,8 @@ use mark_checker::accept::accepts;
 use std::alloc::{AllocError, Global};
 use task_descriptor::program::Program;
 
-/// Whether the annotations of a program are sound, whatever path a run takes: the checker's answer
-/// with the program's least certificate, which is refused only where every other is, too.
+/// Whether the annotations of a program are sound, whatever path a run takes: the checker's answer with the
+/// program's least certificate, which is refused only where every other is, too.
 ///
 /// # Errors
 ///

@@ -12,8 +12,8 @@ use mips_instructions::number::RegSet;
 use task_descriptor::descriptor::Marked;
 use task_descriptor::marks::has_member;
 
-/// Whether an instruction has a destination, and none of them is among the registers that may be written
-/// again after it.
+/// Whether an instruction is a last update: it has a destination, and none of its destinations is in `again`,
+/// the registers that may be written again after it.
 pub fn writes_last(op: &Op, again: RegSet) -> bool
     ensures { (program : Listing) (index : ℕ)
         → ((r : ℕ) → (has again r ≡ true) ↔ WrittenBehind program index r)
@@ -23,7 +23,7 @@ pub fn writes_last(op: &Op, again: RegSet) -> bool
     has_member(written) && written.is_subset(written.minus(again))
 }
 
-/// The registers that the instructions of a list write or release.
+/// The registers that the instructions at the code indices of a list write or release.
 pub fn produced_at(code: &[Marked], list: &[(u32, RegSet)]) -> RegSet
     requires { All (λ entry. entry.0 < length code.now) list.now }
     ensures { (r : ℕ) → (has result r ≡ true) ↔ ProducedAt code.now (indices_of list.now) r }

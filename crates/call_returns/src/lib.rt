@@ -1,6 +1,7 @@
-//! Where jumps to addresses in registers lead, as far as a walk over the calls sees it: to which calls a `jr` comes back. What
-//! it finds is a proposal: no contract says that it is so, since nothing rests on it. But where calls are said to come back,
-//! there is a call before.
+//! Where `jr` and `jalr` lead, as a walk over the program's calls sees it, such as behind which calls a `jr` returns.
+//!
+//! What the walk finds is a proposal: no contract says that it is right, since nothing rests on it. One thing is proved:
+//! where a jump is said to come back from a call, there is a call before.
 #![tactic(auto)]
 
 mod function;

@@ -1,4 +1,4 @@
-//! Where the jumps to addresses in registers lead that tasks reach.
+//! Where the jumps to addresses in registers (`jr`, `jalr`) lead that tasks reach. Places are code indexes.
 
 ghost use Rattle.std.specs.Prelude.{◌≡◌, IfOk, OnOk};
 ghost use Rattle.std.specs.List.{All};
@@ -15,31 +15,31 @@ use std::alloc::{AllocError, Global};
 use task_descriptor::descriptor::Stop;
 use task_descriptor::program::Program;
 
-/// The most places of a jump that are told: more than a task may have as targets.
+/// The most places that are listed for one jump: more than the 16 targets that a task may have.
 pub const MOST_PLACES: usize = 32;
 
 /// The most jumps, each counted for each task that reaches it, of which it is told where they lead.
 const MOST_JUMPS: usize = 4096;
 
-/// A jump to an address in a register, as a task reaches it.
+/// A jump to an address in a register (`jr`, `jalr`), as one task reaches it.
 #[derive(Debug, Drop)]
 pub struct Jump {
-    /// The jump.
+    /// The code index of the jump.
     pub index: u32,
-    /// The task.
+    /// The number of the task, from 0.
     pub task: u32,
-    /// Behind which calls it is seen to come back, rising.
+    /// The code indexes behind the calls to which it is seen to return, strictly rising.
     pub returns: Vec<u32>,
-    /// Where it is seen to lead, rising: to these places, and to the address that the register is seen to hold; at most
-    /// `MOST_PLACES`.
+    /// The code indexes to which it is seen to lead, strictly rising, at most `MOST_PLACES`: those in `returns`, and the one
+    /// whose address the register is seen to hold.
     pub places: Vec<u32>,
-    /// Whether it leads nowhere else, as far as all is seen.
+    /// Whether `places` is all, as far as the walk sees.
     pub is_whole: bool,
-    /// Whether it leads to no place, and the register holds what it held at the program's start: nobody called.
+    /// Whether it leads to no place, and the register holds what it held when the program started: nobody called.
     pub is_uncalled: bool,
 }
 
-/// What is seen of a program's calls and jumps.
+/// What a walk over a program's calls found: where jumps to addresses in registers lead, and the calls that it came to.
 #[derive(Debug, Drop)]
 pub struct Returns {
     jumps: Vec<Jump>,
@@ -47,7 +47,7 @@ pub struct Returns {
 }
 
 impl Returns {
-    /// Of a program at which nobody has looked.
+    /// The result for a program that nobody has walked: no jumps and no calls.
     pub fn none(alloc: Global) -> Returns {
         Returns {
             jumps: Vec::new(alloc),
@@ -55,14 +55,14 @@ impl Returns {
         }
     }
 
-    /// The jumps to addresses in registers that tasks reach, one task after another.
+    /// The jumps to addresses in registers that tasks reach, in the order of the tasks.
     pub fn jumps(&self) -> &[Jump]
         ensures { result.now ≡ self.now.jumps.items }
     {
         &self.jumps
     }
 
-    /// Whether the walk came to a call at an index.
+    /// Whether the walk came to a call (`jal`, `jalr`) at this code index.
     pub fn has_seen_call(&self, index: u32) -> bool {
         self.calls.contains(&index)
     }
@@ -75,7 +75,8 @@ struct Way {
     held: Held,
 }
 
-/// The place behind an instruction, if that is a call.
+/// The return point of a call: the code index behind it, which may be the end of the code; `None` if no `jal` or `jalr`
+/// is at `index`, a code index.
 pub fn behind(program: &Program, index: u32) -> Option<u32>
     ensures { result ≡ behind program.now index }
 {
@@ -90,7 +91,7 @@ fn is_indirect(op: &Op) -> bool {
     matches!(op, Op::JumpReg(_) | Op::JumpLinkReg(..))
 }
 
-/// Whether a program has a jump to an address in a register.
+/// Whether a program has a jump to an address in a register, a `jr` or a `jalr`.
 pub fn has_indirect(program: &Program) -> bool {
     program.code().iter().any(|marked| is_indirect(&marked.op))
 }
@@ -306,9 +307,9 @@ impl<'a> Seen<'a> {
         }
     }
 
-    /// Adds to where the calls of a function come back. Where the task begins inside of the function, those are all; where it
-    /// begins with the function, those that end their tasks, and of the others it is not seen whether they do; else those in
-    /// the task.
+    /// Adds to where the calls of a function come back. Where the task begins inside of the function, those are all; where
+    /// it begins with the function, those that end their tasks, and of the others it is not seen whether they do; else
+    /// those in the task.
     fn add_returns(&self, jump: &mut Jump, number: usize, register: u8) -> Result<(), AllocError>
         requires { ComesBack self.now.program.now jump.old }
         ensures { OnOk result (ComesBack self.now.program.now jump.new) }
@@ -404,6 +405,9 @@ fn add_calls(calls: &mut Vec<u32>, function: &Function) -> Result<(), AllocError
 }
 
 /// Where the jumps to addresses in registers lead that the tasks of a program reach. `least` is its least certificate.
+///
+/// Where a program has too many such jumps (4,096, counted for each task that reaches them), or the walk gives up, each is
+/// listed with no place, and no call has been seen.
 ///
 /// # Errors
 ///

@@ -7,7 +7,7 @@ use std::alloc::AllocError;
 use std::error::Error;
 use std::fmt;
 
-/// Why no text is written.
+/// Why no text with other marks is written.
 #[derive(Clone, Copy, Debug, PartialEq, Eq)]
 pub enum MarksFault {
     /// 1: the text with these marks has more than 4,194,304 bytes.

@@ -12,8 +12,8 @@ use annotated_asm::fault::AsmFault;
 use std::alloc::Global;
 use task_descriptor::program::Program;
 
-/// The canonical text of a program spells that program, and so no other. The call does nothing but look
-/// at the program: its contract is the law.
+/// Law: the canonical text of a program spells that program, and so no other. The call does nothing but look at
+/// the program; its contract is the theorem.
 pub fn reads_back(program: &Program)
     ensures { Spells (canonical_text program.now) program.now }
 {
@@ -23,11 +23,11 @@ pub fn reads_back(program: &Program)
     bytes_in_range(program.fixed());
 }
 
-/// Prints a program and assembles the text.
+/// The program that a program's canonical text spells, which is the program itself.
 ///
 /// # Errors
 ///
-/// `OutOfMemory` alone: the text is assembled to the program that was printed.
+/// `OutOfMemory` where memory was refused, and no other fault.
 pub fn print_and_assemble(alloc: Global, program: &Program) -> Result<Program, AsmFault>
     ensures { Answers (λ p. p) result (Ok program.now) }
 {

@@ -1,5 +1,6 @@
-//! The canonical text of a program, with the law that reading it gives the program back; and a text with other
-//! marks written into it, line by line.
+//! Prints a program as its canonical text, which reads back as that program.
+//! A law states the round trip. Also: a program's create masks and forward bits written into another text of
+//! it, line by line.
 #![tactic(auto)]
 
 mod editing;

@@ -24,7 +24,11 @@ fn write_task(text: &mut String, tasks: &[Descriptor], task: &Descriptor) -> Res
     Ok(())
 }
 
-/// Writes a create mask as a list: its registers, in ascending order, or a `-`.
+/// Appends a create mask as a list: its registers in ascending order, or a `-` where it has none.
+///
+/// # Errors
+///
+/// `AllocError` where memory was refused; what the text holds then is not known.
 pub fn write_create(text: &mut String, create: RegSet) -> Result<(), AllocError>
     ensures { OnOk result (string_bytes text.new ≡ string_bytes text.old ++ listed (map register_text (members create))) }
 {
@@ -175,8 +179,12 @@ fn room_for(program: &Program) -> usize {
     room
 }
 
-/// The canonical text of a program: `.start`, the tasks in order, the instructions, one per
-/// line, each task's label alone on the line before, then the bytes of data and of read-only data.
+/// The canonical text of a program: `.start`, the tasks in order, the instructions, one per line, each task's
+/// label alone on the line before, then the bytes of data and of read-only data.
+///
+/// # Errors
+///
+/// `AllocError` where memory was refused.
 pub fn print(alloc: Global, program: &Program) -> Result<Vec<u8>, AllocError>
     ensures { IfOk result (λ text. text.items ≡ canonical_text program.now) }
 {

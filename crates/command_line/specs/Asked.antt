@@ -1,6 +1,6 @@
 -- What words and the values of a subcommand ask for, and when they have one of the two faults that have a name of their
 -- own. What the words of an option stand for is said here of `--predict`, and of `--emit` of `annotate`.
-use Rattle.std.specs.Prelude.{◌≡◌, ◌≢◌, ℕ, Bool, true, false, not, List, [], map, Option, Some, None, ⊤, Contains, if◌then◌else◌, codes, is_some, option_and_then, slice_get, unwrap_or}
+use Rattle.std.specs.Prelude.{◌≡◌, ◌||◌, ◌≢◌, ℕ, Bool, true, false, not, List, [], map, Option, Some, None, ⊤, Contains, if◌then◌else◌, codes, is_some, option_and_then, slice_get, unwrap_or}
 use Rattle.std.specs.String.{string_bytes}
 use Rattle.std.specs.Option.{option_map, option_map_or}
 use Rattle.std.specs.Str.{bytes_eq}
@@ -53,7 +53,7 @@ predict_in values = option_and_then prediction_of (first_of (codes "predict") va
 -- the value of `--emit` of `annotate`
 abbrev pub emit_in : List Row → Option Emit
 emit_in values =
-    emit_of (unwrap_or (first_of (codes "emit") values) (if is_given (codes "in-place") values then codes "marks" else codes "text"))
+    emit_of (unwrap_or (first_of (codes "emit") values) (if is_given (codes "in-place") values || is_given (codes "releases") values then codes "marks" else codes "text"))
 
 -- what `explain` does about marks that cost speed
 abbrev pub warnings_in : List Row → Warnings
@@ -134,6 +134,7 @@ IsRequested name values request = Gives name values request.job × Names values 
     × (option_map string_bytes request.fixes ≡ fixes_in values)
     × (is_some request.fixes ≡ is_given (codes "fix") values)
     × (map string_bytes request.further.items ≡ further_in request.job values)
+    × (request.releases ≡ is_given (codes "releases") values)
     × (request.report ≡ is_given (codes "report") values)
     × (request.progress ≡ is_given (codes "progress") values)
 

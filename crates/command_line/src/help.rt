@@ -1,16 +1,16 @@
-//! What `--help` and `--version` print.
+//! The texts of `--help` and `--version`.
 
-/// The version.
+/// The version of the program.
 pub const VERSION: &str = "0.1.0";
 
-/// What `--version` prints after the program's name: the version, and the toolchain that proves the program, as
-/// `rt version` names it. `release/build.sh` builds with no other.
+/// The text of `--version` after the program's name: the version, and the toolchain that proves the program, as `rt
+/// version` names it. `release/build.sh` builds with no other.
 pub const VERSION_AND_TOOLCHAIN: &str = "0.1.0 (proved with rattle-kit-13f logic dac8208d650f15bf)";
 
-/// What the program is for, in one line.
+/// The purpose of the program, in one line.
 pub const PROGRAM: &str = "Runs and checks annotated Multiscalar programs";
 
-/// What the program is for.
+/// The purpose of the program, as the long help gives it.
 pub const PROGRAM_LONG: &str =
     "Runs and checks annotated Multiscalar programs: MIPS code with marks that say where each task
 begins and ends, which registers it may create, and which tasks may follow it.
@@ -19,7 +19,7 @@ PROGRAM is a program text. CERT is its certificate: for each task, the registers
 written from each of its instructions on. SCRIPT is a list of events, one on each line. One of these files
 may be -, standard input. `check --least` and `explain` take several programs.";
 
-/// What stands below every help of the program.
+/// The exit statuses, which are below every help of the program.
 pub const STATUS: &str = "Exit status:
   0  accepted, nothing found wrong, printed, halted, or a replay that is still running; help; version
   1  an input refused, or marks found wrong; trapped; ended at an address that is not listed

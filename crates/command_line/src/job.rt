@@ -11,8 +11,9 @@ use crate::values::Values;
 use crate::words::UsageFault;
 use clap::error::ErrorKind;
 use jobs::job::{
-    CertificateSource, CheckFormat, Colors, CurveEmit, DemonstrateEmit, Emit, Format, Job, Paths,
-    Prediction, ReplayEmit, RunEmit, Schedule, VerdictFormat, Warnings,
+    ALL_STEPS, CertificateSource, CheckFormat, Colors, CurveEmit, DemonstrateEmit, Emit, Format,
+    Job, Paths, Prediction, ReplayEmit, RunEmit, Schedule, StepRange, TableFormat, VerdictFormat,
+    Warnings,
 };
 use limits::ranges::{Budget, Units, Workers};
 use std::alloc::AllocError;
@@ -41,7 +42,7 @@ static SCHEDULES: [(&str, Schedule); 2] = [
 
 static REPLAY_EMITS: [(&str, ReplayEmit); 7] = [
     ("answers", ReplayEmit::Answers),
-    ("summary", ReplayEmit::Summary),
+    ("summary", ReplayEmit::Summary(TableFormat::Text)),
     ("svg", ReplayEmit::Picture),
     ("trace", ReplayEmit::Trace),
     ("json", ReplayEmit::Json),
@@ -49,20 +50,21 @@ static REPLAY_EMITS: [(&str, ReplayEmit); 7] = [
     ("state", ReplayEmit::State),
 ];
 
-static RUN_EMITS: [(&str, RunEmit); 9] = [
+static RUN_EMITS: [(&str, RunEmit); 10] = [
     ("report", RunEmit::Report),
     ("script", RunEmit::Script),
-    ("summary", RunEmit::Summary),
+    ("summary", RunEmit::Summary(TableFormat::Text)),
     ("svg", RunEmit::Picture),
     ("trace", RunEmit::Trace),
     ("json", RunEmit::Json),
-    ("waits", RunEmit::Waits),
+    ("waits", RunEmit::Waits(TableFormat::Text)),
     ("vcd", RunEmit::Waveform),
     ("perfetto", RunEmit::Timeline),
+    ("kanata", RunEmit::Pipeline),
 ];
 
 static CURVE_EMITS: [(&str, CurveEmit); 2] = [
-    ("table", CurveEmit::Table),
+    ("table", CurveEmit::Table(TableFormat::Text)),
     ("svg", CurveEmit::Picture),
 ];
 
@@ -82,6 +84,7 @@ pub(crate) fn request_in(values: &Values<'_, '_>) -> Result<Request, UsageFault>
     let output = output_in(values, &job)?;
     let fixes = fixes_in(values, &job)?;
     let further = further_in(values, &job)?;
+    let releases = releases_in(values, &job)?;
     if !further.is_empty() {
         expect_alone(values, &job, output.is_some(), fixes.is_some())?;
     }
@@ -91,6 +94,7 @@ pub(crate) fn request_in(values: &Values<'_, '_>) -> Result<Request, UsageFault>
         output,
         fixes,
         further,
+        releases,
         report: values.is_given("report"),
         progress: values.is_given("progress"),
     })
@@ -142,11 +146,8 @@ fn job_in(values: &Values<'_, '_>) -> Result<Job, UsageFault>
 fn emit_in(values: &Values<'_, '_>) -> Option<Emit>
     ensures { result ≡ emit_in (values_in values.now.matches.now) }
 {
-    let otherwise = if values.is_given("in-place") {
-        "marks"
-    } else {
-        "text"
-    };
+    let is_own = values.is_given("in-place") || values.is_given("releases");
+    let otherwise = if is_own { "marks" } else { "text" };
     emit_named(values.text("emit").unwrap_or(otherwise))
 }
 
@@ -218,12 +219,11 @@ fn replay_in(values: &Values<'_, '_>) -> Result<Job, UsageFault>
         None => None,
     };
     let is_complete = values.is_given("complete");
-    let format = verdict_format_in(values)?;
     if !values.is_given("strict") {
-        if is_complete || format.is_some() {
-            let why = "--complete and --format are for --strict";
-            return Err(values.fault(ErrorKind::ArgumentConflict, why));
+        if is_complete {
+            return Err(values.fault(ErrorKind::ArgumentConflict, "--complete is for --strict"));
         }
+        let emit = played_emit_in(values, emit)?;
         return Ok(Job::Replay {
             certificate,
             units,
@@ -231,6 +231,7 @@ fn replay_in(values: &Values<'_, '_>) -> Result<Job, UsageFault>
             until,
         });
     }
+    let format = verdict_format_in(values)?;
     let why = if emit != ReplayEmit::Answers {
         "with --strict there is no other --emit"
     } else if until.is_some() {
@@ -240,24 +241,50 @@ fn replay_in(values: &Values<'_, '_>) -> Result<Job, UsageFault>
             certificate,
             units,
             is_complete,
-            format: format.unwrap_or(VerdictFormat::Text),
+            format,
         });
     };
     Err(values.fault(ErrorKind::ArgumentConflict, why))
 }
 
-// How the verdict of a strict replay is written, where that is said.
-fn verdict_format_in(values: &Values<'_, '_>) -> Result<Option<VerdictFormat>, UsageFault>
+// How the verdict of a strict replay is written.
+fn verdict_format_in(values: &Values<'_, '_>) -> Result<VerdictFormat, UsageFault>
+    ensures { IfErr result (Refuses values.now.name.now (values_in values.now.matches.now)) }
+{
+    match values.text("format") {
+        None | Some("text") => Ok(VerdictFormat::Text),
+        Some("json") => Ok(VerdictFormat::Json),
+        Some(_) => Err(values.fault(
+            ErrorKind::InvalidValue,
+            "with --strict the value of --format is text or json",
+        )),
+    }
+}
+
+// What `replay` writes that is not strict: `--format` goes with a summary.
+fn played_emit_in(values: &Values<'_, '_>, named: ReplayEmit) -> Result<ReplayEmit, UsageFault>
+    ensures { IfErr result (Refuses values.now.name.now (values_in values.now.matches.now)) }
+{
+    let message = "without --strict, --format goes with --emit summary, as text or csv";
+    match (named, table_format_in(values, message)?) {
+        (named, None) => Ok(named),
+        (ReplayEmit::Summary(_), Some(format)) => Ok(ReplayEmit::Summary(format)),
+        _ => Err(values.fault(ErrorKind::ArgumentConflict, message)),
+    }
+}
+
+// How a table is laid out, where that is said; `message` says which values there are.
+fn table_format_in(
+    values: &Values<'_, '_>,
+    message: &str,
+) -> Result<Option<TableFormat>, UsageFault>
     ensures { IfErr result (Refuses values.now.name.now (values_in values.now.matches.now)) }
 {
     match values.text("format") {
         None => Ok(None),
-        Some("text") => Ok(Some(VerdictFormat::Text)),
-        Some("json") => Ok(Some(VerdictFormat::Json)),
-        Some(_) => Err(values.fault(
-            ErrorKind::InvalidValue,
-            "the value of --format is text or json",
-        )),
+        Some("text") => Ok(Some(TableFormat::Text)),
+        Some("csv") => Ok(Some(TableFormat::Csv)),
+        Some(_) => Err(values.fault(ErrorKind::InvalidValue, message)),
     }
 }
 
@@ -272,7 +299,7 @@ fn run_in(values: &Values<'_, '_>) -> Result<Job, UsageFault>
         &SCHEDULES,
         "the value of --schedule is threads or steps",
     )?;
-    let emit = run_emit_in(values, schedule)?;
+    let emit = tabled_in(values, run_emit_in(values, schedule)?)?;
     let units = units_in(values)?;
     let workers = values.number("workers").unwrap_or(units.get());
     let workers = values.there(Workers::new(workers))?;
@@ -291,29 +318,84 @@ fn run_in(values: &Values<'_, '_>) -> Result<Job, UsageFault>
     }
 }
 
-// What `run` writes. `--with-values` goes with a script, `--axis` with a picture, and waits, a waveform and the
-// columns of steps with a run in steps.
+// What `run` writes. `--with-values` goes with a script, `--axis` with a picture, `--from` and `--to` with one of steps, and
+// waits, a waveform, a log of instructions and the columns of steps with a run in steps.
 fn run_emit_in(values: &Values<'_, '_>, schedule: Schedule) -> Result<RunEmit, UsageFault>
     ensures { IfErr result (Refuses values.now.name.now (values_in values.now.matches.now)) }
 {
-    let message =
-        "the value of --emit is report, script, summary, svg, trace, json, perfetto or, with --schedule steps, waits or vcd; --with-values goes with script, and --axis, events or steps, with svg";
-    let named = values.word("emit", &RUN_EMITS, message)?;
+    let named = values.word(
+        "emit",
+        &RUN_EMITS,
+        "the value of --emit is report, script, summary, svg, trace, json, perfetto or, with --schedule steps, waits, vcd or kanata",
+    )?;
     let in_steps = schedule == Schedule::Steps;
     let valued = values.is_given("with-values");
+    let range = range_in(values);
+    let is_part = is_part_in(values);
     let emit = match (named, values.text("axis")) {
-        (RunEmit::Script, None) if valued => Some(RunEmit::ScriptWithValues),
+        (RunEmit::Script, None) if valued && !is_part => Some(RunEmit::ScriptWithValues),
         _ if valued => None,
-        (RunEmit::Picture, None) if in_steps => Some(RunEmit::StepPicture),
-        (RunEmit::Picture, Some("steps")) if in_steps => Some(RunEmit::StepPicture),
+        (RunEmit::Picture, None | Some("steps")) if in_steps && range.first <= range.last => {
+            Some(RunEmit::StepPicture(range))
+        }
+        _ if is_part => None,
         (RunEmit::Picture, None | Some("events")) => Some(RunEmit::Picture),
         (_, Some(_)) => None,
-        (RunEmit::Waits | RunEmit::Waveform, None) if !in_steps => None,
+        (RunEmit::Waits(_) | RunEmit::Waveform | RunEmit::Pipeline, None) if !in_steps => None,
         (named, None) => Some(named),
     };
     match emit {
         Some(emit) => Ok(emit),
-        None => Err(values.fault(ErrorKind::InvalidValue, message)),
+        None => Err(values.fault(
+            ErrorKind::ArgumentConflict,
+            misfit_of(values, named, in_steps),
+        )),
+    }
+}
+
+// The steps that `--from` and `--to` ask for, and whether one of the two is given.
+fn range_in(values: &Values<'_, '_>) -> StepRange {
+    StepRange {
+        first: values.number("from").unwrap_or(ALL_STEPS.first),
+        last: values.number("to").unwrap_or(ALL_STEPS.last),
+    }
+}
+
+fn is_part_in(values: &Values<'_, '_>) -> bool {
+    values.number("from").is_some() || values.number("to").is_some()
+}
+
+// Which of the options of `run` does not fit `--emit` and the schedule.
+fn misfit_of(values: &Values<'_, '_>, named: RunEmit, in_steps: bool) -> &'static str {
+    let axis = values.text("axis");
+    let range = range_in(values);
+    if values.is_given("with-values") && named != RunEmit::Script {
+        "--with-values goes with --emit script"
+    } else if !matches!(axis, None | Some("events" | "steps")) {
+        "the value of --axis is events or steps"
+    } else if axis.is_some() && named != RunEmit::Picture {
+        "--axis goes with --emit svg"
+    } else if axis == Some("steps") && !in_steps {
+        "--axis steps goes with --schedule steps"
+    } else if is_part_in(values) && range.first > range.last {
+        "the step of --to is before that of --from"
+    } else if is_part_in(values) {
+        "--from and --to go with --schedule steps --emit svg, and not with --axis events"
+    } else {
+        "--emit waits, vcd and kanata go with --schedule steps"
+    }
+}
+
+// What `run` writes, laid out as `--format` says, which goes with tables.
+fn tabled_in(values: &Values<'_, '_>, emit: RunEmit) -> Result<RunEmit, UsageFault>
+    ensures { IfErr result (Refuses values.now.name.now (values_in values.now.matches.now)) }
+{
+    let message = "--format, text or csv, goes with --emit summary and waits";
+    match (emit, table_format_in(values, message)?) {
+        (emit, None) => Ok(emit),
+        (RunEmit::Summary(_), Some(format)) => Ok(RunEmit::Summary(format)),
+        (RunEmit::Waits(_), Some(format)) => Ok(RunEmit::Waits(format)),
+        _ => Err(values.fault(ErrorKind::ArgumentConflict, message)),
     }
 }
 
@@ -330,7 +412,7 @@ fn curve_in(values: &Values<'_, '_>) -> Result<Job, UsageFault>
             "the value of --predict is first, last, or 1 to 64 numbers 0 to 15 separated by commas, as in 1,0";
         return Err(values.fault(ErrorKind::InvalidValue, message));
     };
-    let emit = values.word("emit", &CURVE_EMITS, "the value of --emit is table or svg")?;
+    let emit = curve_emit_in(values)?;
     Ok(Job::Curve {
         certificate,
         units,
@@ -338,6 +420,19 @@ fn curve_in(values: &Values<'_, '_>) -> Result<Job, UsageFault>
         predict,
         emit,
     })
+}
+
+// What `curve` writes: `--format` goes with the table.
+fn curve_emit_in(values: &Values<'_, '_>) -> Result<CurveEmit, UsageFault>
+    ensures { IfErr result (Refuses values.now.name.now (values_in values.now.matches.now)) }
+{
+    let emit = values.word("emit", &CURVE_EMITS, "the value of --emit is table or svg")?;
+    let message = "--format, text or csv, goes with --emit table";
+    match (emit, table_format_in(values, message)?) {
+        (emit, None) => Ok(emit),
+        (CurveEmit::Table(_), Some(format)) => Ok(CurveEmit::Table(format)),
+        _ => Err(values.fault(ErrorKind::ArgumentConflict, message)),
+    }
 }
 
 fn units_in(values: &Values<'_, '_>) -> Result<Units, UsageFault>
@@ -458,6 +553,21 @@ fn output_in(values: &Values<'_, '_>, job: &Job) -> Result<Option<String>, Usage
             ErrorKind::ArgumentConflict,
             "with --in-place PROGRAM is a file, there is no --output, and the value of --emit is marks or text",
         )),
+    }
+}
+
+// Whether releases are put in, which goes with the author's own text alone.
+fn releases_in(values: &Values<'_, '_>, job: &Job) -> Result<bool, UsageFault>
+    ensures value { IfOk result (λ releases. releases ≡ is_given (codes "releases") (values_in values.now.matches.now)) }
+    ensures fault { IfErr result (Refuses values.now.name.now (values_in values.now.matches.now)) }
+{
+    match (values.is_given("releases"), job) {
+        (true, Job::Annotate { emit: Emit::Marks }) => Ok(true),
+        (true, _) => Err(values.fault(
+            ErrorKind::ArgumentConflict,
+            "--releases goes with --emit marks",
+        )),
+        (false, _) => Ok(false),
     }
 }
 

@@ -95,15 +95,21 @@ targets stay as they are. The proposal is not trusted: `check` judges it like an
 With `--emit marks` it writes your own text with the proposed create masks and forward bits; comments,
 labels and layout stay as they are. With `--in-place` that text replaces PROGRAM.
 
+With `--releases` it also puts `release` instructions into your text: where a task comes on a way on which it
+writes a register no more, and would send it only where it ends. They are judged: with them the marks must be
+right, and a run in steps on 4 units must put out the same in fewer steps. Else nothing is put in.
+
 Stops, releases and targets remain yours to correct. With `--report` standard error gets the errors of the
 proposed program, as `explain` reports them, and one of these lines:
   multiscalar: PROGRAM: N left to fix by hand
   multiscalar: PROGRAM: all marks are right
+With `--releases` a line before says whether releases were put in, and how many steps the run takes.
 If standard error is a terminal, it gets these without `--report`, unless all marks are right.
 
 For example, a certificate of the program as it is, and the program with the proposed marks:
   multiscalar annotate --emit keep program.s
-  multiscalar annotate --emit marks -o right.s program.s",
+  multiscalar annotate --emit marks -o right.s program.s
+  multiscalar annotate --releases --report -o fast.s program.s",
     ),
     (
         "explain",
@@ -120,7 +126,8 @@ An error has the form that compilers use: what is wrong, a path that shows it (u
 Of a file that is not a program it reports the mistakes, and what would be right:
   FILE:LINE:COLUMN: error: .. [K Name line N]
   FILE:LINE:COLUMN: help: ..
-If the marks are right, it warns of marks that cost speed, and of code that no task reaches:
+If the marks are right, it warns of marks that cost speed, of releases that may be forgotten, and of code that no
+task reaches:
   FILE:LINE:COLUMN: warning: ..
   FILE:LINE:COLUMN: help: ..
 
@@ -313,7 +320,7 @@ For example:
 ];
 
 /// The arguments, in the order of the help. Files stand in the places that this order gives them.
-pub(crate) static ARGUMENTS: [ArgumentRow; 41] = [
+pub(crate) static ARGUMENTS: [ArgumentRow; 46] = [
     (
         "seq print annotate explain check replay run curve demonstrate",
         "program",
@@ -485,7 +492,7 @@ the number of targets",
         "What to write: text (the proposed program), cert (its certificate), keep (the certificate of the
 program as it is) or marks (your own text with the proposed marks)
 
-[default: text; with --in-place: marks]",
+[default: text; with --in-place or --releases: marks]",
     ),
     (
         "replay",
@@ -504,7 +511,8 @@ ui.perfetto.dev and other viewers of traces) or state (of the run and of each un
 often each task was assigned, and how that ended), svg (a picture: a lane for each unit, a bar for each task on
 it), trace (each event with what it changed), json (the same as JSON, an object on each line), perfetto (a
 timeline for ui.perfetto.dev and other viewers of traces) or, with --schedule steps, waits (in how many steps
-which task waited where, and for what) or vcd (the state of each unit in each step, for viewers of waveforms)",
+which task waited where, and for what), vcd (the state of each unit in each step, for viewers of waveforms) or
+kanata (each instruction of each task, for the pipeline viewer Konata)",
     ),
     (
         "curve",
@@ -542,7 +550,25 @@ which task waited where, and for what) or vcd (the state of each unit in each st
         "replay",
         "format",
         Kind::FreeWord("HOW"),
-        "How the verdict of --strict is laid out: text (for people) or json (a JSON object)
+        "How the verdict of --strict is laid out: text (for people) or json (a JSON object); or the table of
+--emit summary: text or csv (comma separated values, without sums)
+
+[default: text]",
+    ),
+    (
+        "run",
+        "format",
+        Kind::FreeWord("HOW"),
+        "How the table of --emit summary or waits is laid out: text (for people) or csv (comma separated values,
+without sums)
+
+[default: text]",
+    ),
+    (
+        "curve",
+        "format",
+        Kind::FreeWord("HOW"),
+        "How the table is laid out: text (for people) or csv (comma separated values)
 
 [default: text]",
     ),
@@ -553,6 +579,22 @@ which task waited where, and for what) or vcd (the state of each unit in each st
         "With --emit svg: what the columns of the picture are, events or, with --schedule steps, steps
 
 [default: steps with --schedule steps, else events]",
+    ),
+    (
+        "run",
+        "from",
+        Kind::FreeNumber(MOST_BUDGET),
+        "With --emit svg and --schedule steps: the first step that is drawn, 1 to 1000000
+
+[default: the run's first]",
+    ),
+    (
+        "run",
+        "to",
+        Kind::FreeNumber(MOST_BUDGET),
+        "With --emit svg and --schedule steps: the last step that is drawn, 1 to 1000000
+
+[default: the run's last]",
     ),
     (
         "run",
@@ -577,6 +619,12 @@ which task waited where, and for what) or vcd (the state of each unit in each st
         "in-place",
         Kind::Flag,
         "Writes the program with the proposed marks or the fixes to PROGRAM itself, whole or not at all",
+    ),
+    (
+        "annotate",
+        "releases",
+        Kind::Flag,
+        "Also puts in the releases that make a run on 4 units shorter; goes with --emit marks",
     ),
     (
         "annotate",

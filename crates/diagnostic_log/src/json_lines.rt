@@ -94,8 +94,8 @@ fn line_of(
     out.into_line()
 }
 
-/// What is reported about these texts, as lines of JSON: an object for each diagnostic, in order. `mends` where all that
-/// helps say to write makes the marks right.
+/// The diagnostics about these texts as lines of JSON: an object for each, in order. `mends` tells whether all that their
+/// helps propose to write makes the marks right.
 ///
 /// # Errors
 ///

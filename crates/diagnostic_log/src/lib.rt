@@ -1,5 +1,6 @@
-//! What is reported about the texts of a command, for tools: a log in the format SARIF 2.1.0 (OASIS), and lines of
-//! JSON. Nothing here has a contract on what it writes.
+//! Diagnostics for tools: a log in the format SARIF 2.1.0 (an OASIS standard), and lines of JSON.
+//!
+//! Nothing here has a contract on what it writes.
 #![tactic(auto)]
 
 mod artifact;

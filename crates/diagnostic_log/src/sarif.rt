@@ -10,14 +10,14 @@ use diagnostics::files::Files;
 use json_text::{JsonText, Written};
 use std::alloc::{AllocError, Global};
 
-/// A program of a log.
+/// A program of a log, with what is reported about it.
 #[derive(Clone, Copy)]
 pub struct Logged<'a> {
-    /// Its texts.
+    /// Its text files.
     pub files: Files<'a>,
-    /// What is reported about them.
+    /// The diagnostics about them, in order.
     pub diagnostics: &'a [Diagnostic],
-    /// Whether all that helps say to write makes its marks right.
+    /// Whether all that the helps propose to write makes its marks right.
     pub mends: bool,
 }
 
@@ -147,7 +147,7 @@ fn are_mended(programs: &[Logged<'_>]) -> bool {
         })
 }
 
-/// The text of a log of what is reported about these programs, with this exit status: one line of JSON, with one run.
+/// The text of a SARIF log of what is reported about these programs, with this exit status: one line of JSON, with one run.
 ///
 /// # Errors
 ///

@@ -1,13 +1,13 @@
-//! Colours of a terminal.
+//! Colours of a terminal, by the sequences of ECMA-48 that select a graphic rendition.
 
 use std::alloc::AllocError;
 
-/// Whether a text has the colours of a terminal.
+/// Whether a text uses the colours of a terminal.
 #[derive(Clone, Copy, Debug, PartialEq, Eq)]
 pub enum Colour {
-    /// It has none of their bytes.
+    /// The text has no sequence that begins with ESC.
     Never,
-    /// It has them, as sequences that begin with ESC.
+    /// It has sequences that begin with ESC.
     Always,
 }
 

@@ -7,9 +7,9 @@ use crate::words::Words;
 /// A part of one line of a text.
 #[derive(Clone, Copy, Debug, PartialEq, Eq)]
 pub struct Span {
-    /// The line, from 1.
+    /// The number of the line, from 1.
     pub line: u32,
-    /// Where it begins, in bytes of the line, from 1.
+    /// The column of its first byte, in bytes, from 1.
     pub column: usize,
     /// How many bytes it has; 0 is the place before the byte at `column`.
     pub width: usize,
@@ -26,7 +26,7 @@ pub enum Severity {
     Note,
 }
 
-/// Which of the texts of a command a diagnostic is about.
+/// The text that a diagnostic is about.
 #[derive(Clone, Copy, Debug, PartialEq, Eq)]
 pub enum Source {
     /// The program text.
@@ -58,7 +58,7 @@ pub struct Replacement {
     pub text: Words,
 }
 
-/// What to do.
+/// What to do about a mistake.
 #[derive(Debug, Drop)]
 pub struct Help {
     /// What to do, in words.

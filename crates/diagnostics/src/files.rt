@@ -2,16 +2,16 @@
 
 use crate::diagnostic::Source;
 
-/// A text: the name of its file, and its lines, each without its LF; no lines if the text is not available.
+/// A text file: its name and its lines, each without its LF; no lines if the text is not available.
 #[derive(Clone, Copy)]
 pub struct TextFile<'a> {
-    /// The name of the file.
+    /// The name of the file, as messages give it.
     pub name: &'a str,
-    /// The lines.
+    /// The lines, line 1 first.
     pub rows: &'a [&'a [u8]],
 }
 
-/// The texts of a command. One that it lacks has an empty name and no lines.
+/// The text files of a command. One that the command lacks has an empty name and no lines.
 #[derive(Clone, Copy)]
 pub struct Files<'a> {
     /// The program text.
@@ -23,7 +23,7 @@ pub struct Files<'a> {
 }
 
 impl<'a> Files<'a> {
-    /// The text that is meant.
+    /// The text file that diagnostics of this source are about.
     pub fn text_of(&self, source: Source) -> &TextFile<'a> {
         match source {
             Source::Program => &self.program,

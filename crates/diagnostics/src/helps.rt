@@ -8,7 +8,7 @@ use crate::listed::Listed;
 use crate::words::Words;
 use std::alloc::{AllocError, Global};
 
-/// What to do, in words alone.
+/// A help with a message alone.
 pub fn in_words(alloc: Global, message: Words) -> Help
     ensures { result ≡ in_words message }
 {
@@ -18,7 +18,7 @@ pub fn in_words(alloc: Global, message: Words) -> Help
     }
 }
 
-/// What to do, with a text to write in place of a part.
+/// A help that writes `text` in place of one part of the text.
 ///
 /// # Errors
 ///

@@ -1,8 +1,8 @@
-//! What is true of all bytes that are shown, as the contract of a function that does nothing; to use it, call the function.
+//! A law about all bytes that are shown: the contract of a function that does nothing. To use the law, call the function.
 
 ghost use Rattle.diagnostics.specs.Laws.{AreHarmless};
 
-/// What is shown of a line or a name has no control byte of ASCII but tabs.
+/// No line or name is shown with a control byte of ASCII, except for tabs.
 pub fn shown_bytes_are_harmless()
     ensures { AreHarmless }
 {}

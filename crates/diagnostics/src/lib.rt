@@ -1,5 +1,7 @@
-//! What is reported about a program, its marks, its certificate or an event script: as values, which each renderer puts
-//! into its own form, and in the text form of gcc and clang; and which known words are near an unknown one.
+//! What is reported about a program, its marks, its certificate or an event script: values, and their text form.
+//!
+//! Each renderer puts the values into its own form; the text form here is the one of gcc and clang. Here, too, is which
+//! known words are near an unknown one.
 #![tactic(auto)]
 
 pub mod code;

@@ -19,14 +19,14 @@ impl<T> Model for Listed<T> {
 impl<T> Listed<T> {
     ghost use Rattle.std.specs.Prelude.{◌≡◌};
 
-    /// A list of these items.
+    /// The list with the items of a vector, in their order.
     pub fn new(list: Vec<T>) -> Listed<T>
         ensures { result ≡ list.items }
     {
         Listed { list }
     }
 
-    /// The items.
+    /// The items, in order.
     pub fn as_slice(&self) -> &[T]
         ensures { result.now ≡ self.now }
     {

@@ -1,4 +1,4 @@
-//! How many things are not shown.
+//! The note that says how many things are not shown.
 
 ghost use Rattle.std.specs.Prelude.{◌≡◌, ◌++◌, IfOk, OnOk};
 ghost use Rattle.diagnostics.specs.More.{more_message, more_note};
@@ -21,12 +21,12 @@ fn more_message(alloc: Global, more: usize, one: &str, many: &str) -> Result<Wor
     }
 }
 
-/// Adds how many more things there are to report about a text, in the words for one and for many; nothing if there
-/// are no more.
+/// Adds a note about a text that says how many more things there are, such as `3 more errors`; nothing if `more` is 0.
+/// `one` and `many` are the noun in the singular and in the plural.
 ///
 /// # Errors
 ///
-/// `AllocError` where memory was refused.
+/// `AllocError` where memory was refused; what `list` then has is not stated.
 pub fn add_more(
     alloc: Global,
     list: &mut Vec<Diagnostic>,

@@ -35,8 +35,8 @@ fn is_slip(word: &[u8], other: &[u8]) -> bool
     rest == other || word == others || rest == others || is_exchange(word, other)
 }
 
-/// Whether one slip turns one word into the other: a letter too many, one left out, one wrong, or two neighbours
-/// exchanged.
+/// Whether two words differ by at most one slip: a letter too many, one left out, one wrong, or two neighbours exchanged.
+/// Equal words are near.
 pub fn is_near(word: &[u8], other: &[u8]) -> bool
     ensures { result ≡ is_near word.now other.now }
 {

@@ -11,7 +11,7 @@ use std::alloc::{AllocError, Global};
 /// How many bytes a message quotes at most.
 const MOST_QUOTED: usize = 40;
 
-/// Bytes of a text as an excerpt shows them: without control bytes but tabs, and without letters that steer a terminal.
+/// Bytes of a text as an excerpt shows them: with no control byte but tabs, and no character that steers a terminal.
 ///
 /// # Errors
 ///
@@ -23,7 +23,7 @@ pub fn as_shown(alloc: Global, bytes: &[u8]) -> Result<Words, AllocError>
     Ok(Words::new(shown_text(alloc, bytes)?))
 }
 
-/// Bytes of a text as a message quotes them: as an excerpt shows them, and of more than 40 only the first.
+/// Bytes of a text as a message quotes them, in backquotes: as an excerpt shows them, at most the first 40 bytes.
 ///
 /// # Errors
 ///

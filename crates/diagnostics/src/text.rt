@@ -158,8 +158,8 @@ impl<'a> Page<'a> {
     }
 }
 
-/// The text form of diagnostics: for each, what is wrong, its place, and the line with a caret below what is meant;
-/// its notes; and what to do. Without colours it has none of their bytes.
+/// The text form of diagnostics, as gcc and clang write it: for each, what is wrong, its place, and the line with a caret
+/// below the part that is meant; its notes; and its help. With `Colour::Never` it has no sequence that begins with ESC.
 ///
 /// # Errors
 ///

@@ -27,14 +27,14 @@ impl Words {
     ghost use Rattle.std.specs.Fmt.{decimal};
     ghost use Rattle.std.specs.String.{string_bytes};
 
-    /// These words.
+    /// The words with the bytes of a string.
     pub fn new(text: String) -> Words
         ensures { result ≡ string_bytes text }
     {
         Words { text }
     }
 
-    /// The words of a text that stays where it is.
+    /// The words with a copy of the bytes of `words`.
     ///
     /// # Errors
     ///
@@ -47,7 +47,7 @@ impl Words {
         Ok(Words::new(text))
     }
 
-    /// The text.
+    /// The text as a string slice.
     pub fn as_str(&self) -> &str
         ensures { result.now ≡ self.now }
     {
@@ -66,7 +66,7 @@ impl fmt::Display for Words {
     }
 }
 
-/// Words by a format: `words!(in alloc; "add {name} to the create mask")?`.
+/// Makes `Words` by a format: `words!(in alloc; "add {name} to the create mask")?`; `AllocError` where memory was refused.
 #[macro_export]
 macro_rules! words {
     (in $alloc:expr; $($format:tt)*) => {

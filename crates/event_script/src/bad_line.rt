@@ -1,4 +1,4 @@
-//! The lines of a script that spell no event, and where each goes wrong.
+//! The lines of a script that spell no event, and the part of each that is wrong.
 
 ghost use Rattle.std.specs.Prelude.{◌≡◌, ◌≤◌, ◌++◌, [], ◌∷◌, IfOk, OnOk, length, position, take};
 ghost use Rattle.event_script.specs.EventScript.{is_space, lines as lines_of, behind, first_word, from_word, word_at, bad_lines, bad_from};
@@ -9,10 +9,10 @@ use crate::task_names::TaskNames;
 use std::alloc::{AllocError, Global};
 use task_descriptor::program::Program;
 
-/// A line that spells no event.
+/// A line of a script that spells no event.
 #[derive(Clone, Copy, Debug, PartialEq, Eq)]
 pub struct BadLine {
-    /// The line, from 1.
+    /// The line, counted from 1.
     pub line: usize,
     /// Why it spells none.
     pub fault: EventFault,
@@ -36,7 +36,7 @@ fn behind_space(text: &[u8]) -> &[u8]
     }
 }
 
-/// The first word of a text.
+/// The bytes of a text up to its first space, or all of them.
 pub fn first_word(text: &[u8]) -> &[u8]
     ensures { result.now ≡ first_word text.now }
 {
@@ -71,8 +71,9 @@ impl EventFault {
     ghost use Rattle.std.specs.Prelude.{◌≡◌};
     ghost use Rattle.event_script.specs.EventScript.{wrong_part};
 
-    /// The part of a line that has this fault: how many bytes stand before it, and its bytes. It is the word
-    /// that is wrong; where words are missing, the line's end, and where there are too many, all the extra words.
+    /// The part of a line that has this fault: the offset in bytes at which it begins, and its bytes. It is the
+    /// word that is wrong; where words are missing, the line's end, and where there are too many, all the extra
+    /// words.
     pub fn part_of(self, line: &[u8]) -> (usize, &[u8])
         ensures before { result.0 ≡ (wrong_part self line.now).before }
         ensures bytes { result.1.now ≡ (wrong_part self line.now).bytes }
@@ -135,8 +136,8 @@ fn bad_among(
     Ok((list, count))
 }
 
-/// The lines of a text that spell no event for the tasks of a program: the first of them, at most `most`, and how many
-/// there are. With none the script can be read; else it is refused for the first (`laws::refused_for_the_first`).
+/// The lines of a text that spell no event for the tasks of a program: the first `most` of them, and the number
+/// of all. With none the script can be read; else it is refused for the first (`laws::refused_for_the_first`).
 ///
 /// # Errors
 ///

@@ -15,28 +15,28 @@ pub enum ScriptFault {
     OutOfMemory,
 }
 
-/// Why a line spells no event: the first of these that holds.
+/// Why a line spells no event; where several hold, the first.
 #[derive(Clone, Copy, Debug, PartialEq, Eq, Error)]
 pub enum EventFault {
-    /// No event begins with its first word.
+    /// No event begins with the line's first word.
     #[error("no event begins with the first word")]
     NoEvent,
-    /// It ends before the event does.
+    /// The line ends before the event does.
     #[error("a word is missing at the line's end")]
     TooFew,
-    /// It continues after the event, which has this many words.
+    /// The line continues after the event, which has this many words.
     #[error("the event has only {0} words")]
     TooMany(usize),
-    /// Its second word is no position.
+    /// The second word is no position: 1 to 3 decimal digits, counted from the head, which is 0.
     #[error("the second word is no position")]
     NoPosition,
-    /// Its third word is no register.
+    /// The third word is no register: `$` and a number, 0 to 33.
     #[error("the third word is no register")]
     NoRegister,
-    /// It assigns a task, and the second word can be the name of none.
+    /// The line assigns a task, and its second word can be no task's name.
     #[error("the second word is no name")]
     NoName,
-    /// It assigns a task, and no task has that name.
+    /// The line assigns a task, and no task of the program has that name.
     #[error("no task has the name that the line assigns")]
     NoTask,
 }
@@ -45,7 +45,7 @@ impl EventFault {
     ghost use Rattle.std.specs.Prelude.{◌≡◌};
     ghost use Rattle.event_script.specs.EventScript.{fault_at};
 
-    /// What is wrong with a text whose line `line`, counted from 1, has this fault.
+    /// The fault of a script whose line `line`, counted from 1, has this fault.
     pub fn at(self, line: usize) -> ScriptFault
         ensures { result ≡ fault_at line self }
     {

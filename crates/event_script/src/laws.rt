@@ -10,8 +10,8 @@ ghost use Rattle.event_script.specs.ScriptText.{IsTold, NamesRegister, script_te
 
 use task_descriptor::program::Program;
 
-/// What is written can be read back: the script of events that it can express is read as these events. The
-/// call does nothing but look at the program: its contract is the law.
+/// Law: the script that is written for events which it can express is read as these events. The call does
+/// nothing but look at the program; its contract is the theorem.
 pub fn written_is_read(program: &Program)
     ensures { (events : List Event) → All (λ e. IsTold program.now e × NamesRegister e) events
         → script_of program.now (script_text program.now events) ≡ Ok events }
@@ -19,7 +19,8 @@ pub fn written_is_read(program: &Program)
     let _ = program.tasks();
 }
 
-/// A script with lines that spell no event is refused for the first of them; one without such a line is read.
+/// Law: a script with lines that spell no event is refused for the first of them; one without such a line is
+/// read.
 pub fn refused_for_the_first()
     ensures { (p : Listing) (text : List ℕ) → first_bad (bad_lines p text) ≡ result_err (script_of p text) }
 {}

@@ -1,4 +1,4 @@
-//! Event scripts: the events that are given to the machine, one on each line of a text.
+//! Event scripts: texts that list a machine's events, one on each line, as `replay` reads and `run` writes them.
 #![tactic(auto)]
 
 pub mod bad_line;

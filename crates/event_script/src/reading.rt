@@ -13,7 +13,7 @@ use task_descriptor::name::Name;
 use task_descriptor::program::Program;
 use text_pieces::cutting::cut;
 
-/// The first line of a text that is not empty, without its LF, and the text of the other lines.
+/// The first line of a text that is not empty, without its LF, and the text of the lines after it.
 pub fn next_line(text: &[u8]) -> (&[u8], &[u8])
     requires { 0 < length text.now }
     ensures lines { lines_of text.now ≡ result.0.now ∷ lines_of result.1.now }
@@ -41,7 +41,7 @@ fn number_of(word: &[u8]) -> Option<u32>
     Some(number)
 }
 
-/// The register that a word spells: `$` and its number, 0 to 33.
+/// The register that a word spells: `$` and its number, 0 to 33; `None` where it spells none.
 pub fn register_of(word: &[u8]) -> Option<Reg>
     ensures { result ≡ register_in word.now }
 {
@@ -168,6 +168,10 @@ fn with_two(verb: &[u8], first: &[u8], second: &[u8]) -> Result<Event, EventFaul
 }
 
 /// The event that a line spells; the line is given without its LF.
+///
+/// # Errors
+///
+/// The first fault of the line (see `EventFault`).
 pub fn event_of(names: &TaskNames, line: &[u8]) -> Result<Event, EventFault>
     requires { length names.now ≤ 1024 }
     ensures { result ≡ event_in names.now line.now }
@@ -206,9 +210,12 @@ fn events_of(alloc: Global, text: &[u8], names: &TaskNames) -> Result<Vec<Event>
     Ok(events)
 }
 
-/// The events that a text spells for the tasks of a program, in order. Else the first line that spells
-/// none: `Line`, or `TaskName` where it assigns a task that is not there. `OutOfMemory` may come at any
-/// point.
+/// The events that a text spells for the tasks of a program, in order.
+///
+/// # Errors
+///
+/// The first line, counted from 1, that spells no event: `TaskName` where it assigns a task that the program
+/// does not have, else `Line`. `OutOfMemory`, where memory was refused, may come in place of any other answer.
 pub fn read(alloc: Global, text: &[u8], program: &Program) -> Result<Vec<Event>, ScriptFault>
     ensures { MatchResult result
         (λ events. script_of program.now text.now ≡ Ok events.items)

@@ -7,7 +7,7 @@ use std::marker::Model;
 use task_descriptor::descriptor::Descriptor;
 use task_descriptor::name::Name;
 
-/// The names of the tasks of a program, in their order: a name's number is found without comparing it with
+/// The names of a program's tasks, in their order: a name's task number is found without comparing it with
 /// every other one.
 #[derive(Drop)]
 pub struct TaskNames {
@@ -29,7 +29,11 @@ impl TaskNames {
     ghost use Rattle.task_descriptor.specs.Listing.{has_duplicate};
     ghost use Rattle.event_script.specs.EventScript.{names_in};
 
-    /// The names of tasks, no two of which share a name. The error means that memory was refused.
+    /// The names of these tasks, task 0 first; no two tasks share a name.
+    ///
+    /// # Errors
+    ///
+    /// `AllocError` where memory was refused.
     pub fn of(alloc: Global, tasks: &[Descriptor]) -> Result<TaskNames, AllocError>
         requires { has_duplicate tasks.now ≡ false }
         ensures { IfOk result (λ names. names ≡ names_in tasks.now) }
@@ -41,7 +45,7 @@ impl TaskNames {
         Ok(TaskNames { names })
     }
 
-    /// The number of the task of this name, if there is one.
+    /// The number, from 0, of the task of this name; `None` where no task has it.
     pub fn number_of(&self, name: &Name) -> Option<usize>
         ensures number { result ≡ position (λ other. bytes_eq other name.now) self.now }
         ensures within { IfSome result (λ number. number < length self.now) }

@@ -12,7 +12,7 @@ use machine_model::event::{Event, EventRun};
 use std::alloc::{AllocError, Global};
 use task_descriptor::program::Program;
 
-/// The name of the task of this number; empty where there is no such task.
+/// The name of task `task`, counted from 0; empty where there is no such task.
 pub fn task_name(program: &Program, task: u32) -> &str
     ensures { result.now ≡ name_at (slice_get program.now.tasks task) }
 {
@@ -22,7 +22,11 @@ pub fn task_name(program: &Program, task: u32) -> &str
     }
 }
 
-/// Adds an event, without its LF. An error means that memory was refused.
+/// Appends the line of an event to a text, without its LF.
+///
+/// # Errors
+///
+/// `AllocError` where memory was refused; what the text holds then is not known.
 pub fn write_event(text: &mut String, program: &Program, event: Event) -> Result<(), AllocError>
     ensures text { OnOk result (string_bytes text.new ≡ string_bytes text.old ++ event_text program.now event) }
     ensures register { OnOk result (NamesRegister event) }
@@ -67,9 +71,12 @@ fn repeat_line(text: &mut String, line: &str, times: u32) -> Result<(), AllocErr
     Ok(())
 }
 
-/// The script of a history for its program: each event on a line of its own, as often as its run states.
-/// It is read as these events, if they are of the program's tasks and of positions up to 999, as those
-/// of a machine are.
+/// The script of a history for its program: each event on a line of its own, as often as its run states. It is
+/// read as these events, if they are of the program's tasks and of positions up to 999, as a machine's are.
+///
+/// # Errors
+///
+/// `AllocError` where memory was refused.
 pub fn write(alloc: Global, runs: &[EventRun], program: &Program) -> Result<Vec<u8>, AllocError>
     ensures text { IfOk result (λ text. text.items ≡ script_text program.now (events_of runs.now)) }
     ensures read { IfOk result (λ text. All (IsTold program.now) (events_of runs.now)

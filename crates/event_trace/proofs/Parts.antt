@@ -1,25 +1,10 @@
 -- Parts of a list, one after the other.
-use Rattle.std.proofs.Common.{◌≡◌, ℕ, zero, suc, ◌+◌, List, [], ◌∷◌, ◌++◌, ap, ◌∙◌, sym, append_assoc, append-nil, add-one, arith}
+use Rattle.std.proofs.Common.{◌≡◌, ℕ, List, ◌++◌, ap, ◌∙◌, append_assoc}
 use Rattle.std.specs.List.{range_with_len}
 use Rattle.std.specs.Prelude.{flat_map, Bool}
 use Rattle.event_trace.specs.declared.change.Change.{Change}
 use Rattle.event_trace.specs.Changes.{register_count, for_registers}
 use Rattle.event_trace.specs.Ending.{data_words}
-
-range_one_more : {A : Type 0} (f : ℕ → List A) (from n last : ℕ) → last ≡ from + n → flat_map f (range_with_len from (suc n)) ≡ flat_map f (range_with_len from n) ++ f last
-range_one_more f from zero last is =
-    let same : last ≡ from = omega (arith, is) in
-    append-nil (f from) ∙ ap f (sym same)
-range_one_more f from (suc n) last is =
-    ap (λ rest. f from ++ rest) (range_one_more f (from + 1) n last (omega (arith, is)))
-    ∙ sym (append_assoc (f from) (flat_map f (range_with_len (from + 1) n)) (f last))
-
--- what there is for the numbers below n, and for n
-pub range_more : {A : Type 0} (f : ℕ → List A) (before : List A) (n : ℕ) → (before ++ flat_map f (range_with_len 0 n)) ++ f n ≡ before ++ flat_map f (range_with_len 0 (n + 1))
-range_more f before n =
-    append_assoc before (flat_map f (range_with_len 0 n)) (f n)
-    ∙ ap (λ rest. before ++ rest) (sym (range_one_more f 0 n n (omega arith)))
-    ∙ ap (λ m. before ++ flat_map f (range_with_len 0 m)) (sym (add-one n))
 
 all_registers : (n : ℕ) → n ≡ 34 → n ≡ register_count
 unfolding register_count

@@ -4,7 +4,7 @@ use crate::change::Change;
 use crate::ending::{End, MemoryWord, RegisterWord};
 use crate::ring::Ring;
 use crate::source::EventSource;
-use crate::telling::Teller;
+use crate::telling::{RunTold, Teller};
 use crate::told::Told;
 use crate::unit_change::UnitChange;
 use event_script::writing::task_name;
@@ -14,18 +14,19 @@ use mips_instructions::number::Reg;
 use mips_plain::outcome::Trap;
 
 impl Teller<'_, '_, '_> {
-    /// Adds what the lines of a trace are, what the program is called, unless its name is empty, the schedule, how many units
-    /// the machine has and how many instructions the program.
+    /// Adds what the lines of a trace are, what the program is called, unless its name is empty, the schedule, the predictor and
+    /// the budget of a run, how many units the machine has and how many instructions the program.
     pub(crate) fn write_start(
         &self,
         out: &mut JsonText,
         name: &str,
         source: EventSource,
+        run: Option<RunTold<'_>>,
         units: u32,
     ) -> Written {
         out.begin()?;
         out.text("format", "multiscalar-trace")?;
-        out.number("version", 1)?;
+        out.number("version", 2)?;
         if !name.is_empty() {
             out.text("program_name", name)?;
         }
@@ -33,6 +34,10 @@ impl Teller<'_, '_, '_> {
             EventSource::Script => {}
             EventSource::Threads => out.text("schedule", "threads")?,
             EventSource::Steps => out.text("schedule", "steps")?,
+        }
+        if let Some(run) = run {
+            out.text("predictor", run.predictor)?;
+            out.number("budget", run.budget as usize)?;
         }
         out.number("units", units as usize)?;
         out.number("instructions", self.program.code().len())?;
@@ -189,8 +194,8 @@ fn write_at(out: &mut JsonText, kind: &str, ring: &Ring, position: u32) -> Writt
 
 /// Adds a unit, by its position and its number round the ring.
 fn write_unit(out: &mut JsonText, ring: &Ring, position: u32) -> Written {
-    out.number("unit", position as usize)?;
-    out.number("ring", ring.number_at(position))
+    out.number("position", position as usize)?;
+    out.number("unit", ring.number_at(position))
 }
 
 /// Adds why an event is refused: the number and the name, and the register that is waited for, if there is one.

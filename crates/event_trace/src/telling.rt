@@ -15,6 +15,15 @@ use shown_names::name::shown_name;
 use std::alloc::{AllocError, Global};
 use task_descriptor::program::Program;
 
+/// How a run was made, as the first line of JSON of its trace says it.
+#[derive(Clone, Copy, Debug)]
+pub struct RunTold<'n> {
+    /// The predictor, as the command line takes it.
+    pub predictor: &'n str,
+    /// The most events of the run.
+    pub budget: u32,
+}
+
 /// The form of a trace.
 #[derive(Clone, Copy, Debug)]
 pub enum TraceForm<'n> {
@@ -30,6 +39,8 @@ pub enum TraceForm<'n> {
         name: &'n str,
         /// The source of the events.
         source: EventSource,
+        /// How the run was made, if it was not by a script.
+        run: Option<RunTold<'n>>,
         /// Whether the last line says that the budget was spent, and not how the run is.
         is_out_of_budget: bool,
     },
@@ -68,10 +79,16 @@ impl Teller<'_, '_, '_> {
     pub(crate) fn tell_start(&self, pending: &mut Pending, units: u32) -> Result<(), AllocError>
         ensures { OnOk result (pending.new.told ≡ pending.old.told) }
     {
-        if let TraceForm::Json { name, source, .. } = self.form {
+        if let TraceForm::Json {
+            name,
+            source,
+            run,
+            ..
+        } = self.form
+        {
             let shown = shown_name(self.alloc, name)?;
             let mut out = JsonText::new(self.alloc);
-            self.write_start(&mut out, shown.as_str(), source, units)?;
+            self.write_start(&mut out, shown.as_str(), source, run, units)?;
             add_line(&mut pending.text, out)?;
         }
         Ok(())

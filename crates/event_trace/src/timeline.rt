@@ -1,10 +1,9 @@
 //! The timeline of a run: the life of each task as a slice of time, and events that happen at one time.
 
-ghost use Rattle.std.specs.Prelude.{◌≡◌, ◌+◌, ◌++◌, ◌%◌, ◌<◌, ◌≤◌, ◌^◌, IfOk, OnOk, length, map};
+ghost use Rattle.std.specs.Prelude.{◌≡◌, ◌++◌, ◌<◌, ◌≤◌, ◌^◌, IfOk, OnOk, length, map};
 ghost use Rattle.machine_model.specs.Answer.{most_events};
-ghost use Rattle.machine_model.specs.HeadEvent.{retired_after, unit_of};
+ghost use Rattle.machine_model.specs.HeadEvent.{unit_of};
 ghost use Rattle.machine_model.specs.Runs.{events_of};
-ghost use Rattle.run_picture.specs.Meanings.{unit_before};
 ghost use Rattle.task_lives.specs.Lives.{AllFit};
 ghost use Rattle.event_trace.specs.Timeline.{IsTimelineOf, mark_at, marks_of as marks_by, slice_of as slice_by};
 
@@ -13,6 +12,7 @@ use crate::times::{time_at, times};
 use machine_model::event::{Event, EventRun};
 use mips_instructions::number::Reg;
 use run_picture::events::single_events;
+use run_picture::queue::{retired_with, unit_at, unit_before};
 use std::alloc::{AllocError, Global};
 use task_lives::life::Life;
 use task_lives::lives::lives_of_runs;
@@ -130,18 +130,6 @@ fn marks_of(
     Ok(marks)
 }
 
-/// How many tasks have retired after an event.
-fn retired_with(retired: u32, event: Event) -> u32
-    requires { retired < 2 ^ 31 }
-    ensures value { result ≡ retired_after retired event }
-    ensures bound { result ≤ retired + 1 }
-{
-    match event {
-        Event::Retire => retired + 1,
-        _ => retired,
-    }
-}
-
 /// Adds what happens in an event of this number and time, before which `retired` tasks retired.
 fn add_mark(
     marks: &mut Vec<Mark>,
@@ -157,7 +145,7 @@ fn add_mark(
     match done {
         Event::Transfer(position, register) => {
             let to = unit_at(units, retired, position);
-            let from = before(units, to);
+            let from = unit_before(units, to);
             marks.push(Mark::Arrow {
                 event,
                 register,
@@ -173,21 +161,4 @@ fn add_mark(
         _ => {}
     }
     Ok(())
-}
-
-/// The number of the unit at a position, after `retired` tasks have retired.
-fn unit_at(units: u32, retired: u32, position: u32) -> u32
-    requires { 0 < units }
-    ensures { result ≡ (retired + position) % units }
-{
-    let place = u64::from(retired) + u64::from(position);
-    (place % u64::from(units)) as u32
-}
-
-/// The unit before a unit round the ring.
-fn before(units: u32, unit: u32) -> u32
-    requires { 0 < units }
-    ensures { result ≡ unit_before units unit }
-{
-    if unit == 0 { units - 1 } else { unit - 1 }
 }

@@ -6,28 +6,45 @@ ghost use Rattle.machine_model.specs.Answer.{most_events};
 ghost use Rattle.machine_model.specs.Runs.{events_of};
 ghost use Rattle.task_lives.specs.Lives.{AllFit};
 
+use crate::change::Change;
+use crate::notes::{Source, write_effect};
+use crate::ring::Ring;
 use crate::source::EventSource;
 use crate::timeline::{Mark, Slice, timeline_of};
+use crate::times::times;
+use crate::told::Told;
+use crate::unit_change::UnitChange;
+use crate::walk::Walk;
 use event_script::writing::task_name;
 use json_text::{JsonText, Written};
-use machine_model::event::EventRun;
+use machine_model::event::{Event, EventRun};
+use mark_checker::accept::Accepted;
+use run_picture::events::single_events;
+use run_picture::shape::Wait;
+use run_picture::shape_text::write_why;
+use shown_names::name::shown_name;
 use std::alloc::{AllocError, Global};
 use task_descriptor::program::Program;
 use task_lives::life::Ending;
 
-/// The timeline (`timeline_of`) of a history of a program's run on `units` units, at least one, as one line of JSON.
+/// The timeline (`timeline_of`) of a history of a program's run on `units` units, 1..=16, as one line of JSON, with the program's
+/// name, which may be empty, its instructions and, of a run in steps, these waits.
 ///
 /// # Errors
 ///
 /// `AllocError` where memory was refused.
 pub fn timeline(
     alloc: Global,
-    program: &Program,
+    accepted: &Accepted,
+    name: &str,
+    program_text: &[u8],
     units: u32,
     source: EventSource,
+    waits: &[Wait],
     runs: &[EventRun],
 ) -> Result<String, AllocError>
     requires some { 0 < units }
+    requires most { units ≤ 16 }
     requires room { length (events_of runs.now) ≤ most_events }
     requires fit { AllFit 0 (events_of runs.now) }
 {
@@ -35,8 +52,20 @@ pub fn timeline(
     let mut out = JsonText::new(alloc);
     out.begin()?;
     out.list("traceEvents")?;
-    write_lanes(alloc, &mut out, units)?;
-    write_slices(&mut out, program, &timeline.slices)?;
+    let name = shown_name(alloc, name)?;
+    write_lanes(alloc, &mut out, name.as_str(), units)?;
+    write_slices(&mut out, accepted.program(), &timeline.slices)?;
+    let events = single_events(alloc, runs)?;
+    write_instructions(
+        alloc,
+        &mut out,
+        accepted,
+        program_text,
+        units,
+        source,
+        &events,
+    )?;
+    write_waits(alloc, &mut out, accepted.program(), waits)?;
     write_marks(alloc, &mut out, &timeline.marks)?;
     out.end_list()?;
     out.text("displayTimeUnit", "ms")?;
@@ -70,8 +99,13 @@ fn begin_timed(
 }
 
 /// Adds the names of the run and of its units, whose lanes stand in the order of their numbers.
-fn write_lanes(alloc: Global, out: &mut JsonText, units: u32) -> Written {
-    write_naming(out, "process_name", 0, "multiscalar run")?;
+fn write_lanes(alloc: Global, out: &mut JsonText, name: &str, units: u32) -> Written {
+    let name = if name.is_empty() {
+        "multiscalar run"
+    } else {
+        name
+    };
+    write_naming(out, "process_name", 0, name)?;
     for unit in 0..units {
         let name = format!(in alloc; "unit {unit}")?;
         write_naming(out, "thread_name", unit, name.as_str())?;
@@ -106,6 +140,84 @@ fn write_slices(out: &mut JsonText, program: &Program, slices: &[Slice]) -> Writ
         out.number("instructions", life.executed as usize)?;
         out.text("ending", ending_word(life.ending))?;
         out.end()?;
+        out.end()?;
+    }
+    Ok(())
+}
+
+/// Adds a slice for each instruction, within that of its task.
+fn write_instructions(
+    alloc: Global,
+    out: &mut JsonText,
+    accepted: &Accepted,
+    program_text: &[u8],
+    units: u32,
+    source: EventSource,
+    events: &[Event],
+) -> Written
+    requires some { 0 < units }
+    requires most { units ≤ 16 }
+{
+    let text = Source::new(alloc, program_text)?;
+    let times = times(alloc, source, events)?;
+    let mut walk = Walk::new(alloc, accepted, units)?;
+    for (event, time) in events.iter().zip(times.iter()) {
+        let ring = walk.ring();
+        let (next, told) = walk.step(alloc, event)?;
+        walk = next;
+        if let Told::Taken(changes) = &told {
+            write_instruction(alloc, out, &text, &ring, *time, changes)?;
+        }
+    }
+    Ok(())
+}
+
+/// Adds the slice of an instruction that an event of this time executed and that changed this, if it executed one.
+fn write_instruction(
+    alloc: Global,
+    out: &mut JsonText,
+    source: &Source<'_>,
+    ring: &Ring,
+    time: usize,
+    changes: &[Change],
+) -> Written {
+    let Some(
+        Change::AtUnit {
+            position,
+            change,
+            ..
+        },
+    ) = changes.first().copied()
+    else {
+        return Ok(());
+    };
+    let UnitChange::Executed { index } = change else {
+        return Ok(());
+    };
+    let mut name = String::new(alloc);
+    source.write_instruction(&mut name, index)?;
+    let mut note = String::new(alloc);
+    source.write_line(&mut note, index)?;
+    for change in changes {
+        write_effect(&mut note, *change)?;
+    }
+    let unit = ring.number_at(position).min(u32::MAX as usize) as u32;
+    begin_timed(out, name.as_str(), "instruction", "X", unit, time)?;
+    out.number("dur", 1)?;
+    out.object("args")?;
+    out.text("did", note.as_str())?;
+    out.end()?;
+    out.end()
+}
+
+/// Adds a slice for each wait, within that of its task.
+fn write_waits(alloc: Global, out: &mut JsonText, program: &Program, waits: &[Wait]) -> Written {
+    for wait in waits {
+        let mut name = String::new(alloc);
+        write_why(&mut name, program.tasks(), wait.why)?;
+        let begin = (wait.step as usize).saturating_sub(1);
+        begin_timed(out, name.as_str(), "wait", "X", wait.unit, begin)?;
+        out.number("dur", wait.count as usize)?;
         out.end()?;
     }
     Ok(())

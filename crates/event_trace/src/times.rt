@@ -1,12 +1,11 @@
 //! The times of events.
 
-ghost use Rattle.std.specs.Prelude.{◌≡◌, ◌+◌, ◌<◌, ◌≤◌, ◌^◌, IfOk, max};
-ghost use Rattle.machine_model.specs.HeadEvent.{active_after};
+ghost use Rattle.std.specs.Prelude.{◌≡◌, ◌+◌, ◌<◌, ◌≤◌, ◌^◌, IfOk};
 ghost use Rattle.event_trace.specs.Times.{steps_of as steps_by, ticks as source_ticks, time_after, time_at as time_of, times_of};
 
 use crate::source::EventSource;
 use machine_model::event::Event;
-use run_picture::queue::position_of;
+use run_picture::queue::{active_with, position_of};
 use std::alloc::{AllocError, Global};
 
 /// The times of the events of a history, in order.
@@ -52,21 +51,6 @@ fn time_with(source: EventSource, active: u64, time: usize, event: Event) -> usi
         time + 1
     } else {
         time
-    }
-}
-
-/// How many units are at work after an event, where `active` are before it.
-fn active_with(active: u64, event: Event) -> u64
-    requires { active + 1 < 2 ^ 64 }
-    ensures value { result ≡ active_after active event }
-    ensures bound { result ≤ max active 4294967296 + 1 }
-{
-    match event {
-        Event::Assign(_) => active + 1,
-        Event::Squash(position) => u64::from(position) + 1,
-        Event::Retire => active.saturating_sub(1),
-        Event::Drop(position) => u64::from(position),
-        _ => active,
     }
 }
 

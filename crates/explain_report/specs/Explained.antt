@@ -24,6 +24,8 @@ use Rattle.explain_report.specs.Order.{in_order}
 use Rattle.explain_report.specs.declared.given.Given.{Given}
 use Rattle.jobs.specs.declared.job.Warnings.{Warnings}
 use Rattle.jobs.specs.declared.job.Warnings.TheVariants.{Silent, AsErrors}
+use Rattle.release_proposals.specs.Paying.{IsForgotten}
+use Rattle.std.specs.List.{All}
 use Rattle.std.specs.Option.{option_map}
 use Rattle.std.specs.String.{string_bytes}
 
@@ -32,10 +34,20 @@ abbrev pub said_status : List Diagnostic → ℕ
 said_status [] = 0
 said_status (d ∷ ds) = 1
 
--- what could be better about marks, where that is asked for
+-- what could be better about marks: those that cost speed, and releases that may be forgotten
+pub record AreAllWarnings (text : List ℕ) (p : Listing) (said : List Diagnostic) : Type 0 where
+  pub least : List (List (ℕ × ℕ))
+  pub is_least : IsLeast p least
+  pub marks : List Diagnostic
+  pub better : AreMarkWarnings text p least marks
+  pub releases : List Diagnostic
+  pub forgotten : All (IsForgotten text) releases
+  pub is : said ≡ marks ++ releases
+
+-- they are told where that is asked for
 abbrev pub AreWarned : (asked : Bool) → (text : List ℕ) → Listing → List Diagnostic → Type 0
 AreWarned false text p said = said ≡ []
-AreWarned true text p said = (least : List (List (ℕ × ℕ))) × IsLeast p least × AreMarkWarnings text p least said
+AreWarned true text p said = AreAllWarnings text p said
 
 -- what is said of the text of an event script for a program, if a file of one is named
 abbrev pub IsScriptSaid : (file : Option (List ℕ)) → Listing → (script : List ℕ) → List Diagnostic → Type 0

@@ -4,3 +4,4 @@ pub mod Explained
 pub mod ExplainText
 pub mod Repairs
 pub mod LeftOvers
+pub mod Logs

@@ -28,6 +28,7 @@ use judged_fixes::refused::judge_refusal;
 use mark_diagnostics::error::mark_errors;
 use mark_diagnostics::warning::mark_warnings;
 use mask_certificate::certificate::Cert;
+use release_proposals::warning::release_warnings;
 use std::alloc::{AllocError, Global};
 use task_descriptor::program::Program;
 use text_diagnostics::refusal::refusal;
@@ -153,7 +154,7 @@ fn warned(
     }
 }
 
-// What could be better about the marks.
+// What could be better about the marks, and the releases that may be forgotten.
 fn all_warnings(
     alloc: Global,
     text: &[u8],
@@ -164,8 +165,9 @@ fn all_warnings(
     requires least { IsLeast program.now least.now }
     ensures { IfOk result (λ list. AreWarned true text.now program.now list.items) }
 {
-    let list = mark_warnings(alloc, text, program, least)?;
-    Ok(list)
+    let marks = mark_warnings(alloc, text, program, least)?;
+    let releases = release_warnings(alloc, text, program, least)?;
+    both(marks, releases)
 }
 
 // Whether warnings are to be reported: they are asked for, and nothing is wrong with the marks.

@@ -1,6 +1,7 @@
 //! A SARIF log of what `explain` finds in several programs.
-ghost use Rattle.std.specs.Prelude.{◌≡◌, [], None, IfOk};
+ghost use Rattle.std.specs.Prelude.{◌≡◌, ◌++◌, ◌∷◌, [], None, IfOk};
 ghost use Rattle.explain_report.specs.ExplainText.{IsExplainReport};
+ghost use Rattle.explain_report.specs.Logs.{names_of, texts_of};
 
 use crate::explained::explained;
 use crate::explaining::logged;
@@ -16,9 +17,12 @@ use std::alloc::{AllocError, Global};
 /// A program of a log, with its diagnostics.
 #[derive(Debug, Drop)]
 pub struct LoggedProgram {
-    name: String,
-    text: Vec<u8>,
-    said: Explanation,
+    /// The name of its file.
+    pub name: String,
+    /// Its text.
+    pub text: Vec<u8>,
+    /// Its diagnostics.
+    pub said: Explanation,
 }
 
 /// Adds a program text in a file of this name, with its diagnostics, and returns the status of `explain` on it, 0 or 1. No
@@ -34,8 +38,10 @@ pub fn add_program(
     name: &str,
     texts: &Texts,
 ) -> Result<u8, AllocError>
-    ensures { IfOk result (λ status. IsExplainReport None None warnings texts.now.program.items texts.now.certificate texts.now.script.items
+    ensures status { IfOk result (λ status. IsExplainReport None None warnings texts.now.program.items texts.now.certificate texts.now.script.items
         record { bytes = []; status = status }) }
+    ensures names { IfOk result (λ status. names_of programs.new.items ≡ names_of programs.old.items ++ (name.now ∷ [])) }
+    ensures texts { IfOk result (λ status. texts_of programs.new.items ≡ texts_of programs.old.items ++ (texts.now.program.items ∷ [])) }
 {
     let none: Option<String> = None;
     let certificate = joined(alloc, &texts.certificate)?;

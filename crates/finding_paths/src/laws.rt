@@ -6,7 +6,7 @@ ghost use Rattle.task_graph.specs.Soundness.{Sound};
 ghost use Rattle.mark_checker.specs.declared.finding.Finding.{Finding};
 ghost use Rattle.finding_paths.specs.Shown.{Shows};
 
-/// What a path shows refutes the marks: where there is such a path, they are not sound.
+/// Law: where a path shows a finding, the marks are not sound.
 pub fn shown_is_unsound()
     ensures { (p : Listing) (f : Finding) (path : List ℕ) → Shows p f path → Sound p → ⊥ }
 {}

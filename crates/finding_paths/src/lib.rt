@@ -1,5 +1,5 @@
-//! Findings with the paths that show them: for what the checker reports against a program's marks, a path
-//! through the program on which the mark goes wrong; and the marks that are sound but cost time.
+//! Findings with the paths that show them, and marks that are sound but cost time.
+//! A path goes through the program to where the mark that the checker reports goes wrong.
 //!
 //! No trust rests on this crate: a path is checked against its definition, whatever was found.
 #![tactic(auto)]

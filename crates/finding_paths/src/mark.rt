@@ -2,7 +2,8 @@
 
 use mips_instructions::number::Reg;
 
-/// A mark that costs speed, or code that no task reaches.
+/// A mark that is sound but costs speed, or code that no task reaches. Tasks are counted from 0; `index` is a
+/// code index.
 #[derive(Clone, Copy, Debug, PartialEq, Eq)]
 pub enum CostlyMark {
     /// The create mask of this task, which has a target, has the register, and no instruction that the task

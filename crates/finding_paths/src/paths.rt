@@ -12,9 +12,8 @@ use std::alloc::{AllocError, Global};
 use task_descriptor::program::Program;
 use task_graph::edges::next_inside;
 
-/// A shortest path from the instruction at `start` along inner edges to what is sought, as the indices
-/// that it visits, `start` first; `None` where there is no such path. It may be `start` alone. The
-/// caller sees to it that `start` is an instruction.
+/// A shortest path from the instruction at code index `start` along inner edges to what is sought, as the code
+/// indices that it visits, `start` first; it may be `start` alone. `None` where there is no such path.
 ///
 /// # Errors
 ///
@@ -39,9 +38,8 @@ pub fn path_to(
     path_onward(alloc, program, start, sought)
 }
 
-/// A shortest path of at least one inner edge from the instruction at `start` to what is sought, as the
-/// indices that it visits, `start` first; `None` where there is no such path. The caller sees to it
-/// that `start` is an instruction.
+/// A shortest path of at least one inner edge from the instruction at code index `start` to what is sought, as
+/// the code indices that it visits, `start` first. `None` where there is no such path.
 ///
 /// # Errors
 ///

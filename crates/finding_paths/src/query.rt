@@ -7,14 +7,14 @@ use crate::sought::Sought;
 use mark_checker::finding::{Finding, Rule};
 use mips_instructions::number::Reg;
 
-/// A query for a path inside a task.
+/// A query for a path inside a task: where it begins and what it reaches.
 #[derive(Clone, Copy, Debug, PartialEq, Eq)]
 pub struct Query {
-    /// The index of the instruction where the path begins.
+    /// The code index of the instruction where the path begins.
     pub start: u32,
-    /// Whether the path continues from there by at least one edge.
+    /// Whether the path has at least one edge, even where `start` is what is sought.
     pub onward: bool,
-    /// What it reaches.
+    /// What the path reaches.
     pub sought: Sought,
 }
 
@@ -32,8 +32,8 @@ fn to_writer(register: Option<Reg>, start: u32, onward: bool) -> Option<Query>
     }
 }
 
-/// The query for a path that shows a finding of a task that begins at `entry`; `None` where the rule
-/// concerns masks or targets alone.
+/// The query for a path that shows a finding of the task whose entry is code index `entry`; `None` where the
+/// rule concerns masks or targets alone.
 pub fn query_of(entry: u32, finding: &Finding) -> Option<Query>
     ensures { result ≡ query_of entry finding.now }
 {

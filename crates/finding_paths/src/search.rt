@@ -16,9 +16,9 @@ use mips_instructions::number::{REGISTERS, Reg};
 use std::alloc::{AllocError, Global};
 use task_descriptor::program::Program;
 
-/// The marks of a program that cost speed, and code that no task reaches, of any well-formed program: what
-/// is reported of tasks by task and register, of instructions by index and register, and last where
-/// code that no task reaches begins, by index. `least` is the program's least certificate.
+/// The marks of any well-formed program that cost speed, and code that no task reaches: what is reported of
+/// tasks by task and register, of instructions by code index and register, and last where code that no task
+/// reaches begins, by code index. `least` is the program's least certificate.
 ///
 /// # Errors
 ///

@@ -16,27 +16,26 @@ use mask_certificate::certificate::Cert;
 use std::alloc::{AllocError, Global};
 use task_descriptor::program::Program;
 
-/// A finding, and the path that shows it.
+/// A finding with a path that shows it.
 #[derive(Debug, Drop)]
 pub struct ShownFinding {
-    /// The finding.
+    /// The finding that the path shows.
     pub finding: Finding,
-    /// The indices that the path visits, in order; `None` where the rule concerns masks or
-    /// targets alone.
+    /// The code indices that the path visits, in order; `None` where the rule concerns masks or targets alone.
     pub path: Option<Vec<u32>>,
 }
 
-/// The first findings of a program, each with the path that shows it, and how many more there are.
+/// The first findings of a program, each with the path that shows it, and the number of the others.
 #[derive(Debug, Drop)]
 pub struct ShownFindings {
-    /// The first findings.
+    /// The first findings, in order of task, code index, rule and register.
     pub list: Vec<ShownFinding>,
-    /// How many findings follow these.
+    /// The number of findings after these.
     pub more: usize,
 }
 
 impl ShownFindings {
-    /// Whether nothing was found.
+    /// Whether the program has no findings: the marks are sound.
     pub fn is_empty(&self) -> bool
         ensures { (result ≡ true) ↔ ((self.now.list.items ≡ []) × (self.now.more ≡ 0)) }
     {
@@ -58,8 +57,8 @@ fn found(alloc: Global, program: &Program, query: &Query) -> Result<Option<Vec<u
     }
 }
 
-/// A shortest path that shows a finding: `None` exactly where its rule concerns masks or targets
-/// alone. The finding is one that the checker has with the program's least certificate.
+/// A shortest path that shows a finding, as the code indices that it visits: `None` exactly where the finding's
+/// rule concerns masks or targets alone. The checker has the finding with the program's least certificate.
 ///
 /// # Errors
 ///
@@ -81,12 +80,12 @@ pub fn path_of(
     }
 }
 
-/// What is wrong with a program's marks: the first findings in order of task, index, rule and register, at
-/// most `most` of them, each with a shortest path that shows it, and how many more there are. The findings
-/// are those of `least`, the least certificate, so there is none exactly where the marks are sound.
+/// The first findings of a program's marks, at most `most` of them, in order of task, code index, rule and
+/// register, each with a shortest path that shows it, and the number of the others. They are findings with
+/// `least`, the least certificate, so there is none exactly where the marks are sound.
 ///
-/// Findings that are not shown are counted, task by task, without looking for a path: the memory for them is that
-/// of one task's findings.
+/// Findings that are not shown are counted, task by task, without looking for a path: they take no more memory
+/// than one task's findings.
 ///
 /// # Errors
 ///

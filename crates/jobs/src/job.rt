@@ -1,59 +1,59 @@
-//! What the program is to do, and with which files.
+//! A job of the program, with its files.
 
 use crate::ranges::PredictionList;
 use limits::ranges::{Budget, Units, Workers};
 use text_pieces::text::Text;
 
-/// Where a job takes the certificate of its program from.
+/// The source of the certificate that a job uses.
 #[derive(Clone, Copy, Debug, PartialEq, Eq)]
 pub enum CertificateSource {
     /// From a file.
     File,
-    /// From no file: the job makes the least certificate of the program as it stands.
+    /// No file: the job makes the least certificate of the program text that it is given.
     Least,
 }
 
-/// What `annotate` writes.
+/// The text that `annotate` writes.
 #[derive(Clone, Copy, Debug, PartialEq, Eq)]
 pub enum Emit {
-    /// The proposed program.
+    /// The program with the proposed marks, in canonical text.
     Text,
-    /// The certificate of the proposed program.
+    /// The certificate of that program.
     Cert,
-    /// The certificate of the program as it stands.
+    /// The least certificate of the given program, with its own marks.
     Keep,
     /// The author's own text, with the proposed create masks and forward bits.
     Marks,
 }
 
-/// How `explain` lays out its report.
+/// The layout of the report of `explain`.
 #[derive(Clone, Copy, Debug, PartialEq, Eq)]
 pub enum Format {
     /// Lines for a person, in the form that compilers use.
     Text,
-    /// A log in SARIF 2.1.0, for machines.
+    /// A log in SARIF 2.1.0, for tools.
     Sarif,
-    /// An object in JSON on each line, for machines.
+    /// An object of JSON on each line, for tools.
     Json,
 }
 
-/// What `explain` does about marks that are right but cost speed.
+/// The treatment by `explain` of marks that are right but cost speed.
 #[derive(Clone, Copy, Debug, PartialEq, Eq)]
 pub enum Warnings {
-    /// Nothing.
+    /// No warnings.
     Silent,
-    /// It warns of them; the status stays 0.
+    /// Warnings; the status stays 0.
     Told,
-    /// It warns of them, and then the status is 1.
+    /// Warnings, which make the status 1.
     AsErrors,
 }
 
-/// How `check` lays out its report.
+/// The layout of the report of `check`.
 #[derive(Clone, Copy, Debug, PartialEq, Eq)]
 pub enum CheckFormat {
     /// A line for each finding, and one for the verdict.
     Text,
-    /// An object in JSON on each line, for machines.
+    /// An object of JSON on each line, for tools.
     Json,
 }
 
@@ -68,16 +68,41 @@ pub enum Colors {
     Never,
 }
 
-/// How the verdict of a strict replay is written.
+/// The layout of the verdict of `replay --strict`.
 #[derive(Clone, Copy, Debug, PartialEq, Eq)]
 pub enum VerdictFormat {
     /// Lines for a person.
     Text,
-    /// An object in JSON.
+    /// An object of JSON, for tools.
     Json,
 }
 
-/// What `run` writes for a run.
+/// How a table is laid out.
+#[derive(Clone, Copy, Debug, PartialEq, Eq)]
+pub enum TableFormat {
+    /// In columns, for a person.
+    Text,
+    /// As comma separated values, for spreadsheets and scripts.
+    Csv,
+}
+
+/// Steps of a run, from one to another, which is not before it; the first step of a run is 1. What is beyond the run's end
+/// is left out.
+#[derive(Clone, Copy, Debug, PartialEq, Eq)]
+pub struct StepRange {
+    /// The first of them.
+    pub first: u32,
+    /// The last of them.
+    pub last: u32,
+}
+
+/// All steps of a run.
+pub const ALL_STEPS: StepRange = StepRange {
+    first: 1,
+    last: u32::MAX,
+};
+
+/// The text that `run` writes for a run.
 #[derive(Clone, Copy, Debug, PartialEq, Eq)]
 pub enum RunEmit {
     /// The output words, and how the run ended.
@@ -86,53 +111,56 @@ pub enum RunEmit {
     Script,
     /// The history with what each event did, as a script that `replay --strict` judges.
     ScriptWithValues,
-    /// How often each task was assigned, how that ended, and how much of its work was useful.
-    Summary,
+    /// How often each task was assigned, how that ended, and how much of its work was useful, as a table.
+    Summary(TableFormat),
     /// The run as a picture, in SVG, with a column for each event.
     Picture,
-    /// The run as a picture, in SVG, with a column for each step: of a run in steps.
-    StepPicture,
+    /// These steps of the run as a picture, in SVG, with a column for each step: of a run in steps.
+    StepPicture(StepRange),
     /// Each event of the history with what it changed.
     Trace,
-    /// Each event of the history with what it changed, in JSON, an object on each line, for machines.
+    /// Each event of the history with what it changed, in JSON, an object on each line, for tools.
     Json,
-    /// How many steps each task waited, where, and for what: of a run in steps.
-    Waits,
-    /// What each unit does in each step, as a value change dump: of a run in steps.
+    /// How many steps each task waited, where, and for what, as a table: of a run in steps.
+    Waits(TableFormat),
+    /// What each unit does in each step, as a Value Change Dump (IEEE 1364): of a run in steps.
     Waveform,
-    /// The tasks on each unit as a timeline, in the JSON that viewers of traces read.
+    /// The tasks on each unit as a timeline, in the Trace Event Format, which Perfetto opens.
     Timeline,
+    /// Each instruction from where it is executed to where its task ends, as a log that the pipeline viewer Konata reads: of a
+    /// run in steps.
+    Pipeline,
 }
 
-/// What `replay` writes for a script.
+/// The text that `replay` writes for a script.
 #[derive(Clone, Copy, Debug, PartialEq, Eq)]
 pub enum ReplayEmit {
-    /// What the machine answers to each event, and how it then stands.
+    /// What the machine answers to each event, and how it is after them.
     Answers,
-    /// How often each task was assigned, how that ended, and how much of its work was useful.
-    Summary,
+    /// How often each task was assigned, how that ended, and how much of its work was useful, as a table.
+    Summary(TableFormat),
     /// The events that were allowed as a picture, in SVG.
     Picture,
     /// Each event of the script with what the machine answers to it, and what it changed.
     Trace,
-    /// Each event of the script with the answer and the change, in JSON, an object on each line, for machines.
+    /// Each event of the script with the answer and the change, in JSON, an object on each line, for tools.
     Json,
-    /// The events that were allowed as a timeline, in the JSON that viewers of traces read.
+    /// The events that were allowed as a timeline, in the Trace Event Format, which Perfetto opens.
     Timeline,
-    /// How the machine stands after the events, and each of its units.
+    /// The state of the machine after the events, and of each of its units.
     State,
 }
 
-/// How `curve` lays out the results of its runs.
+/// The layout of the results of `curve`.
 #[derive(Clone, Copy, Debug, PartialEq, Eq)]
 pub enum CurveEmit {
     /// A table with a row for each run.
-    Table,
+    Table(TableFormat),
     /// A picture of the runs, in SVG.
     Picture,
 }
 
-/// How `demonstrate` writes a run that shows what a wrong mark does.
+/// The form in which `demonstrate` writes a run that shows the harm of a wrong mark.
 #[derive(Clone, Copy, Debug, PartialEq, Eq)]
 pub enum DemonstrateEmit {
     /// Its events, as a script, and what they show.
@@ -141,14 +169,14 @@ pub enum DemonstrateEmit {
     Picture,
 }
 
-/// How `run` guesses the next task after a running one (the paper, section 2.1, leaves it open).
+/// How the sequencer of `run` predicts the task after a running one (the paper, section 2.1, leaves it open).
 #[derive(Debug, Drop)]
 pub enum Prediction {
     /// The first target.
     First,
     /// The last target.
     Last,
-    /// The targets at these positions, over and over.
+    /// The targets at these positions, one after another, over and over.
     List(PredictionList),
 }
 
@@ -161,10 +189,10 @@ pub enum Schedule {
     Steps,
 }
 
-/// One job of the program.
+/// One job of the program, with all that it takes but the texts of its files.
 #[derive(Debug, Drop)]
 pub enum Job {
-    /// Runs the program on the plain machine, at most this many instructions.
+    /// Runs the program on the sequential machine, at most `budget` instructions.
     Seq {
         budget: Budget,
     },
@@ -173,7 +201,7 @@ pub enum Job {
         /// Whether its instructions are listed instead, each with its address and mask.
         listing: bool,
     },
-    /// Proposes annotations, or certifies those that stand.
+    /// Proposes marks, or makes the certificate of the given ones.
     Annotate {
         emit: Emit,
     },
@@ -192,7 +220,7 @@ pub enum Job {
         /// Whether the lines for a person have colours.
         colors: Colors,
     },
-    /// Checks the program against its certificate.
+    /// Checks the marks of the program with its certificate, by this many threads.
     Check {
         certificate: CertificateSource,
         workers: Workers,
@@ -207,7 +235,8 @@ pub enum Job {
         until: Option<Budget>,
     },
     /// Applies the events of a script with expectations to a machine of this many units, up to the first that is not
-    /// allowed or does not do what is expected; or, if the script must be complete, does what its line does not list.
+    /// allowed or does not do what is expected; where `is_complete`, also up to the first that does what its line does not
+    /// list.
     ReplayStrictly {
         certificate: CertificateSource,
         units: Units,
@@ -247,7 +276,7 @@ impl Job {
     ghost use Rattle.std.specs.Prelude.{◌≡◌};
     ghost use Rattle.jobs.specs.Files.{has_certificate, has_script};
 
-    /// Whether the job has a file with a certificate beside its program.
+    /// Whether the job reads a certificate from a file.
     pub fn has_certificate(&self) -> bool
         ensures { result ≡ has_certificate self.now }
     {
@@ -264,7 +293,7 @@ impl Job {
         }
     }
 
-    /// Whether the job has an event script.
+    /// Whether the job reads an event script.
     pub fn has_script(&self) -> bool
         ensures { result ≡ has_script self.now }
     {
@@ -277,7 +306,7 @@ impl Job {
     }
 }
 
-/// The names of the job's files; a file that the job does not use is empty.
+/// The names of a job's files; empty for a file that the job does not use.
 #[derive(Debug, Drop)]
 pub struct Paths {
     /// The program text.
@@ -288,7 +317,7 @@ pub struct Paths {
     pub script: String,
 }
 
-/// The bytes of the job's files; a file that the job does not use is empty.
+/// The bytes of a job's files; empty for a file that the job does not use.
 #[derive(Debug, Drop)]
 pub struct Texts {
     /// The name that pictures and lines of JSON give the program; they give none where it is empty.

@@ -1,5 +1,6 @@
-//! The jobs of the program: what each is to do, with which files, and the numbers that it takes, each
-//! with its range in its type.
+//! The jobs of the program: what each is to do, with which files, and the numbers that it takes.
+//!
+//! Each number has its range in its type.
 #![tactic(auto)]
 
 pub mod job;

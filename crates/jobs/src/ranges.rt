@@ -3,13 +3,14 @@ ghost use Rattle.std.specs.Prelude.{◌≡◌, ◌≤◌, ◌↔◌, IsSome, IfS
 
 use std::marker::Model;
 
-/// The most numbers in a list of predictions.
+/// The most numbers that a list of predictions may have.
 pub const MOST_PREDICTIONS: usize = 64;
 
-/// The greatest number in a list of predictions: the last of 16 targets.
+/// The greatest number in a list of predictions: the position, from 0, of the last of 16 targets.
 pub const GREATEST_PREDICTION: u32 = 15;
 
-/// The list of `--predict`: the positions of targets, one after another, 1 to 64 numbers, each 0..=15.
+/// The list of `--predict`: the positions of targets, from 0, in the order in which they are used; 1 to 64 numbers, each
+/// 0..=15.
 #[derive(Debug, Drop)]
 pub struct PredictionList {
     numbers: Vec<u32>,
@@ -28,7 +29,7 @@ impl Model for PredictionList {
 impl PredictionList {
     ghost use Rattle.std.specs.Prelude.{List, length, All};
 
-    /// These numbers; `None` where there are none or more than 64, or one is above 15.
+    /// The list of these numbers; `None` where there are none or more than 64, or one is above 15.
     pub fn new(numbers: Vec<u32>) -> Option<PredictionList>
         ensures some { IsSome result ↔ ((1 ≤ length numbers.items) × (length numbers.items ≤ 64)
             × All (λ n. n ≤ 15) numbers.items) }
@@ -50,7 +51,7 @@ impl PredictionList {
         self.numbers.as_slice()
     }
 
-    /// The numbers as a `Vec`; takes no memory.
+    /// The numbers as a `Vec`, in order; takes no memory.
     pub fn into_vec(self) -> Vec<u32>
         ensures value { result.items ≡ self }
     {

@@ -1,4 +1,4 @@
-//! A text of JSON that grows token by token. An error of a call means that memory was refused.
+//! A JSON text that grows token by token; an error of a call means that memory was refused.
 #![tactic(auto)]
 
 ghost use Rattle.std.specs.Prelude.{◌≡◌, []};
@@ -7,10 +7,10 @@ use json::Writer;
 use shown_names::letters::is_readable;
 use std::alloc::{AllocError, Global};
 
-/// What a call that writes returns: an error means that memory was refused.
+/// The result of a call that writes: `AllocError` where memory was refused; the text may then lack the rest.
 pub type Written = Result<(), AllocError>;
 
-/// The text.
+/// A JSON text that is being written, token after token.
 #[derive(Drop)]
 pub struct JsonText {
     alloc: Global,
@@ -27,7 +27,7 @@ impl JsonText {
         }
     }
 
-    /// The text.
+    /// The text written so far.
     pub fn into_string(self) -> String {
         let JsonText { out, .. } = self;
         match String::from_utf8(out.into_inner()) {
@@ -36,7 +36,12 @@ impl JsonText {
         }
     }
 
-    /// The text as a line. A character that steers a terminal stands as its code, wherever a name has one.
+    /// The text as one line, which ends with LF. A character that steers a terminal, or that nobody sees, is
+    /// written as its `\u` code.
+    ///
+    /// # Errors
+    ///
+    /// `AllocError` where memory was refused.
     pub fn into_line(self) -> Result<Vec<u8>, AllocError> {
         let JsonText { alloc, out } = self;
         let mut line = with_codes(alloc, out.into_inner())?;
@@ -45,62 +50,107 @@ impl JsonText {
     }
 
     /// Begins an object.
+    ///
+    /// # Errors
+    ///
+    /// `AllocError` where memory was refused.
     pub fn begin(&mut self) -> Written {
         self.out.begin_object()
     }
 
-    /// Ends an object.
+    /// Ends the object that was begun last.
+    ///
+    /// # Errors
+    ///
+    /// `AllocError` where memory was refused.
     pub fn end(&mut self) -> Written {
         self.out.end_object()
     }
 
-    /// Begins a member; its value comes next.
+    /// Begins a member of the object; its value comes next.
+    ///
+    /// # Errors
+    ///
+    /// `AllocError` where memory was refused.
     pub fn key(&mut self, name: &str) -> Written {
         self.out.key(name)
     }
 
     /// Begins a member that is an object.
+    ///
+    /// # Errors
+    ///
+    /// `AllocError` where memory was refused.
     pub fn object(&mut self, name: &str) -> Written {
         self.out.key(name)?;
         self.out.begin_object()
     }
 
-    /// Begins a member that is a list.
+    /// Begins a member that is an array.
+    ///
+    /// # Errors
+    ///
+    /// `AllocError` where memory was refused.
     pub fn list(&mut self, name: &str) -> Written {
         self.out.key(name)?;
         self.out.begin_array()
     }
 
-    /// Ends a list.
+    /// Ends the array that was begun last.
+    ///
+    /// # Errors
+    ///
+    /// `AllocError` where memory was refused.
     pub fn end_list(&mut self) -> Written {
         self.out.end_array()
     }
 
-    /// Adds a member that is a text.
+    /// Adds a member that is a string; `text` is written with JSON's escapes.
+    ///
+    /// # Errors
+    ///
+    /// `AllocError` where memory was refused.
     pub fn text(&mut self, name: &str, text: &str) -> Written {
         self.out.key(name)?;
         self.out.string(text)
     }
 
     /// Adds a member that is a number.
+    ///
+    /// # Errors
+    ///
+    /// `AllocError` where memory was refused.
     pub fn number(&mut self, name: &str, value: usize) -> Written {
         self.out.key(name)?;
         self.out.u64(value as u64)
     }
 
-    /// Adds a member that is true or false.
+    /// Adds a member that is `true` or `false`.
+    ///
+    /// # Errors
+    ///
+    /// `AllocError` where memory was refused.
     pub fn boolean(&mut self, name: &str, value: bool) -> Written {
         self.out.key(name)?;
         self.out.boolean(value)
     }
 
-    /// Adds a member that is absent.
+    /// Adds a member that is `null`.
+    ///
+    /// # Errors
+    ///
+    /// `AllocError` where memory was refused.
     pub fn null(&mut self, name: &str) -> Written {
         self.out.key(name)?;
         self.out.null()
     }
 
-    /// Adds a member that is a message: a sentence, which gets its period if it is no question.
+    /// Adds a member that is a message: an object whose `text` is the sentence, with a period if it is no
+    /// question.
+    ///
+    /// # Errors
+    ///
+    /// `AllocError` where memory was refused.
     pub fn message(&mut self, name: &str, sentence: &str) -> Written {
         let period = if sentence.ends_with('?') { "" } else { "." };
         let text = format!(in self.alloc; "{sentence}{period}")?;

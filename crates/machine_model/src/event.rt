@@ -3,8 +3,8 @@
 use mips_instructions::number::Reg;
 use mips_plain::outcome::Trap;
 
-/// One atomic step of the machine. A position k counts from the head of the queue, which is 0; a
-/// task is its number among the program's tasks.
+/// One atomic step of the machine, by one unit. A position k counts units from the head of the queue, which is
+/// 0; a task is its number, from 0, among the program's tasks.
 #[derive(Clone, Copy, Debug, PartialEq, Eq)]
 pub enum Event {
     /// A free unit takes this task, after the tail.
@@ -29,43 +29,42 @@ pub enum Event {
 /// Equal events in a row, as a history keeps them.
 #[derive(Clone, Copy, Debug, PartialEq, Eq)]
 pub struct EventRun {
-    /// The event.
+    /// The event that is repeated.
     pub event: Event,
-    /// How many times it occurs in a row.
+    /// The number of times that it occurs in a row.
     pub count: u32,
 }
 
-/// What stays of a retired task: its number, the address at which it stopped, and how many
-/// instructions it executed.
+/// What stays of a retired task.
 #[derive(Clone, Copy, Debug, PartialEq, Eq)]
 pub struct Commit {
-    /// The number of the task.
+    /// The number of the task, from 0.
     pub task: u32,
-    /// The address at which it stopped, in bytes: that of the next instruction of the run.
+    /// The address in bytes at which it stopped: the next instruction of the run.
     pub exit: u32,
-    /// How many instructions it executed.
+    /// The number of instructions that it executed.
     pub count: u32,
 }
 
-/// Where a unit stands.
+/// The place of a unit: before an instruction of its task, or stopped.
 #[derive(Clone, Copy, Debug, PartialEq, Eq)]
 pub enum Spot {
-    /// Before the instruction at this index.
+    /// Before the instruction at this code index.
     Inside(u32),
-    /// After an exit of its task, at this address.
+    /// After an exit of its task, at this address in bytes.
     Stopped(u32),
 }
 
-/// How a run of the machine stands.
+/// Whether a run of the machine continues or how it ended.
 #[derive(Clone, Copy, Debug, PartialEq, Eq)]
 pub enum Standing {
-    /// It continues.
+    /// The run continues.
     Running,
-    /// The head reached a `halt`.
+    /// The head executed a `halt`.
     Halted,
-    /// The head met a trap.
+    /// The head met this trap.
     Trapped(Trap),
-    /// The head stopped at this address, which its task does not list.
+    /// The head stopped at this address, in bytes, at which no target of its task begins.
     Unlisted(u32),
 }
 

@@ -8,7 +8,7 @@ impl Refused {
     ghost use Rattle.std.specs.Prelude.{◌≡◌};
     ghost use Rattle.machine_model.specs.RefusedText.{number_and_name};
 
-    /// The number and the name of the refusal.
+    /// The number, 1..=17, and the name of the refusal.
     pub fn number_and_name(&self) -> (u8, &'static str)
         ensures number { result.0 ≡ (number_and_name self.now).0 }
         ensures name { result.1.now ≡ (number_and_name self.now).1 }

@@ -18,8 +18,8 @@ use std::marker::Model;
 use task_descriptor::descriptor::Descriptor;
 use task_descriptor::program::Program;
 
-/// Whether the rules find nothing. Then the program's annotations are sound, whoever made the
-/// certificate. Takes no memory.
+/// Whether the rules find nothing: then the program is accepted, and its annotations are sound, whoever made
+/// the certificate. Takes no memory from the allocator.
 // Not inlined, so that only a call takes the stack that the survey needs, some 170 kilobytes.
 #[inline(never)]
 pub fn accepts(program: &Program, cert: &Cert) -> bool
@@ -46,8 +46,8 @@ fn accepts_surveyed(survey: &Survey<'_>, cert: &Cert) -> bool
     true
 }
 
-/// Whether the rules find nothing in one task of a surveyed program; true also for a task number that does
-/// not exist. Takes no memory.
+/// Whether the rules find nothing in task `task`, from 0, of a surveyed program; true also for a task number
+/// that does not exist. Takes no memory.
 pub fn accepts_task(survey: &Survey<'_>, cert: &Cert, task: u32) -> bool
     ensures { (result ≡ true) ↔ (rules survey.now cert.now task ≡ []) }
 {
@@ -123,7 +123,7 @@ fn is_place_right(
     }
 }
 
-/// A program with a certificate against which the rules find nothing.
+/// An accepted program: a program with a certificate against which the rules find nothing.
 #[derive(Debug, Drop)]
 pub struct Accepted {
     program: Program,
@@ -146,12 +146,11 @@ impl Accepted {
     ghost use Rattle.mark_checker.specs.Rules.{all_rules};
     ghost use Rattle.mark_checker.specs.Places.{Checked, IsAccepted};
 
-    /// Accepts the two exactly where the rules find nothing; otherwise both are handed back. Takes no
-    /// memory.
+    /// The two as an accepted program. Takes no memory from the allocator.
     ///
     /// # Errors
     ///
-    /// The program and the certificate, unchanged, where the rules find something.
+    /// The program and the certificate, unchanged, exactly where the rules find something.
     pub fn new(program: Program, cert: Cert) -> Result<Accepted, (Program, Cert)>
         ensures { MatchResult result
             (λ accepted. (all_rules program cert ≡ []) × (accepted.program ≡ program) × (accepted.cert ≡ cert))
@@ -164,7 +163,7 @@ impl Accepted {
         }
     }
 
-    /// The program. Its annotations are sound.
+    /// The program; its annotations are sound.
     pub fn program(&self) -> &Program
         ensures value { result.now ≡ self.now.program }
         ensures accepted { IsAccepted self.now.program self.now.cert }
@@ -173,7 +172,7 @@ impl Accepted {
         &self.program
     }
 
-    /// The certificate.
+    /// The certificate against which the program was accepted.
     pub fn cert(&self) -> &Cert
         ensures value { result.now ≡ self.now.cert }
         ensures accepted { IsAccepted self.now.program self.now.cert }

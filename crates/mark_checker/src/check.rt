@@ -17,8 +17,8 @@ use std::alloc::{AllocError, Global};
 use task_descriptor::descriptor::Descriptor;
 use task_descriptor::program::Program;
 
-/// The findings of one task, in order of index, rule and register; none for a task number that does not
-/// exist.
+/// The findings of task `task`, from 0, in order of code index, rule and register; none for a task number that
+/// does not exist.
 ///
 /// # Errors
 ///
@@ -35,8 +35,9 @@ pub fn check_task(
     check_surveyed(alloc, &surveyed.survey(), cert, task)
 }
 
-/// The findings of one task of a surveyed program, in order of index, rule and register; none for a task
-/// number that does not exist. One survey serves all tasks, so checking a task costs only its list's length.
+/// The findings of task `task`, from 0, of a surveyed program, in order of code index, rule and register; none
+/// for a task number that does not exist. One survey serves all tasks, so checking a task costs only its list's
+/// length.
 ///
 /// # Errors
 ///
@@ -54,7 +55,7 @@ pub fn check_surveyed(
     Ok(list)
 }
 
-/// The findings of all tasks, one task after another.
+/// The findings of all tasks, task 0 first, in order of task, code index, rule and register.
 ///
 /// # Errors
 ///

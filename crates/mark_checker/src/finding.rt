@@ -3,8 +3,9 @@
 use mips_instructions::number::Reg;
 use std::marker::Model;
 
-/// The twelve rules (the create mask, forward, release and stop marks are those of Sohi, Breach,
-/// Vijaykumar, "Multiscalar Processors", ISCA 1995, section 2.2; the rules on masks are this project's choice).
+/// The twelve rules on a task's places. The create mask, forward bits, releases and stop bits are the paper's
+/// (Sohi, Breach, Vijaykumar, "Multiscalar Processors", ISCA 1995, section 2.2); the rules on masks are this
+/// project's choice.
 #[derive(Clone, Copy, Debug, PartialEq, Eq)]
 pub enum Rule {
     /// 1: the task's entry has no mask.
@@ -58,20 +59,20 @@ impl Rule {
     }
 }
 
-/// One finding.
+/// A rule that is broken, with the task, the instruction and the register.
 #[derive(Clone, Copy, Debug, PartialEq, Eq)]
 pub struct Finding {
-    /// The task's number.
+    /// The task's number, from 0.
     pub task: u32,
-    /// The index of the instruction.
+    /// The code index of the instruction.
     pub index: u32,
-    /// The rule.
+    /// The rule that is broken.
     pub rule: Rule,
-    /// The register, for rules 3 to 8.
+    /// The register, 0..=33, for rules 3 to 8; `None` for the others.
     pub reg: Option<Reg>,
 }
 
-/// A list of findings, in order of task, index, rule and register.
+/// A list of findings, in order of task, code index, rule and register.
 #[derive(Debug, Drop)]
 pub struct Findings {
     items: Vec<Finding>,
@@ -89,21 +90,21 @@ impl Model for Findings {
 impl Findings {
     ghost use Rattle.std.specs.Prelude.{◌≡◌};
 
-    /// The findings of the list.
+    /// The findings of a list, in its order.
     pub fn new(items: Vec<Finding>) -> Findings
         ensures { result ≡ items.items }
     {
         Findings { items }
     }
 
-    /// The findings.
+    /// The findings, in their order.
     pub fn as_slice(&self) -> &[Finding]
         ensures { result.now ≡ self.now }
     {
         &self.items
     }
 
-    /// The list of the findings.
+    /// The findings as a `Vec`, in their order.
     pub fn into_vec(self) -> Vec<Finding>
         ensures { result.items ≡ self }
     {
@@ -112,7 +113,7 @@ impl Findings {
     }
 }
 
-/// What the rules report for a whole program and its certificate.
+/// The checker's answer for a whole program and its certificate.
 #[derive(Debug, Drop)]
 pub struct Verdict {
     /// The findings; none where the program is accepted.

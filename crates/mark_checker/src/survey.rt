@@ -12,9 +12,9 @@ pub(crate) const MOST_PLACES: usize = 4096;
 /// How many indices there are, including the one after the longest code.
 pub(crate) const MOST_INDICES: usize = 4097;
 
-/// A program with what the rules look at in each of its instructions, and with the indices at which its
-/// tasks begin, so that several tasks can be checked without looking at the program again. A contract sees
-/// it as the program.
+/// A program with what the rules look at in each of its instructions, and with the code indices at which its
+/// tasks begin, so that several tasks can be checked without looking at the program again. A contract sees it
+/// as the program.
 #[derive(Drop)]
 pub struct Survey<'a> {
     program: &'a Program,
@@ -52,7 +52,7 @@ impl<'a> Survey<'a> {
         }
     }
 
-    /// The program.
+    /// The surveyed program.
     pub fn program(&self) -> &'a Program
         ensures { result.now ≡ self.now }
     {
@@ -76,7 +76,7 @@ impl<'a> Survey<'a> {
     }
 }
 
-/// A program and the room of its survey: some 170 kilobytes of the heap. A contract sees it as the program.
+/// A program and the memory of its survey, some 170 kilobytes of the heap. A contract sees it as the program.
 #[derive(Drop)]
 pub struct Surveyed<'a> {
     program: &'a Program,
@@ -120,7 +120,7 @@ impl<'a> Surveyed<'a> {
         })
     }
 
-    /// The survey.
+    /// The survey, borrowed from this memory.
     pub fn survey(&self) -> Survey<'_>
         ensures { result ≡ self.now }
     {

@@ -1,4 +1,4 @@
-//! The labels by which instructions are named.
+//! The labels by which messages name instructions.
 
 use crate::mark_place::line_in;
 use crate::subject::Made;
@@ -8,8 +8,8 @@ use program_tokens::token::{Token, TokenFault};
 use std::alloc::{AllocError, Global};
 use task_descriptor::name::Name;
 
-/// The label at the front of the line of this number, or one that is all of it; a line that has a fault has none. Only a line
-/// with a colon can have one.
+/// The label at the front of the line of this number, or one that is all of it; a line that has a fault has none. Only a
+/// line with a colon can have one.
 fn label_in(alloc: Global, rows: &[&[u8]], number: u32, alone: bool) -> Made<Option<Name>> {
     let line = line_in(rows, number);
     if !line.contains(&b':') {
@@ -27,7 +27,12 @@ fn label_in(alloc: Global, rows: &[&[u8]], number: u32, alone: bool) -> Made<Opt
     }
 }
 
-/// The labels of the instructions that stand at these places: that of the line, or of the line above.
+/// The labels of the instructions at these positions of a text, in order: of each its line's label, or else the label that
+/// is alone on the line above. Only the first of the instructions of a line has one.
+///
+/// # Errors
+///
+/// `AllocError` where memory was refused.
 pub fn labels_of(alloc: Global, rows: &[&[u8]], code: &[Position]) -> Made<Vec<Option<Name>>> {
     let mut labels = Vec::new(alloc);
     let mut before = 0;

@@ -1,10 +1,10 @@
-//! Where the marks of an instruction stand.
+//! The places of an instruction's marks in its line.
 
 use crate::parts::{first_of, rest_after};
 use crate::subject::column_after;
 use diagnostics::diagnostic::Span;
 
-/// A line; empty where there is none.
+/// The line of this number, from 1; empty where there is none.
 pub fn line_in<'a>(rows: &[&'a [u8]], number: u32) -> &'a [u8] {
     match rows.get(number.saturating_sub(1) as usize) {
         Some(line) => line,
@@ -25,7 +25,8 @@ fn mark_in(letter: u8, bytes: &[u8]) -> Option<usize> {
         .position(|two| matches!(two, [b'!', other] if *other == letter))
 }
 
-/// The first mark of an instruction with this letter, and the blank before it, if there is one.
+/// The place of an instruction's first mark that begins with `!` and this letter, these two bytes, and of the blank before
+/// it; `None` where there is no such mark. `span` is the instruction's place.
 pub fn mark_span(letter: u8, rows: &[&[u8]], span: Span) -> Option<Span> {
     let bytes = bytes_at(rows, span);
     let before = mark_in(letter, bytes)?;
@@ -41,17 +42,17 @@ pub fn mark_span(letter: u8, rows: &[&[u8]], span: Span) -> Option<Span> {
     })
 }
 
-/// How many bytes stand before the stop of an instruction, if it has one.
+/// How many bytes of an instruction are before its stop; `None` if it has no stop.
 pub fn stop_mark(rows: &[&[u8]], span: Span) -> Option<usize> {
     mark_in(b's', bytes_at(rows, span))
 }
 
-/// How many bytes stand before the first mark of an instruction.
+/// How many bytes of an instruction are before its first mark; `None` if it has no mark.
 pub fn first_mark(rows: &[&[u8]], span: Span) -> Option<usize> {
     bytes_at(rows, span).iter().position(|byte| *byte == b'!')
 }
 
-/// An instruction up to its marks.
+/// The place of an instruction without its marks.
 pub fn operands_span(rows: &[&[u8]], span: Span) -> Span {
     Span {
         line: span.line,

@@ -13,7 +13,7 @@ use diagnostics::words;
 use diagnostics::words::Words;
 use std::alloc::Global;
 
-/// What to do, in words alone.
+/// A help with a message alone.
 pub fn in_words(alloc: Global, message: Words) -> Help {
     let replacements = Listed::new(Vec::new(alloc));
     Help {
@@ -22,7 +22,11 @@ pub fn in_words(alloc: Global, message: Words) -> Help {
     }
 }
 
-/// What to do: a text to write in place of a part of the program text.
+/// A help that writes `text` in place of one part of the program text.
+///
+/// # Errors
+///
+/// `AllocError` where memory was refused.
 pub fn by_text(alloc: Global, message: Words, span: Span, text: Words) -> Made<Help> {
     let mut replacements = Vec::new(alloc);
     replacements.push(Replacement { span, text })?;
@@ -32,13 +36,21 @@ pub fn by_text(alloc: Global, message: Words, span: Span, text: Words) -> Made<H
     })
 }
 
-/// What to do: a list of a `.task` written anew.
+/// A help that writes `text` at `span`, and says so: `write TEXT`.
+///
+/// # Errors
+///
+/// `AllocError` where memory was refused.
 pub fn written(alloc: Global, span: Span, text: Words) -> Made<Help> {
     let message = words!(in alloc; "write {text}")?;
     by_text(alloc, message, span, text)
 }
 
-/// That a part of the text is taken out, if there is one.
+/// The replacement that removes a part of the program text; none where there is no such part.
+///
+/// # Errors
+///
+/// `AllocError` where memory was refused.
 pub fn take_out(alloc: Global, span: Option<Span>) -> Made<Vec<Replacement>> {
     let mut list = Vec::new(alloc);
     if let Some(span) = span {
@@ -48,7 +60,7 @@ pub fn take_out(alloc: Global, span: Option<Span>) -> Made<Vec<Replacement>> {
     Ok(list)
 }
 
-/// A note about an instruction.
+/// A note at an instruction, without a path.
 pub fn note_at(subject: &Subject, index: u32, message: Words) -> Note
     ensures { result.path ≡ [] }
 {
@@ -103,7 +115,11 @@ fn steps_of(subject: &Subject, path: &[u32]) -> Made<Vec<Span>>
     Ok(spans)
 }
 
-/// A note about an instruction, with a path that leads to it.
+/// A note at an instruction, with the lines of a path that leads to it.
+///
+/// # Errors
+///
+/// `AllocError` where memory was refused.
 pub fn path_note(subject: &Subject, index: u32, message: Words, path: &[u32]) -> Made<Note>
     ensures { IfOk result (λ note. note.path ≡ steps_of subject.now path.now) }
 {
@@ -125,7 +141,7 @@ fn first_or(index: u32, path: &[u32]) -> u32
     }
 }
 
-/// The last index of a path; of none, this one.
+/// The last index of a path; `index` where the path is empty.
 pub fn last_or(index: u32, path: &[u32]) -> u32 {
     match path.get(path.len().saturating_sub(1)) {
         Some(last) => *last,
@@ -133,7 +149,11 @@ pub fn last_or(index: u32, path: &[u32]) -> u32 {
     }
 }
 
-/// The way to what is wrong, unless it stands where the way begins.
+/// The note that shows the path to `index`; none where the path begins there or is empty.
+///
+/// # Errors
+///
+/// `AllocError` where memory was refused.
 #[tactic(auto, using(crate::proofs::Paths::alone, crate::proofs::Paths::none_yet))]
 pub fn way_notes(subject: &Subject, index: u32, path: &[u32]) -> Made<Vec<Note>>
     ensures { IfOk result (λ notes. paths notes.items ≡ way_paths subject.now index path.now) }
@@ -149,7 +169,11 @@ pub fn way_notes(subject: &Subject, index: u32, path: &[u32]) -> Made<Vec<Note>>
     Ok(notes)
 }
 
-/// The registers that pass a test, rising.
+/// The numbers, from 0 to 33, of the registers that pass a test, rising.
+///
+/// # Errors
+///
+/// `AllocError` where memory was refused.
 pub fn registers_where<F: Fn(u8) -> bool>(alloc: Global, test: F) -> Made<Vec<u8>>
     requires { (r : ℕ) → r < 34 → F.pre test r }
     ensures { IfOk result (λ list. (p : ℕ → Bool) → ((r : ℕ) → r < 34 → (b : Bool) → F.post test r b → b ≡ p r) → list.items ≡ which p) }
@@ -172,7 +196,11 @@ fn add_if(list: &mut Vec<u8>, register: u8, belongs: bool) -> Made<()>
     Ok(())
 }
 
-/// A list of registers.
+/// A list of registers as the text writes them, with commas; `-` where there are none.
+///
+/// # Errors
+///
+/// `AllocError` where memory was refused.
 pub fn registers_words(subject: &Subject, registers: &[u8]) -> Made<Words> {
     let [first, rest @ ..] = registers else {
         return Words::of(subject.alloc(), "-");
@@ -186,7 +214,11 @@ pub fn registers_words(subject: &Subject, registers: &[u8]) -> Made<Words> {
     Ok(Words::new(text))
 }
 
-/// An instruction: its label, else its index.
+/// The words for an instruction: its label, or else `@` and its index.
+///
+/// # Errors
+///
+/// `AllocError` where memory was refused.
 pub fn spot_words(subject: &Subject, index: u32) -> Made<Words> {
     match subject.label(index) {
         Some(label) => Words::of(subject.alloc(), label.as_str()),
@@ -194,8 +226,12 @@ pub fn spot_words(subject: &Subject, index: u32) -> Made<Words> {
     }
 }
 
-/// A place: the name of the task that begins there, else its label, else its line; what is no instruction by its index, or
-/// in words.
+/// The words for a place: the name of the task that begins there, or else its label, or else its line. The place after the
+/// last instruction is `the end of the program`, one further on is `@` and its index.
+///
+/// # Errors
+///
+/// `AllocError` where memory was refused.
 pub fn place_words(subject: &Subject, index: u32) -> Made<Words> {
     let alloc = subject.alloc();
     if let Some(task) = subject.task_at(index) {
@@ -215,7 +251,11 @@ pub fn place_words(subject: &Subject, index: u32) -> Made<Words> {
     words!(in alloc; "@{index}")
 }
 
-/// A list of places.
+/// A list of places in words, with commas; `-` where there are none.
+///
+/// # Errors
+///
+/// `AllocError` where memory was refused.
 pub fn places_words(subject: &Subject, places: &[u32]) -> Made<Words> {
     let [first, rest @ ..] = places else {
         return Words::of(subject.alloc(), "-");
@@ -230,7 +270,11 @@ pub fn places_words(subject: &Subject, places: &[u32]) -> Made<Words> {
     Ok(Words::new(text))
 }
 
-/// `targets=` with these places.
+/// The list of targets of a `.task` with these places: `targets=` and the places in words.
+///
+/// # Errors
+///
+/// `AllocError` where memory was refused.
 pub fn targets_words(subject: &Subject, places: &[u32]) -> Made<Words> {
     let places = places_words(subject, places)?;
     words!(in subject.alloc(); "targets={places}")
@@ -247,7 +291,12 @@ fn more_message(alloc: Global, more: usize, one: &str, many: &str) -> Made<Words
     }
 }
 
-/// Adds how many more there are, if there are more.
+/// Adds a note about the program that says how many more things there are, such as `3 more errors`; nothing if `more` is 0.
+/// `one` and `many` are the noun in the singular and in the plural.
+///
+/// # Errors
+///
+/// `AllocError` where memory was refused; what `list` then has is not stated.
 pub fn add_more(
     alloc: Global,
     list: &mut Vec<Diagnostic>,
@@ -271,7 +320,7 @@ pub fn add_more(
     Ok(())
 }
 
-/// The first items of a list, at most `most`.
+/// The first `most` items of a list, or all if there are fewer.
 pub fn first_of<T>(list: &[T], most: usize) -> &[T]
     ensures { result.now ≡ take most list.now }
 {
@@ -282,7 +331,7 @@ pub fn first_of<T>(list: &[T], most: usize) -> &[T]
     }
 }
 
-/// The items after the first `count`.
+/// The items after the first `count`; none if there are no more.
 pub fn rest_after<T>(list: &[T], count: usize) -> &[T]
     ensures { result.now ≡ drop count list.now }
 {

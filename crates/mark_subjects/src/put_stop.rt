@@ -1,4 +1,4 @@
-//! Stops and forward bits that are written anew, stops that are taken out, and the stop that may be forgotten.
+//! Replacements that write or remove stops and forward bits, and the stop that may be forgotten.
 
 ghost use Rattle.std.specs.Prelude.{◌≡◌};
 ghost use Rattle.mark_subjects.specs.Targets.{into, stop_by, missing_stop};
@@ -19,7 +19,11 @@ fn stop_width(stop: Stop) -> usize {
     }
 }
 
-/// A stop that is written after an instruction, or in place of the stop that is there.
+/// The replacement that writes the stop `word` in place of an instruction's stop, or after the instruction if it has none.
+///
+/// # Errors
+///
+/// `AllocError` where memory was refused.
 pub fn stop_put(subject: &Subject, index: u32, word: &str) -> Made<Replacement> {
     let stop = subject.stop(index);
     let span = subject.span(index);
@@ -38,7 +42,11 @@ pub fn stop_put(subject: &Subject, index: u32, word: &str) -> Made<Replacement> 
     })
 }
 
-/// That the stop of an instruction is taken out, with the blank before it, if there is one.
+/// The replacement that removes the stop of an instruction, with the blank before it; none if it has no stop.
+///
+/// # Errors
+///
+/// `AllocError` where memory was refused.
 pub fn stop_out(subject: &Subject, index: u32) -> Made<Vec<Replacement>> {
     let more = stop_width(subject.stop(index)).saturating_sub(2);
     let mark = mark_span(b's', subject.rows(), subject.span(index));
@@ -50,7 +58,11 @@ pub fn stop_out(subject: &Subject, index: u32) -> Made<Vec<Replacement>> {
     take_out(subject.alloc(), whole)
 }
 
-/// A forward bit that is written before the stop of an instruction, or after an instruction without one.
+/// The replacement that writes a forward bit before the stop of an instruction, or after an instruction without one.
+///
+/// # Errors
+///
+/// `AllocError` where memory was refused.
 pub fn bit_put(subject: &Subject, index: u32) -> Made<Replacement> {
     let span = subject.span(index);
     let (place, text) = match stop_mark(subject.rows(), span) {
@@ -70,7 +82,8 @@ pub fn bit_put(subject: &Subject, index: u32) -> Made<Replacement> {
     })
 }
 
-/// The task into which an inner edge of an instruction leads, a branch being taken or not.
+/// The task at whose entry an edge inside the task ends: the edge of a branch that is taken, or the one to the next
+/// instruction; `None` where no task begins there.
 pub fn into(subject: &Subject, index: u32, taken: bool) -> Option<u32>
     ensures { result ≡ into subject.now index taken }
 {
@@ -91,8 +104,8 @@ fn stop_by(onward: Option<u32>, taken: Option<u32>, stop: Stop, branch: bool) ->
     }
 }
 
-/// The stop that ends the task where an instruction goes on into tasks: of a branch without a stop, that of the edge that
-/// alone does so.
+/// The stop that ends the task where an instruction continues into tasks: `!st` or `!sn` for a branch without a stop that
+/// does so by one edge alone, else `!s`.
 pub fn missing_stop(subject: &Subject, index: u32) -> Stop
     ensures { result ≡ missing_stop subject.now index }
 {

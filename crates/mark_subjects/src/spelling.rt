@@ -10,10 +10,12 @@ use program_tokens::span::read_spans;
 use program_tokens::token::{Token, TokenFault};
 use std::alloc::{AllocError, Global};
 
-/// A register of the text, and how it is written there.
+/// A register of the text, with how it is written there.
 #[derive(Drop)]
 pub struct RegisterSpelling {
+    /// The register.
     pub register: Reg,
+    /// How it is written, such as `$8` or `$t0`.
     pub word: Words,
 }
 
@@ -66,7 +68,12 @@ fn numbered(alloc: Global, number: u8) -> Made<Words> {
     }
 }
 
-/// Each register as the text first writes it, register 0 first; by its number, or its name, where it is not written.
+/// The names of all registers, register 0 first: each as the text first writes it; where it does not, by its number, HI and
+/// LO as `$hi` and `$lo`.
+///
+/// # Errors
+///
+/// `AllocError` where memory was refused.
 pub fn names_in(alloc: Global, rows: &[&[u8]]) -> Made<Vec<Words>> {
     let mut spelled = Vec::new(alloc);
     for row in rows {

@@ -1,4 +1,4 @@
-//! A stop that may be forgotten on a path: a note on it, and what to do.
+//! A step on a path into a task, where a stop may be forgotten: a note on it, and what to do.
 
 ghost use Rattle.std.specs.Prelude.{◌≡◌, [], slice_get, IfOk};
 ghost use Rattle.mark_subjects.specs.Parts.{paths};
@@ -25,7 +25,7 @@ fn first_task(subject: &Subject, path: &[u32]) -> Option<u32>
     }
 }
 
-/// The first step of a path into a task's first instruction: the instruction that it leaves, and the task.
+/// The first step of a path into a task's entry: the instruction that it leaves, and the number of the task.
 #[tactic(auto, using(crate::proofs::PathSteps::step_found))]
 pub fn entered(subject: &Subject, path: &[u32]) -> Option<(u32, u32)>
     ensures { result ≡ entered subject.now path.now }
@@ -50,7 +50,7 @@ pub fn path_in(shown: &ShownFinding) -> &[u32]
     }
 }
 
-/// The first such step of the paths that show some findings.
+/// The first step into a task's entry on the paths that show some findings.
 pub fn first_entered(subject: &Subject, list: &[ShownFinding]) -> Option<(u32, u32)>
     ensures { result ≡ first_entered subject.now list.now }
 {
@@ -62,7 +62,11 @@ pub fn first_entered(subject: &Subject, list: &[ShownFinding]) -> Option<(u32, u
     None
 }
 
-/// The note on such a step, if there is one; it shows no path.
+/// The note at a step into a task that a stop may be meant there; none where there is no such step. It shows no path.
+///
+/// # Errors
+///
+/// `AllocError` where memory was refused.
 #[tactic(auto, using(crate::proofs::Paths::none_alone, crate::proofs::Paths::none_yet))]
 pub fn stop_note(subject: &Subject, task: u32, step: Option<(u32, u32)>) -> Made<Vec<Note>>
     ensures { IfOk result (λ notes. paths notes.items ≡ []) }
@@ -81,7 +85,7 @@ pub fn stop_note(subject: &Subject, task: u32, step: Option<(u32, u32)>) -> Made
     Ok(notes)
 }
 
-/// A stop as it is written.
+/// A stop as the text writes it; empty for none.
 pub fn stop_name(stop: Stop) -> &'static str {
     match stop {
         Stop::None => "",
@@ -151,7 +155,12 @@ fn end_put(subject: &Subject, task: u32, index: u32, into: u32) -> Made<(Words, 
     Ok((message, changes))
 }
 
-/// What to do where a task is to end before another.
+/// A help that lets a task end at an instruction, before it continues into the task `into`: by a stop and, where they are
+/// missing, by targets.
+///
+/// # Errors
+///
+/// `AllocError` where memory was refused.
 pub fn end_help(subject: &Subject, task: u32, index: u32, into: u32) -> Made<Help> {
     let (message, changes) = end_put(subject, task, index, into)?;
     Ok(Help {
@@ -160,14 +169,18 @@ pub fn end_help(subject: &Subject, task: u32, index: u32, into: u32) -> Made<Hel
     })
 }
 
-/// Whether the stop is the first thing to do.
+/// Whether the first advice at a step into a task is to end the task there.
 pub fn is_end_first(subject: &Subject, task: u32, step: (u32, u32)) -> bool
     ensures { result ≡ is_end_first subject.now task step }
 {
     (is_target(subject, task, step.1) || step.1 != task) && may_stop(subject, task, step.0)
 }
 
-/// What to do: first about a stop that may be forgotten before a task.
+/// A help that first advises to end a task at a step into another, where `is_end_first`; else `help`.
+///
+/// # Errors
+///
+/// `AllocError` where memory was refused.
 pub fn stop_or(subject: &Subject, task: u32, step: Option<(u32, u32)>, help: Help) -> Made<Help> {
     let Some(step) = step else {
         return Ok(help);

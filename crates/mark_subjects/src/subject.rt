@@ -1,4 +1,4 @@
-//! What diagnostics about marks are about.
+//! The subject of diagnostics about marks: a program with its text.
 
 use crate::label::labels_of;
 use crate::spelling::names_in;
@@ -20,10 +20,10 @@ use task_descriptor::name::Name;
 use task_descriptor::program::Program;
 use task_graph::edges::{ends_task, leads_to};
 
-/// What is made, where memory is not refused.
+/// The result of an operation that fails only where memory was refused.
 pub type Made<T> = Result<T, AllocError>;
 
-/// A program whose marks are judged, with its text and its least certificate.
+/// A program whose marks are judged, with its text, its least certificate, and what a walk over its calls sees.
 #[derive(Drop)]
 pub struct Subject<'a> {
     alloc: Global,
@@ -63,7 +63,11 @@ ghost use Rattle.program_tokens.specs.Lines.{lines};
 ghost use Rattle.annotated_asm.specs.Sources.{sources_in, sources_of};
 
 impl<'a> Subject<'a> {
-    /// A program with the text that spells it, and its least certificate.
+    /// The subject of a program with the text that spells it and its least certificate.
+    ///
+    /// # Errors
+    ///
+    /// `AllocError` where memory was refused.
     pub fn read(
         alloc: Global,
         text: &'a [u8],
@@ -94,7 +98,8 @@ impl<'a> Subject<'a> {
         })
     }
 
-    /// A program with its least certificate alone: no place in a text is known, and nothing is seen of its calls.
+    /// The subject of a program with its least certificate alone: no place in a text is known, and nothing is seen of its
+    /// calls.
     pub fn without_text(alloc: Global, program: &'a Program, least: &'a Cert) -> Subject<'a>
         ensures program { result.program ≡ program.now }
         ensures least { result.least ≡ least.now }
@@ -112,7 +117,7 @@ impl<'a> Subject<'a> {
         }
     }
 
-    /// Where memory is taken from.
+    /// The allocator that diagnostics about the subject use.
     pub fn alloc(&self) -> Global {
         self.alloc
     }
@@ -124,28 +129,28 @@ impl<'a> Subject<'a> {
         self.program
     }
 
-    /// The instructions.
+    /// The instructions, by code index, with their marks.
     pub fn code(&self) -> &[Marked]
         ensures { result.now ≡ self.now.program.code }
     {
         self.program.code()
     }
 
-    /// The tasks.
+    /// The task descriptors, by task number.
     pub fn tasks(&self) -> &[Descriptor]
         ensures { result.now ≡ self.now.program.tasks }
     {
         self.program.tasks()
     }
 
-    /// The least certificate.
+    /// The least certificate of the program.
     pub fn least(&self) -> &Cert
         ensures { result.now ≡ self.now.least }
     {
         self.least
     }
 
-    /// The lines of the text.
+    /// The lines of the text, line 1 first, each without its LF.
     pub fn rows(&self) -> &[&'a [u8]] {
         &self.rows
     }
@@ -155,26 +160,28 @@ impl<'a> Subject<'a> {
         &self.returns
     }
 
-    /// Whether the text gives no place as @n, so that an instruction less moves none.
+    /// Whether the text gives no place as `@` and an index, so that an instruction less moves no place.
     pub fn names_no_index(&self) -> bool {
         self.no_index
     }
 
-    /// The instructions that a task reaches, each with the registers that it may still write from there on.
+    /// The code indexes of the instructions that a task reaches, rising, each with its mask: the registers that the task
+    /// may still write from there on.
     pub fn entries(&self, task: u32) -> &[(u32, RegSet)]
         ensures { result.now ≡ entries_of self.now task }
     {
         self.least.list(task)
     }
 
-    /// The registers that a task may still write from an instruction on; `None` where it does not reach it.
+    /// The mask of an instruction in a task: the registers that the task may still write from there on; `None` where the
+    /// task does not reach the instruction.
     pub fn mask(&self, task: u32, index: u32) -> Option<RegSet>
         ensures { result ≡ mask_at (entries_of self.now task) index }
     {
         self.least.mask(task, index)
     }
 
-    /// How the text writes a register; empty where there is none of this number.
+    /// A register as the text writes it; empty where no register has this number.
     pub fn register(&self, number: u8) -> &str {
         match self.names.get(usize::from(number)) {
             Some(name) => name.as_str(),
@@ -182,7 +189,7 @@ impl<'a> Subject<'a> {
         }
     }
 
-    /// The name of a task; empty where there is none of this number.
+    /// The name of a task; empty where no task has this number.
     pub fn task(&self, task: u32) -> &str {
         match self.program.tasks().get(task as usize) {
             Some(descriptor) => descriptor.name.as_str(),
@@ -190,7 +197,7 @@ impl<'a> Subject<'a> {
         }
     }
 
-    /// The targets of a task.
+    /// The targets of a task, in the order in which it lists them; none where no task has this number.
     pub fn targets(&self, task: u32) -> &[Place]
         ensures { result.now ≡ targets_of self.now task }
     {
@@ -200,21 +207,21 @@ impl<'a> Subject<'a> {
         }
     }
 
-    /// The task that begins at an index, if one does.
+    /// The number of the task whose entry is at a code index.
     pub fn task_at(&self, index: u32) -> Option<u32>
         ensures { result ≡ task_at self.now index }
     {
         self.program.task_at(index)
     }
 
-    /// Whether a task begins at an index.
+    /// Whether a task's entry is at a code index.
     pub fn is_entry(&self, index: u32) -> bool
         ensures { result ≡ is_entry self.now index }
     {
         self.task_at(index).is_some()
     }
 
-    /// The label of an instruction, if it has one.
+    /// The label of an instruction, if the text gives it one.
     pub fn label(&self, index: u32) -> Option<Name> {
         match self.labels.get(index as usize) {
             Some(label) => *label,
@@ -222,7 +229,7 @@ impl<'a> Subject<'a> {
         }
     }
 
-    /// Whether an instruction has the forward bit.
+    /// Whether an instruction has the forward bit (`!f`).
     pub fn forwards(&self, index: u32) -> bool {
         match self.program.code().get(index as usize) {
             Some(marked) => marked.forward,
@@ -230,7 +237,7 @@ impl<'a> Subject<'a> {
         }
     }
 
-    /// Whether an instruction releases a register.
+    /// Whether an instruction is a release of this register.
     pub fn releases(&self, index: u32, register: u8) -> bool
         requires { register < 34 }
         ensures { result ≡ releases self.now index register }
@@ -251,7 +258,7 @@ impl<'a> Subject<'a> {
         }
     }
 
-    /// The stop of an instruction.
+    /// The stop bits of an instruction; `Stop::None` where there is no instruction.
     pub fn stop(&self, index: u32) -> Stop
         ensures { result ≡ stop_of self.now index }
     {
@@ -261,7 +268,8 @@ impl<'a> Subject<'a> {
         }
     }
 
-    /// Where a task goes on to when it ends at an instruction, a branch being taken or not.
+    /// The code index to which an exit of an instruction leads: the task ends there, on the edge of a branch that is taken
+    /// or on the other one.
     pub fn exit(&self, index: u32, taken: bool) -> Option<u32>
         ensures { result ≡ exit_end self.now index taken }
     {
@@ -271,7 +279,8 @@ impl<'a> Subject<'a> {
         }
     }
 
-    /// Where a task goes on to from an instruction without ending, a branch being taken or not.
+    /// The code index to which an instruction leads inside the task, on the edge of a branch that is taken or on the other
+    /// one.
     pub fn inner(&self, index: u32, taken: bool) -> Option<u32>
         ensures { result ≡ inner_end self.now index taken }
     {
@@ -281,7 +290,7 @@ impl<'a> Subject<'a> {
         }
     }
 
-    /// An instruction, whole.
+    /// The place of a whole instruction in the text; the text's first byte where the text or the instruction is missing.
     pub fn span(&self, index: u32) -> Span
         ensures { result ≡ instruction_span self.now index }
     {
@@ -298,7 +307,7 @@ impl<'a> Subject<'a> {
         }
     }
 
-    /// `.task`, with which a task is declared.
+    /// The place of the word `.task` that declares a task; the text's first byte where there is none.
     pub fn task_span(&self, task: u32) -> Span
         ensures { result ≡ task_span self.now task }
     {
@@ -312,7 +321,7 @@ impl<'a> Subject<'a> {
         }
     }
 
-    /// `create=` of a task, with its registers.
+    /// The place of a task's `create=` with its registers; the text's first byte where there is none.
     pub fn create_span(&self, task: u32) -> Span
         ensures { result ≡ create_span self.now task }
     {
@@ -322,7 +331,7 @@ impl<'a> Subject<'a> {
         }
     }
 
-    /// `targets=` of a task, with its targets.
+    /// The place of a task's `targets=` with its targets; the text's first byte where there is none.
     pub fn targets_span(&self, task: u32) -> Span
         ensures { result ≡ targets_span self.now task }
     {
@@ -332,7 +341,7 @@ impl<'a> Subject<'a> {
         }
     }
 
-    /// The target of this number in a task's list.
+    /// The place of one target in a task's list, its number from 0; the text's first byte where there is none.
     pub fn target_span(&self, task: u32, number: usize) -> Span
         ensures { result ≡ target_span self.now task number }
     {
@@ -368,7 +377,8 @@ fn span_of(stretch: Option<&Stretch>) -> Span
     }
 }
 
-/// The end of an edge, if the instruction has it and it is of that kind.
+/// The code index to which an edge of an instruction leads, if it is an exit and `leaving`, or is inside the task and not
+/// `leaving`; else `None`. `taken` selects the edge of a branch that is taken.
 pub fn end_of(marked: &Marked, index: u32, taken: bool, leaving: bool) -> Option<u32>
     requires { index < 4096 }
     ensures { result ≡ end_of leaving marked.now index taken }
@@ -380,7 +390,7 @@ pub fn end_of(marked: &Marked, index: u32, taken: bool, leaving: bool) -> Option
     }
 }
 
-/// Whether an index, if there is one, is this.
+/// Whether an edge ends at this code index.
 pub fn is_end(end: Option<u32>, to: u32) -> bool
     ensures { result ≡ is_end end to }
 {
@@ -416,12 +426,12 @@ pub fn has_number(set: RegSet, number: u8) -> bool
     Reg::new(number).is_some_and(|register| set.has(register))
 }
 
-/// The column `count` bytes further on.
+/// The column `count` bytes after another; the greatest `usize` where that is too small.
 pub fn column_after(column: usize, count: usize) -> usize {
     column.saturating_add(count)
 }
 
-/// The place after a part of a line.
+/// The place, 0 bytes wide, directly after a part of a line.
 pub fn after(span: Span) -> Span {
     Span {
         line: span.line,

@@ -1,4 +1,4 @@
-//! The targets of a task, and those that it lacks if it ends where it goes on into another task.
+//! The targets of a task, and those that it would lack if it ended where it continues into another task.
 
 ghost use Rattle.std.specs.Prelude.{◌≡◌, ◌++◌, ◌==◌, IfOk};
 ghost use Rattle.std.specs.List.{list_any};
@@ -8,7 +8,11 @@ use crate::subject::{Made, Subject, is_end};
 use mips_instructions::number::Place;
 use std::alloc::Global;
 
-/// The targets of a task where a task begins.
+/// The targets of a task where some task begins, in their order.
+///
+/// # Errors
+///
+/// `AllocError` where memory was refused.
 pub fn entries_listed(subject: &Subject, task: u32) -> Made<Vec<u32>>
     ensures { IfOk result (λ places. places.items ≡ entries_listed subject.now task) }
 {
@@ -20,7 +24,7 @@ pub fn entries_listed(subject: &Subject, task: u32) -> Made<Vec<u32>>
         .collect(subject.alloc())
 }
 
-/// Whether a task has another as a target.
+/// Whether a task has another, by its number, as a target.
 pub fn is_target(subject: &Subject, task: u32, into: u32) -> bool
     ensures { result ≡ is_target subject.now task into }
 {
@@ -30,14 +34,18 @@ pub fn is_target(subject: &Subject, task: u32, into: u32) -> bool
         .any(|target| is_end(subject.task_at(target.get()), into))
 }
 
-/// Whether an index is that of a target.
+/// Whether a code index is one of these targets.
 pub fn is_among(targets: &[Place], index: u32) -> bool
     ensures { result ≡ list_any (λ t. t == index) targets.now }
 {
     targets.iter().any(|target| target.get() == index)
 }
 
-/// These places; one that would stand twice stands once.
+/// The places that are there, without a duplicate.
+///
+/// # Errors
+///
+/// `AllocError` where memory was refused.
 pub fn both(alloc: Global, onward: Option<u32>, taken: Option<u32>) -> Made<Vec<u32>>
     ensures { IfOk result (λ places. places.items ≡ both onward taken) }
 {
@@ -82,7 +90,11 @@ fn new_by(subject: &Subject, task: u32, index: u32, taken: bool) -> Option<u32>
     new_target(subject, task, subject.inner(index, taken))
 }
 
-/// The targets that a task lacks if it ends at an instruction that goes on into tasks.
+/// The targets that a task would lack if it ended at an instruction that continues into tasks: their entries.
+///
+/// # Errors
+///
+/// `AllocError` where memory was refused.
 pub fn new_targets(subject: &Subject, task: u32, index: u32) -> Made<Vec<u32>>
     ensures { IfOk result (λ places. places.items ≡ new_targets subject.now task index) }
 {
@@ -91,7 +103,11 @@ pub fn new_targets(subject: &Subject, task: u32, index: u32) -> Made<Vec<u32>>
     both(subject.alloc(), onward, taken)
 }
 
-/// The targets of a task where a task begins, and these places.
+/// The targets of a task where some task begins, followed by these places.
+///
+/// # Errors
+///
+/// `AllocError` where memory was refused.
 pub fn targets_with(subject: &Subject, task: u32, places: &[u32]) -> Made<Vec<u32>>
     ensures { IfOk result (λ targets. targets.items ≡ entries_listed subject.now task ++ places.now) }
 {
@@ -100,14 +116,15 @@ pub fn targets_with(subject: &Subject, task: u32, places: &[u32]) -> Made<Vec<u3
     Ok(targets)
 }
 
-/// Whether a task lacks a target if it ends at an instruction that goes on into tasks.
+/// Whether a task would lack a target if it ended at an instruction that continues into tasks.
 pub fn lacks_some(subject: &Subject, task: u32, index: u32) -> bool
     ensures { result ≡ lacks_some subject.now task index }
 {
     new_by(subject, task, index, false).is_some() || new_by(subject, task, index, true).is_some()
 }
 
-/// Whether a task has at most 16 targets with those that it lacks if it ends at an instruction.
+/// Whether a task can end at an instruction with at most 16 targets: it would lack none, or it has at most 14 now, as it
+/// would lack at most two.
 pub fn may_stop(subject: &Subject, task: u32, index: u32) -> bool
     ensures { result ≡ may_stop subject.now task index }
 {

@@ -7,10 +7,10 @@ use mips_instructions::number::RegSet;
 use std::alloc::{AllocError, Global};
 use std::marker::Model;
 
-/// The entries of the lines from an offset of a text up to the first line that is not an entry: what
-/// reading needs of one task's list, and what it can find out before it knows whose list it is. This includes
-/// whether the list rises, so that whoever takes over the block need not look at each entry again. A contract
-/// sees a block as its spelling, text and offset; they determine the rest.
+/// The entries of a certificate text from an offset up to the first line that is not an entry: what reading
+/// needs of one task's list, and what it can find out before it knows whose list it is. This includes whether
+/// the list rises, so that whoever takes over the block need not look at each entry again. A contract sees a
+/// block as its spelling, text and offset; they determine the rest.
 #[derive(Drop)]
 pub struct Block<'a> {
     spelling: MaskSpelling,
@@ -36,7 +36,7 @@ impl<'a> Block<'a> {
     ghost use Rattle.mask_certificate.specs.CertificateReading.{lines_in, entries_in};
     ghost use Rattle.mask_certificate.specs.Blocks.{IsEnd, TellsOf};
 
-    /// Reads the block that begins at an offset of a text.
+    /// Reads the block that begins at byte `start` of a text.
     ///
     /// # Errors
     ///
@@ -62,21 +62,22 @@ impl<'a> Block<'a> {
         })
     }
 
-    /// The spelling in which it was read.
+    /// The spelling of its masks.
     pub fn spelling(&self) -> MaskSpelling
         ensures { result ≡ self.now.spelling }
     {
         self.spelling
     }
 
-    /// The offset at which it begins.
+    /// The offset in bytes at which it begins.
     pub fn start(&self) -> usize
         ensures { result ≡ self.now.start }
     {
         self.start
     }
 
-    /// The offset after its last entry: where the first line that is not an entry begins, or the text's end.
+    /// The offset in bytes after its last entry: where the first line that is not an entry begins, or the
+    /// text's end.
     pub fn end(&self) -> usize
         ensures within { result ≤ length self.now.text }
         ensures lines { lines_in self.now.spelling (drop result self.now.text)

@@ -4,24 +4,25 @@ use mips_instructions::number::RegSet;
 use std::marker::Model;
 use thiserror::Error;
 
-/// The number of instruction indices: the index of an entry lies below it.
+/// The number of code indices; an entry's index is below it.
 pub const CODE_INDICES: u32 = 4096;
 
-/// What keeps lists from being a certificate: the first position where something is wrong.
+/// Why lists are no certificate: the first position where something is wrong.
 #[derive(Clone, Copy, Debug, PartialEq, Eq, Error)]
 pub enum ListFault {
-    /// In the list of this task (from 0), the entry at this position (from 0) has an index that is not
-    /// above the index before it.
+    /// In the list of this task, counted from 0, the entry at this position, from 0, has a code index that is
+    /// not above the one before it.
     #[error("list {0}, entry {1}: its index is not above the one before it")]
     NotRising(u32, usize),
-    /// In the list of this task, the entry at this position has an index of 4,096 or more.
+    /// In the list of this task, counted from 0, the entry at this position, from 0, has a code index of 4,096
+    /// or more.
     #[error("list {0}, entry {1}: its index is 4096 or more")]
     OutOfCode(u32, usize),
 }
 
-/// For each task a list of entries (index of an instruction, mask), the indices rising and below
-/// 4,096. The mask is the set of the registers that may still be written from that instruction on,
-/// before the task ends. A list may be missing, and there may be more lists than tasks.
+/// A certificate: for each task a list of entries (code index, mask), the indices rising and below 4,096. The
+/// mask is the set of the registers that may still be written from that instruction on, before the task ends. A
+/// list may be missing, and there may be more lists than tasks.
 #[derive(Debug, Drop)]
 pub struct Cert {
     lists: Vec<Vec<(u32, RegSet)>>,
@@ -43,10 +44,13 @@ impl Cert {
     ghost use Rattle.std.specs.Prelude.{◌≡◌, ◌<◌, ◌^◌, ◌↔◌, None, Some, true, false, is_none, IfSome, IfNone, vec_len, MatchResult};
     ghost use Rattle.mask_certificate.specs.Lists.{entries_of, first_fault, list_of, mask_at, Rises, IsCertificate};
 
-    /// The certificate of these lists, the list at position t being that of task t. Lists that do not form one
-    /// come back with what is wrong at the first faulty position: `NotRising` before
-    /// `OutOfCode` where both apply. Empty lists rise. There are fewer than 2^32 lists, since tasks are
-    /// counted by a `u32`.
+    /// The certificate of these lists, the list at position t for task t. Empty lists rise. There are fewer
+    /// than 2^32 lists, since tasks are counted by a `u32`.
+    ///
+    /// # Errors
+    ///
+    /// What is wrong at the first faulty position, `NotRising` before `OutOfCode` where both apply, with the
+    /// lists as they were.
     pub fn build(
         lists: Vec<Vec<(u32, RegSet)>>,
     ) -> Result<Cert, (Vec<Vec<(u32, RegSet)>>, ListFault)>
@@ -71,7 +75,7 @@ impl Cert {
         Cert { lists }
     }
 
-    /// The entries of a task, by rising index; none where the list is missing.
+    /// The entries of a task, by rising code index; none where the list is missing.
     pub fn list(&self, task: u32) -> &[(u32, RegSet)]
         ensures entries { result.now ≡ list_of self.now task }
         ensures rises { Rises result.now }
@@ -83,7 +87,8 @@ impl Cert {
         }
     }
 
-    /// The mask of a task at an index; `None` where there is none.
+    /// The mask of a task at a code index: the registers that it may still write from there; `None` where it
+    /// has none.
     pub fn mask(&self, task: u32, index: u32) -> Option<RegSet>
         ensures { result ≡ mask_at (list_of self.now task) index }
     {
@@ -94,7 +99,7 @@ impl Cert {
         }
     }
 
-    /// Whether both have the same lists. Takes no memory.
+    /// Whether both certificates have the same lists. Takes no memory.
     pub fn is_same(&self, other: &Cert) -> bool
         ensures { (result ≡ true) ↔ (self.now ≡ other.now) }
     {

@@ -19,12 +19,12 @@ pub enum CertFault {
     OutOfMemory,
 }
 
-/// How a certificate text spells its masks. The first line states which.
+/// How a certificate text spells its masks, as its first line names it.
 #[derive(Clone, Copy, Debug, PartialEq, Eq)]
 pub enum MaskSpelling {
-    /// `cert 1`: 8 digits, for registers 0 to 31.
+    /// `cert 1`: 8 hexadecimal digits, for registers 0 to 31.
     Narrow,
-    /// `cert 2`: 16 digits.
+    /// `cert 2`: 16 hexadecimal digits, for registers 0 to 33.
     Wide,
 }
 
@@ -32,7 +32,7 @@ impl MaskSpelling {
     ghost use Rattle.std.specs.Prelude.{◌≡◌, ◌≤◌};
     ghost use Rattle.mask_certificate.specs.CertificateText.{mask_digits};
 
-    /// How many digits a mask has.
+    /// The number of hexadecimal digits of a mask: 8 or 16.
     pub fn mask_digits(self) -> usize
         ensures digits { result ≡ mask_digits self }
         ensures few { result ≤ 16 }

@@ -1,6 +1,6 @@
-//! Certificates: for each task of a program, the registers that may still be written at each of its
-//! instructions, and the text that spells them (the masks refine the create mask of
-//! Sohi, Breach, Vijaykumar, "Multiscalar Processors", ISCA 1995, section 2.2).
+//! Certificates: for each task of a program, the registers that may still be written at each of its instructions.
+//! Also the text that spells a certificate. The masks refine the create mask of Sohi, Breach, Vijaykumar,
+//! "Multiscalar Processors", ISCA 1995, section 2.2.
 #![tactic(auto)]
 
 pub mod block;

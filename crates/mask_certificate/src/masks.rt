@@ -3,8 +3,7 @@
 use mips_instructions::number::RegSet;
 use std::marker::Model;
 
-/// The list of a task with the position of each entry at its index, so that a mask is found without a
-/// search. Takes no memory.
+/// The masks of one task, each found by its code index in one step. Takes no memory from the allocator.
 #[derive(Drop)]
 pub struct Masks<'a> {
     entries: &'a [(u32, RegSet)],
@@ -29,8 +28,7 @@ impl<'a> Masks<'a> {
     ghost use Rattle.std.specs.Prelude.{◌≡◌};
     ghost use Rattle.mask_certificate.specs.Lists.{Rises, mask_at};
 
-    /// The masks of a list of entries. The caller sees to it that it rises, as each list of a
-    /// certificate does.
+    /// The masks of a list of entries, which rises, as each list of a certificate does.
     pub fn new(entries: &'a [(u32, RegSet)]) -> Masks<'a>
         requires { Rises entries.now }
         ensures { result ≡ entries.now }
@@ -42,14 +40,14 @@ impl<'a> Masks<'a> {
         Masks { entries, positions }
     }
 
-    /// The entries, by rising index.
+    /// The entries, by rising code index.
     pub fn entries(&self) -> &'a [(u32, RegSet)]
         ensures { result.now ≡ self.now }
     {
         self.entries
     }
 
-    /// The mask at an index; `None` where there is none.
+    /// The mask at a code index; `None` where there is none.
     #[inline]
     pub fn at(&self, index: u32) -> Option<RegSet>
         ensures { result ≡ mask_at self.now index }

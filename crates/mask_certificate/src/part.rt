@@ -1,11 +1,11 @@
-//! A text that lies in parts, and what was read of each before.
+//! A text in parts, and what was read of each before.
 
 use crate::block::Block;
 use std::alloc::Global;
 use std::marker::Model;
 
-/// A part of a certificate's text, and blocks of it that were read before, the block that stands first
-/// coming last. A contract sees it as its bytes: only speed depends on the blocks.
+/// A part of a certificate's text, and blocks of it that were read before, the first block of the text last. A
+/// contract sees it as its bytes: only speed depends on the blocks.
 #[derive(Drop)]
 pub struct CertificatePart<'a> {
     text: &'a [u8],
@@ -27,7 +27,7 @@ impl<'a> CertificatePart<'a> {
     ghost use Rattle.std.specs.Prelude.{◌≡◌};
     ghost use Rattle.mask_certificate.specs.Blocks.{AreOf};
 
-    /// A part of which nothing was read.
+    /// A part of which nothing was read before.
     pub fn new(alloc: Global, text: &'a [u8]) -> CertificatePart<'a>
         ensures { result ≡ text.now }
     {
@@ -37,7 +37,7 @@ impl<'a> CertificatePart<'a> {
         }
     }
 
-    /// A part of which these blocks were read.
+    /// A part of which these blocks were read before.
     pub fn with_blocks(text: &'a [u8], blocks: Vec<Block<'a>>) -> CertificatePart<'a>
         requires { AreOf text.now blocks.items }
         ensures { result ≡ text.now }

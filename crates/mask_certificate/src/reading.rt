@@ -380,7 +380,7 @@ fn lists_of(
     }
 }
 
-/// The spelling that the first line of a text names; `None` where it names none.
+/// The spelling of masks that the first line of a text names; `None` where it names none.
 pub fn spelling_in(text: &[u8]) -> Option<MaskSpelling>
     ensures value { result ≡ spelling_of text.now }
     ensures long { OnSome result (7 ≤ length text.now) }
@@ -430,9 +430,13 @@ fn certificate_of(
     Ok(Cert::of_right(lists))
 }
 
-/// The certificate that a text spells for the tasks of a program, one list for each, in `cert 1` or in
-/// `cert 2`. Else the first fault: `Header`; then the first line with `Line` or `TaskName`; then
-/// `MissingTask`; then `Shape`. `OutOfMemory` may come at any point; where it doesn't come, a
+/// The certificate that a text spells, in `cert 1` or in `cert 2`, for the tasks of a program, one list for
+/// each.
+///
+/// # Errors
+///
+/// The first fault: `Header`; then the first line with `Line` or `TaskName`; then `MissingTask`; then `Shape`.
+/// `OutOfMemory`, where memory was refused, may come in place of any other answer; where it doesn't come, a
 /// certificate is read exactly from a text that spells it.
 pub fn read(alloc: Global, text: &[u8], program: &Program) -> Result<Cert, CertFault>
     ensures parsed { (result ≡ Err CertFault.OutOfMemory) ⊎ (result ≡ cert_parse text.now (names_of program.now)) }
@@ -444,10 +448,14 @@ pub fn read(alloc: Global, text: &[u8], program: &Program) -> Result<Cert, CertF
     read_parts(alloc, parts, program)
 }
 
-/// What `read` returns for a text in parts, cut after LFs. A part may come with blocks that were
-/// read before: one that stands where its task's turn comes is taken over and not read again.
-/// Only speed depends on the blocks: where one is missing or stands elsewhere, that list is read
-/// here.
+/// The certificate that a text in parts, cut after LFs, spells for the tasks of a program, as with `read`. A
+/// part may come with blocks that were read before: one that begins where its task's turn comes is taken over
+/// and not read again. Only speed depends on the blocks: where one is missing or lies elsewhere, that list is
+/// read here.
+///
+/// # Errors
+///
+/// Those of `read`.
 pub fn read_parts(
     alloc: Global,
     parts: Vec<CertificatePart<'_>>,

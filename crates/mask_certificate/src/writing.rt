@@ -66,8 +66,12 @@ fn push_task(text: &mut Vec<u8>, name: &[u8], list: &[(u32, RegSet)]) -> Result<
     Ok(())
 }
 
-/// The text of a certificate for the tasks of a program, in `cert 2`. A list beyond the tasks is left
-/// out, and a task without a list has no entry.
+/// The text of a certificate for the tasks of a program, in `cert 2`. A list beyond the tasks is left out, and
+/// a task without a list has no entry.
+///
+/// # Errors
+///
+/// `AllocError` where memory was refused.
 pub fn write(alloc: Global, cert: &Cert, program: &Program) -> Result<Vec<u8>, AllocError>
     ensures { IfOk result (λ text. text.items ≡ cert_text cert.now (names_of program.now)) }
 {

@@ -1,5 +1,5 @@
-//! What the instructions compute of their operands (MIPS manual), one function for each row of the
-//! instruction table.
+//! What the instructions compute of their 32-bit operands (MIPS32 manual, volume II), one function for each row
+//! of the instruction table.
 
 ghost use Rattle.std.specs.Prelude.{◌≡◌, ◌<◌, ◌/◌, ◌%◌, ◌^◌, ◌==◌, ◌||◌, if◌then◌else◌};
 ghost use Rattle.mips_instructions.specs.Words.{HI, LO};
@@ -11,7 +11,8 @@ use crate::instruction::{
 };
 use crate::number::{Amount, Reg};
 
-/// The word of an operation on two registers.
+/// The result of an operation on two registers, `a` from rs and `b` from rt; sums and differences are modulo
+/// 2^32.
 #[inline(always)]
 pub fn three(kind: ThreeKind, a: u32, b: u32) -> u32
     ensures { result ≡ three_of kind a b }
@@ -28,7 +29,7 @@ pub fn three(kind: ThreeKind, a: u32, b: u32) -> u32
     }
 }
 
-/// The word of a shift by a fixed amount.
+/// The word `a`, from rt, shifted by 0..=31 bits; `sra` copies the sign bit, the others shift in zeros.
 #[inline(always)]
 pub fn shift_by(kind: ShiftByKind, a: u32, amount: Amount) -> u32
     ensures { result ≡ shift_by_of kind a amount }
@@ -40,7 +41,7 @@ pub fn shift_by(kind: ShiftByKind, a: u32, amount: Amount) -> u32
     }
 }
 
-/// The word of a shift by the low 5 bits of a register.
+/// The word `a`, from rt, shifted by the low 5 bits of `b`, from rs.
 #[inline(always)]
 pub fn shift_var(kind: ShiftVarKind, a: u32, b: u32) -> u32
     ensures { result ≡ shift_var_of kind a b }
@@ -52,7 +53,8 @@ pub fn shift_var(kind: ShiftVarKind, a: u32, b: u32) -> u32
     }
 }
 
-/// The word of an operation with a signed immediate.
+/// The result of an operation on `a`, from rs, and an immediate that is extended by its sign. `sltiu` extends
+/// it in the same way, then compares without signs.
 #[inline(always)]
 pub fn imm(kind: ImmKind, a: u32, n: i16) -> u32
     ensures { result ≡ imm_of kind a n }
@@ -64,7 +66,7 @@ pub fn imm(kind: ImmKind, a: u32, n: i16) -> u32
     }
 }
 
-/// The word of an operation with an immediate that is not signed.
+/// The result of a bit operation on `a`, from rs, and an immediate that is extended with zeros.
 #[inline(always)]
 pub fn logic(kind: LogicKind, a: u32, n: u16) -> u32
     ensures { result ≡ logic_of kind a n }
@@ -76,7 +78,7 @@ pub fn logic(kind: LogicKind, a: u32, n: u16) -> u32
     }
 }
 
-/// The product of 64 bits.
+/// The 64-bit product of two registers: signed for `mult`, unsigned for `multu`.
 #[inline]
 pub fn product(kind: MultKind, a: u32, b: u32) -> u64
     ensures { result ≡ product_of kind a b }
@@ -87,7 +89,7 @@ pub fn product(kind: MultKind, a: u32, b: u32) -> u64
     }
 }
 
-/// The high half of a product, for HI.
+/// The high 32 bits of a product, which go to HI.
 #[inline]
 pub fn high(product: u64) -> u32
     ensures { result ≡ product / 2 ^ 32 }
@@ -95,7 +97,7 @@ pub fn high(product: u64) -> u32
     (product >> 32) as u32
 }
 
-/// The low half of a product, for LO.
+/// The low 32 bits of a product, which go to LO.
 #[inline]
 pub fn low(product: u64) -> u32
     ensures { result ≡ product % 2 ^ 32 }
@@ -103,7 +105,7 @@ pub fn low(product: u64) -> u32
     (product & 0xffff_ffff) as u32
 }
 
-/// Whether a branch that compares two registers is taken.
+/// Whether a branch that compares two registers is taken; `a` is from rs, `b` from rt.
 #[inline]
 pub fn takes_two(kind: BranchTwoKind, a: u32, b: u32) -> bool
     ensures { result ≡ two_taken kind a b }
@@ -114,7 +116,7 @@ pub fn takes_two(kind: BranchTwoKind, a: u32, b: u32) -> bool
     }
 }
 
-/// Whether a branch that compares a register with zero is taken.
+/// Whether a branch that compares a register, as a signed number, with zero is taken.
 #[inline]
 pub fn takes_one(kind: BranchOneKind, a: u32) -> bool
     ensures { result ≡ one_taken kind a }
@@ -127,7 +129,7 @@ pub fn takes_one(kind: BranchOneKind, a: u32) -> bool
     }
 }
 
-/// The register that a move from HI or LO reads.
+/// The register that `mfhi` or `mflo` reads: 32 (HI) or 33 (LO).
 #[inline]
 pub fn moved_register(kind: MoveFromKind) -> Reg
     ensures { result ≡ moved_from kind }
@@ -138,7 +140,7 @@ pub fn moved_register(kind: MoveFromKind) -> Reg
     }
 }
 
-/// The register that a move to HI or LO writes.
+/// The register that `mthi` or `mtlo` writes: 32 (HI) or 33 (LO).
 #[inline]
 pub fn target_register(kind: MoveToKind) -> Reg
     ensures { result ≡ moved_to kind }

@@ -1,6 +1,6 @@
-//! The instructions (MIPS manual, the integer instructions; `out`, `release` and `halt` are this
+//! The instructions (MIPS32 manual, volume II, the integer instructions; `out`, `release` and `halt` are this
 //! project's own): how each is written, what it reads and writes, and where it continues. Nothing here needs
-//! memory. Each `Kind` names the mnemonics of one row.
+//! memory. Each `Kind` lists the mnemonics of one row of the instruction table.
 
 ghost use Rattle.std.specs.Prelude.{◌≡◌, ℕ, ◌||◌, if◌then◌else◌, [], ◌∷◌, map};
 ghost use Rattle.mips_instructions.specs.Words.{has};
@@ -15,21 +15,29 @@ use crate::arithmetic::{
 use crate::number::{Amount, Gpr, Place, Reg, RegSet};
 use crate::places::{address_of, following};
 
-/// Operations on two registers.
+/// Operations on two registers: `addu subu and or xor nor slt sltu`.
 #[derive(Clone, Copy, Debug, PartialEq, Eq)]
 pub enum ThreeKind {
+    /// The sum, modulo 2^32.
     Addu,
+    /// The difference rs - rt, modulo 2^32.
     Subu,
+    /// The bits that are 1 in both.
     And,
+    /// The bits that are 1 in either.
     Or,
+    /// The bits that are 1 in exactly one.
     Xor,
+    /// The bits that are 1 in neither.
     Nor,
+    /// 1 if rs is less than rt, both signed, else 0.
     Slt,
+    /// 1 if rs is less than rt, both unsigned, else 0.
     Sltu,
 }
 
 impl ThreeKind {
-    /// Its word in a program text.
+    /// The mnemonic in lower case, as a program text spells it.
     pub fn name(self) -> &'static str
         ensures { result.now ≡ three_name self }
     {
@@ -46,16 +54,19 @@ impl ThreeKind {
     }
 }
 
-/// Shifts by a fixed amount.
+/// Shifts by an amount in the instruction: `sll srl sra`.
 #[derive(Clone, Copy, Debug, PartialEq, Eq)]
 pub enum ShiftByKind {
+    /// To the left, with zeros.
     Sll,
+    /// To the right, with zeros.
     Srl,
+    /// To the right, with copies of the sign bit.
     Sra,
 }
 
 impl ShiftByKind {
-    /// Its word in a program text.
+    /// The mnemonic in lower case, as a program text spells it.
     pub fn name(self) -> &'static str
         ensures { result.now ≡ shift_by_name self }
     {
@@ -67,16 +78,19 @@ impl ShiftByKind {
     }
 }
 
-/// Shifts by a register.
+/// Shifts by the low 5 bits of a register: `sllv srlv srav`.
 #[derive(Clone, Copy, Debug, PartialEq, Eq)]
 pub enum ShiftVarKind {
+    /// To the left, with zeros.
     Sllv,
+    /// To the right, with zeros.
     Srlv,
+    /// To the right, with copies of the sign bit.
     Srav,
 }
 
 impl ShiftVarKind {
-    /// Its word in a program text.
+    /// The mnemonic in lower case, as a program text spells it.
     pub fn name(self) -> &'static str
         ensures { result.now ≡ shift_var_name self }
     {
@@ -88,16 +102,19 @@ impl ShiftVarKind {
     }
 }
 
-/// Operations with a signed immediate.
+/// Operations with an immediate of 16 bits that is extended by its sign: `addiu slti sltiu`.
 #[derive(Clone, Copy, Debug, PartialEq, Eq)]
 pub enum ImmKind {
+    /// The sum, modulo 2^32.
     Addiu,
+    /// 1 if rs is less than n, both signed, else 0.
     Slti,
+    /// 1 if rs is less than the extended n, both unsigned, else 0.
     Sltiu,
 }
 
 impl ImmKind {
-    /// Its word in a program text.
+    /// The mnemonic in lower case, as a program text spells it.
     pub fn name(self) -> &'static str
         ensures { result.now ≡ imm_name self }
     {
@@ -109,16 +126,19 @@ impl ImmKind {
     }
 }
 
-/// Operations with an immediate that is not signed.
+/// Bit operations with an immediate of 16 bits that is extended with zeros: `andi ori xori`.
 #[derive(Clone, Copy, Debug, PartialEq, Eq)]
 pub enum LogicKind {
+    /// The bits that are 1 in both.
     Andi,
+    /// The bits that are 1 in either.
     Ori,
+    /// The bits that are 1 in exactly one.
     Xori,
 }
 
 impl LogicKind {
-    /// Its word in a program text.
+    /// The mnemonic in lower case, as a program text spells it.
     pub fn name(self) -> &'static str
         ensures { result.now ≡ logic_name self }
     {
@@ -130,15 +150,17 @@ impl LogicKind {
     }
 }
 
-/// Products of 64 bits.
+/// Products of 64 bits, signed and unsigned: `mult multu`.
 #[derive(Clone, Copy, Debug, PartialEq, Eq)]
 pub enum MultKind {
+    /// Of signed words.
     Mult,
+    /// Of unsigned words.
     Multu,
 }
 
 impl MultKind {
-    /// Its word in a program text.
+    /// The mnemonic in lower case, as a program text spells it.
     pub fn name(self) -> &'static str
         ensures { result.now ≡ mult_name self }
     {
@@ -149,15 +171,17 @@ impl MultKind {
     }
 }
 
-/// Moves from HI or LO.
+/// Moves from HI or LO to a general register: `mfhi mflo`.
 #[derive(Clone, Copy, Debug, PartialEq, Eq)]
 pub enum MoveFromKind {
+    /// From HI, register 32.
     Mfhi,
+    /// From LO, register 33.
     Mflo,
 }
 
 impl MoveFromKind {
-    /// Its word in a program text.
+    /// The mnemonic in lower case, as a program text spells it.
     pub fn name(self) -> &'static str
         ensures { result.now ≡ move_from_name self }
     {
@@ -168,15 +192,17 @@ impl MoveFromKind {
     }
 }
 
-/// Moves to HI or LO.
+/// Moves from a general register to HI or LO: `mthi mtlo`.
 #[derive(Clone, Copy, Debug, PartialEq, Eq)]
 pub enum MoveToKind {
+    /// To HI, register 32.
     Mthi,
+    /// To LO, register 33.
     Mtlo,
 }
 
 impl MoveToKind {
-    /// Its word in a program text.
+    /// The mnemonic in lower case, as a program text spells it.
     pub fn name(self) -> &'static str
         ensures { result.now ≡ move_to_name self }
     {
@@ -187,18 +213,23 @@ impl MoveToKind {
     }
 }
 
-/// Loads.
+/// Loads of 4, 2 and 1 bytes: `lw lh lhu lb lbu`; `lh` and `lb` extend the sign.
 #[derive(Clone, Copy, Debug, PartialEq, Eq)]
 pub enum LoadKind {
+    /// A word of 4 bytes.
     Lw,
+    /// 2 bytes, extended by their sign.
     Lh,
+    /// 2 bytes, extended with zeros.
     Lhu,
+    /// 1 byte, extended by its sign.
     Lb,
+    /// 1 byte, extended with zeros.
     Lbu,
 }
 
 impl LoadKind {
-    /// Its word in a program text.
+    /// The mnemonic in lower case, as a program text spells it.
     pub fn name(self) -> &'static str
         ensures { result.now ≡ load_name self }
     {
@@ -212,16 +243,19 @@ impl LoadKind {
     }
 }
 
-/// Stores.
+/// Stores of 4, 2 and 1 bytes: `sw sh sb`.
 #[derive(Clone, Copy, Debug, PartialEq, Eq)]
 pub enum StoreKind {
+    /// A word of 4 bytes.
     Sw,
+    /// The low 2 bytes.
     Sh,
+    /// The low byte.
     Sb,
 }
 
 impl StoreKind {
-    /// Its word in a program text.
+    /// The mnemonic in lower case, as a program text spells it.
     pub fn name(self) -> &'static str
         ensures { result.now ≡ store_name self }
     {
@@ -233,15 +267,17 @@ impl StoreKind {
     }
 }
 
-/// Branches that compare two registers.
+/// Conditional branches that compare two registers: `beq bne`.
 #[derive(Clone, Copy, Debug, PartialEq, Eq)]
 pub enum BranchTwoKind {
+    /// Taken if they are equal.
     Beq,
+    /// Taken if they are not equal.
     Bne,
 }
 
 impl BranchTwoKind {
-    /// Its word in a program text.
+    /// The mnemonic in lower case, as a program text spells it.
     pub fn name(self) -> &'static str
         ensures { result.now ≡ branch_two_name self }
     {
@@ -252,17 +288,21 @@ impl BranchTwoKind {
     }
 }
 
-/// Branches that compare a register with zero.
+/// Conditional branches that compare a register, as a signed number, with zero: `blez bgtz bltz bgez`.
 #[derive(Clone, Copy, Debug, PartialEq, Eq)]
 pub enum BranchOneKind {
+    /// Taken if it is at most zero.
     Blez,
+    /// Taken if it is above zero.
     Bgtz,
+    /// Taken if it is below zero.
     Bltz,
+    /// Taken if it is at least zero.
     Bgez,
 }
 
 impl BranchOneKind {
-    /// Its word in a program text.
+    /// The mnemonic in lower case, as a program text spells it.
     pub fn name(self) -> &'static str
         ensures { result.now ≡ branch_one_name self }
     {
@@ -275,7 +315,8 @@ impl BranchOneKind {
     }
 }
 
-/// The first word of an instruction's text.
+/// The first word of an instruction's text. `nop`, `move`, `li` and `la` are pseudo-instructions, which the
+/// assembler replaces.
 #[derive(Clone, Copy, Debug, PartialEq, Eq)]
 pub enum Mnemonic {
     /// `addu subu and or xor nor slt sltu`
@@ -328,7 +369,7 @@ pub enum Mnemonic {
     LoadAddress,
 }
 
-/// What operands follow a mnemonic: r, rd, rs, rt and base are registers, n is a number, T a place.
+/// The operands that follow a mnemonic: r, rd, rs, rt and base are registers, n is a number, T a place.
 #[derive(Clone, Copy, Debug, PartialEq, Eq)]
 pub enum Form {
     /// `rd,rs,rt`
@@ -369,7 +410,7 @@ pub enum Form {
     LoadAddress,
 }
 
-/// Every mnemonic.
+/// All mnemonics, in the order of the instruction table.
 pub const MNEMONICS: [Mnemonic; 52] = [
     Mnemonic::Three(ThreeKind::Addu),
     Mnemonic::Three(ThreeKind::Subu),
@@ -426,7 +467,7 @@ pub const MNEMONICS: [Mnemonic; 52] = [
 ];
 
 impl Mnemonic {
-    /// Its word in a program text.
+    /// The mnemonic in lower case, as a program text spells it.
     #[inline]
     pub fn word(self) -> &'static str
         ensures { result.now ≡ word_of self }
@@ -459,7 +500,7 @@ impl Mnemonic {
         }
     }
 
-    /// What operands follow it.
+    /// The operands that follow the mnemonic.
     pub fn form(self) -> Form
         ensures { result ≡ form_of self }
     {
@@ -485,7 +526,7 @@ impl Mnemonic {
         }
     }
 
-    /// The mnemonic of this word, if there is one.
+    /// The mnemonic that a text spells with these bytes; `None` where no mnemonic is spelled so.
     pub fn named(word: &[u8]) -> Option<Mnemonic>
         ensures { result ≡ mnemonic_named word.now mnemonics }
     {
@@ -526,21 +567,21 @@ fn named_in(mnemonics: &[Mnemonic], word: &[u8]) -> Option<Mnemonic>
     None
 }
 
-/// One instruction, without marks. The fields stand in the order of the text, except that the base of a
-/// load or a store comes before the offset.
+/// One instruction, without marks. The fields are in the order of the text, except that the base of a load or a
+/// store comes before the offset.
 #[derive(Clone, Copy, Debug, PartialEq, Eq)]
 pub enum Op {
     /// `addu rd,rs,rt`: rd, rs, rt.
     Three(ThreeKind, Gpr, Gpr, Gpr),
-    /// `sll rd,rt,n`: rd, rt, n.
+    /// `sll rd,rt,n`: rd, rt, n, which is 0..=31 bits.
     ShiftBy(ShiftByKind, Gpr, Gpr, Amount),
     /// `sllv rd,rt,rs`: rd, rt, rs.
     ShiftVar(ShiftVarKind, Gpr, Gpr, Gpr),
-    /// `addiu rt,rs,n`: rt, rs, n.
+    /// `addiu rt,rs,n`: rt, rs, n, which is extended by its sign.
     Imm(ImmKind, Gpr, Gpr, i16),
-    /// `andi rt,rs,n`: rt, rs, n.
+    /// `andi rt,rs,n`: rt, rs, n, which is extended with zeros.
     Logic(LogicKind, Gpr, Gpr, u16),
-    /// `lui rt,n`: rt, n.
+    /// `lui rt,n`: rt, n, the high 16 bits of the word; the low ones are 0.
     Lui(Gpr, u16),
     /// `mult rs,rt`: rs, rt.
     Mult(MultKind, Gpr, Gpr),
@@ -548,64 +589,65 @@ pub enum Op {
     MoveFrom(MoveFromKind, Gpr),
     /// `mthi rs`: rs.
     MoveTo(MoveToKind, Gpr),
-    /// `lw rt,n(base)`: rt, base, n.
+    /// `lw rt,n(base)`: rt, base, n, an offset in bytes.
     Load(LoadKind, Gpr, Gpr, i16),
-    /// `sw rt,n(base)`: rt, base, n.
+    /// `sw rt,n(base)`: rt, base, n, an offset in bytes.
     Store(StoreKind, Gpr, Gpr, i16),
-    /// `beq rs,rt,T`: rs, rt, T.
+    /// `beq rs,rt,T`: rs, rt, T, a code index.
     BranchTwo(BranchTwoKind, Gpr, Gpr, Place),
-    /// `blez rs,T`: rs, T.
+    /// `blez rs,T`: rs, T, a code index.
     BranchOne(BranchOneKind, Gpr, Place),
-    /// `j T`.
+    /// `j T`: T, a code index.
     Jump(Place),
-    /// `jal T`.
+    /// `jal T`: T, a code index; register 31 takes the address of the next instruction.
     JumpLink(Place),
-    /// `jr rs`.
+    /// `jr rs`: rs, which holds an address.
     JumpReg(Gpr),
-    /// `jalr rd,rs`: rd, rs.
+    /// `jalr rd,rs`: rd, rs; rs holds an address and is read before rd takes the address of the next
+    /// instruction.
     JumpLinkReg(Gpr, Gpr),
-    /// `out rs`: appends the register to the output.
+    /// `out rs`: rs, whose word is appended to the output.
     Out(Gpr),
-    /// `release r,r,..`: does nothing in the plain machine.
+    /// `release r,r,..`: the registers whose values go to the later tasks; the plain machine does nothing.
     Release(RegSet),
     /// `halt`: ends the run.
     Halt,
 }
 
-/// An operand, as it stands in the text.
+/// One operand of an instruction, in the form that the text has.
 #[derive(Clone, Copy, Debug, PartialEq, Eq)]
 pub enum InstructionOperand {
-    /// A general register.
+    /// A general register, 0..=31.
     Register(Gpr),
-    /// A shift amount.
+    /// A shift amount, 0..=31 bits.
     Amount(Amount),
-    /// A signed number of 16 bits.
+    /// An immediate that is extended by its sign.
     Signed(i16),
-    /// A number of 16 bits that is not signed.
+    /// An immediate that is extended with zeros.
     Unsigned(u16),
-    /// A signed offset, and the register that it is added to.
+    /// A signed offset in bytes, and the base register that it is added to.
     Offset(i16, Gpr),
-    /// The place of an instruction.
+    /// The code index of a branch's or jump's target.
     Place(Place),
-    /// Some registers.
+    /// The registers that a `release` names.
     Registers(RegSet),
 }
 
-/// The operands of an instruction, three at most.
+/// The operands of an instruction, 0 to 3, in the order of the text.
 #[derive(Clone, Copy, Debug, PartialEq, Eq)]
 pub enum OperandList {
-    /// None.
+    /// No operands.
     Nothing,
-    /// One.
+    /// One operand.
     One([InstructionOperand; 1]),
-    /// Two.
+    /// Two operands.
     Two([InstructionOperand; 2]),
-    /// Three.
+    /// Three operands.
     Three([InstructionOperand; 3]),
 }
 
 impl OperandList {
-    /// The operands, in the order of the text.
+    /// The operands as a slice, in the order of the text.
     #[inline]
     pub fn as_slice(&self) -> &[InstructionOperand]
         ensures { result.now ≡ listed self.now }
@@ -672,7 +714,7 @@ fn two_registers_and(first: Gpr, second: Gpr, third: InstructionOperand) -> Oper
 }
 
 impl Op {
-    /// The mnemonic that the instruction's text begins with.
+    /// The mnemonic that spells the instruction; never `nop`, `move`, `li` or `la`.
     #[inline]
     pub fn mnemonic(&self) -> Mnemonic
         ensures { result ≡ mnemonic_of self.now }
@@ -701,7 +743,7 @@ impl Op {
         }
     }
 
-    /// Its word.
+    /// The mnemonic's word in a program text, such as `addu`.
     #[inline]
     pub fn name(&self) -> &'static str
         ensures { result.now ≡ name_of self.now }
@@ -740,7 +782,8 @@ impl Op {
         }
     }
 
-    /// The registers of the operands a and b (MIPS manual); `None` where there is no such operand.
+    /// The registers that the operands a and b are read from (MIPS manual); `None` where there is no such
+    /// operand. A load or a store has its base as a, a store its word as b.
     pub fn sources(&self) -> (Option<Reg>, Option<Reg>)
         ensures first { result.0 ≡ source_a self.now }
         ensures second { result.1 ≡ source_b self.now }
@@ -763,8 +806,8 @@ impl Op {
         }
     }
 
-    /// The registers that must have a value before the instruction is executed: its operands; for a
-    /// `release` the registers that it names.
+    /// The registers whose values the instruction needs: its operands; for a `release` the registers that it
+    /// names.
     pub fn waits(&self) -> RegSet
         ensures { (r : ℕ) → has result r ≡ waits self.now r }
     {
@@ -803,9 +846,9 @@ impl Op {
         }
     }
 
-    /// The word that an instruction which touches registers alone, at the address pc with the operands
-    /// a and b, writes to register r; `None` where r is not one of its destinations, and for a load, a store,
-    /// `out` and `halt`.
+    /// The word that an instruction which touches registers alone, at the address pc with the operands a and b,
+    /// writes to register r; `None` where r is not one of its destinations, and for a load, a store, `out` and
+    /// `halt`.
     pub fn alu(&self, a: u32, b: u32, pc: u32, r: Reg) -> Option<u32>
         ensures { result ≡ alu self.now a b pc r }
     {
@@ -841,8 +884,8 @@ impl Op {
         }
     }
 
-    /// The address of the next instruction, with the operands a and b at the address pc; a `halt`
-    /// stays where it is.
+    /// The address that follows the instruction at the address pc, with the operands a and b; a `halt` stays at
+    /// pc.
     pub fn turn(&self, a: u32, b: u32, pc: u32) -> u32
         ensures { result ≡ turn self.now a b pc }
     {

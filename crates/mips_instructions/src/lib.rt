@@ -1,5 +1,5 @@
-//! The instructions of the MIPS integer profile without delay slots: registers and sets of them, places of
-//! the code and their addresses, and what an instruction reads, writes and computes, without memory.
+//! The instructions of the MIPS integer profile without delay slots: what each reads, writes and computes.
+//! Also registers and sets of them, and code indices with their addresses. Nothing here touches memory.
 #![tactic(auto)]
 
 pub mod arithmetic;

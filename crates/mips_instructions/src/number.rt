@@ -1,14 +1,14 @@
-//! Numbers with a range of their own: registers, code indices, shift amounts.
+//! Numbers with a range of their own: registers, code indices and shift amounts, and sets of registers.
 
 use std::marker::Model;
 
-/// How many registers there are: the 32 general registers, HI and LO.
+/// The number of registers: the 32 general registers, HI and LO.
 pub const REGISTERS: usize = 34;
 
-/// The most instructions that a program can have.
+/// The most instructions that a program has.
 pub const MOST_INSTRUCTIONS: usize = 4096;
 
-/// A register, 0..=33: 0 to 31 are the general registers, 32 is HI, 33 is LO.
+/// A register number, 0..=33: 0 to 31 are the general registers, 32 is HI, 33 is LO.
 #[derive(Clone, Copy, Debug, PartialEq, Eq, PartialOrd, Ord, Hash)]
 pub struct Reg {
     number: u8,
@@ -38,7 +38,7 @@ impl Reg {
     /// LO, for the low half of a product (MIPS manual).
     pub const LO: Reg = Reg { number: 33 };
 
-    /// The register of this number; `None` above 33.
+    /// The register of a number; `None` above 33.
     pub fn new(number: u8) -> Option<Reg>
         ensures some { IsSome result ↔ (number < 34) }
         ensures value { IfSome result (λ register. register ≡ number) }
@@ -60,7 +60,7 @@ impl Reg {
     }
 }
 
-/// A general register, 0..=31, as an instruction's field names it (MIPS manual).
+/// The number of a general register, 0..=31, as an instruction's field has it (MIPS manual).
 #[derive(Clone, Copy, Debug, PartialEq, Eq, PartialOrd, Ord, Hash)]
 pub struct Gpr {
     field: u8,
@@ -81,7 +81,7 @@ impl Model for Gpr {
 impl Gpr {
     ghost use Rattle.std.specs.Prelude.{◌≡◌, ◌<◌, ◌↔◌, IsSome, IfSome};
 
-    /// The general register of this number; `None` above 31.
+    /// The general register of a number; `None` above 31.
     pub fn new(field: u8) -> Option<Gpr>
         ensures some { IsSome result ↔ (field < 32) }
         ensures value { IfSome result (λ register. register ≡ field) }
@@ -115,8 +115,7 @@ impl From<Gpr> for Reg {
     }
 }
 
-/// A place in the code, 0..=4096: the index of an instruction, or one past the last that there can
-/// be.
+/// A code index, 0..=4096: counts instructions, not bytes, from 0. 4096 is just past the longest code.
 #[derive(Clone, Copy, Debug, PartialEq, Eq, PartialOrd, Ord, Hash)]
 pub struct Place {
     index: u32,
@@ -137,7 +136,7 @@ impl Model for Place {
 impl Place {
     ghost use Rattle.std.specs.Prelude.{◌≡◌, ◌≤◌, ◌↔◌, IsSome, IfSome};
 
-    /// The place of this index; `None` above 4096.
+    /// The place of a code index; `None` above 4096.
     pub fn new(index: u32) -> Option<Place>
         ensures some { IsSome result ↔ (index ≤ 4096) }
         ensures value { IfSome result (λ place. place ≡ index) }
@@ -149,7 +148,7 @@ impl Place {
         }
     }
 
-    /// The index, 0..=4096.
+    /// The code index, 0..=4096.
     #[inline]
     pub fn get(self) -> u32
         ensures value { result ≡ self }
@@ -159,7 +158,7 @@ impl Place {
     }
 }
 
-/// How far a shift goes, 0..=31 bits (MIPS manual, SLL).
+/// A shift amount, 0..=31 bits (MIPS manual, SLL).
 #[derive(Clone, Copy, Debug, PartialEq, Eq, PartialOrd, Ord, Hash)]
 pub struct Amount {
     distance: u8,
@@ -180,7 +179,7 @@ impl Model for Amount {
 impl Amount {
     ghost use Rattle.std.specs.Prelude.{◌≡◌, ◌<◌, ◌↔◌, IsSome, IfSome};
 
-    /// The amount of this many bits; `None` above 31.
+    /// The amount of so many bits; `None` above 31.
     pub fn new(distance: u8) -> Option<Amount>
         ensures some { IsSome result ↔ (distance < 32) }
         ensures value { IfSome result (λ amount. amount ≡ distance) }
@@ -202,7 +201,7 @@ impl Amount {
     }
 }
 
-/// A set of registers; register r is bit r.
+/// A set of registers, such as a create mask: bit r of 34 is register r, so HI is bit 32 and LO is bit 33.
 #[derive(Clone, Copy, Debug, PartialEq, Eq, Hash)]
 pub struct RegSet {
     bits: u64,
@@ -224,7 +223,7 @@ impl RegSet {
     ghost use Rattle.std.specs.Prelude.{◌≡◌, ℕ, ◌<◌, ◌↔◌, ◌^◌, true, false, not, ◌&&◌, ◌||◌, ◌==◌, IsTrue, IsSome, IfSome};
     ghost use Rattle.mips_instructions.specs.Words.{has};
 
-    /// The empty set.
+    /// The set without members.
     #[inline]
     pub fn empty() -> RegSet
         ensures bits { result ≡ 0 }
@@ -233,7 +232,7 @@ impl RegSet {
         RegSet { bits: 0 }
     }
 
-    /// The set with this register added.
+    /// The set with a register added; the same set where it is a member already.
     #[inline]
     pub fn insert(self, register: Reg) -> RegSet
         ensures members { (r : ℕ) → has result r ≡ (has self r || register == r) }
@@ -243,7 +242,7 @@ impl RegSet {
         }
     }
 
-    /// Whether the register is a member.
+    /// Whether a register is a member.
     #[inline]
     pub fn has(self, register: Reg) -> bool
         ensures member { result ≡ has self register }
@@ -251,7 +250,7 @@ impl RegSet {
         self.bits >> register.get() & 1 == 1
     }
 
-    /// The members of either set.
+    /// The union: the members of either set.
     #[inline]
     pub fn union(self, other: RegSet) -> RegSet
         ensures members { (r : ℕ) → has result r ≡ (has self r || has other r) }
@@ -261,7 +260,7 @@ impl RegSet {
         }
     }
 
-    /// The members that the other set doesn't have.
+    /// The difference: the members that the other set doesn't have.
     #[inline]
     pub fn minus(self, other: RegSet) -> RegSet
         ensures members { (r : ℕ) → has result r ≡ (has self r && not (has other r)) }
@@ -271,7 +270,7 @@ impl RegSet {
         }
     }
 
-    /// Whether each member is in the other set.
+    /// Whether each member of this set is in the other one.
     #[inline]
     pub fn is_subset(self, other: RegSet) -> bool
         ensures members { IsTrue result ↔ ((r : ℕ) → has self r ≡ true → has other r ≡ true) }
@@ -279,7 +278,7 @@ impl RegSet {
         self.bits & other.bits == self.bits
     }
 
-    /// Whether the set is empty.
+    /// Whether the set has no members.
     #[inline]
     pub fn is_empty(self) -> bool
         ensures members { IsTrue result ↔ ((r : ℕ) → has self r ≡ false) }
@@ -297,7 +296,7 @@ impl RegSet {
         self.bits
     }
 
-    /// The set of these bits; `None` if a bit above 33 is set.
+    /// The set with register r as a member where bit r is 1; `None` if a bit above 33 is 1.
     pub fn from_bits(bits: u64) -> Option<RegSet>
         ensures some { IsSome result ↔ (bits < 2 ^ 34) }
         ensures value { IfSome result (λ set. set ≡ bits) }
@@ -309,7 +308,7 @@ impl RegSet {
         }
     }
 
-    /// Two sets with the same members are one set. The call does nothing: its contract is the law.
+    /// Law: two sets with the same members are one set. The call does nothing; its contract is the theorem.
     pub fn same(self, other: RegSet)
         requires members { (r : ℕ) → r < 34 → has self r ≡ has other r }
         ensures same { self ≡ other }

@@ -1,5 +1,5 @@
-//! The plain machine of the MIPS integer profile without delay slots: memory, and one instruction after
-//! another. It knows nothing of tasks or marks.
+//! The plain machine of the MIPS integer profile without delay slots: one instruction after another, no tasks.
+//! It is the sequential machine whose results a multiscalar run has to have.
 #![tactic(auto)]
 
 pub(crate) mod decoded;

@@ -1,5 +1,6 @@
 //! The two regions of memory (the addresses are this project's choice): 65,536 bytes of read-only data from
-//! 0x10000000, and right after it 65,536 bytes of data memory; little-endian.
+//! 0x10000000, and right after it 65,536 bytes of data memory; little-endian. Loads and stores of words, halves
+//! and bytes as in the MIPS32 manual, volume II.
 
 ghost use Rattle.std.specs.Prelude.{ℕ, ◌≡◌, ◌+◌, ◌-◌, ◌<◌, ◌≤◌, ◌⊎◌, ◌↔◌, ◌++◌, length, take, drop, replicate, vec_len, Ok, Err, Some, IfOk, IfErr, IfSome, OnErr, IsTrue};
 ghost use Rattle.mips_plain.specs.MemoryMap.{byte_of, region, effective, number_at, put};
@@ -15,16 +16,16 @@ use std::alloc::{AllocError, Global};
 use std::marker::Model;
 use thiserror::Error;
 
-/// How many bytes each region has.
+/// The size of each region of memory, in bytes.
 pub const REGION_BYTES: usize = 65_536;
 
-/// Where read-only data begins.
+/// The address of the first byte of read-only data.
 pub const FIXED_START: u32 = 0x1000_0000;
 
-/// Where data memory begins: right after read-only data.
+/// The address of the first byte of data memory, right after read-only data.
 pub const DATA_START: u32 = 0x1001_0000;
 
-/// Why a memory isn't made.
+/// Why no memory is made.
 #[derive(Clone, Copy, Debug, PartialEq, Eq, Error)]
 pub enum MemoryFault {
     /// 1: more than 65,536 bytes for data memory or for read-only data.
@@ -35,16 +36,16 @@ pub enum MemoryFault {
     OutOfMemory,
 }
 
-/// Where an access falls: in read-only data or in data memory, at an offset from its beginning.
+/// The region that an access falls in, with its offset in bytes from the region's first byte.
 #[derive(Clone, Copy, Debug, PartialEq, Eq)]
 pub enum MemoryPlace {
-    /// In read-only data.
+    /// In read-only data, at this offset.
     InFixed(usize),
-    /// In data memory.
+    /// In data memory, at this offset.
     InData(usize),
 }
 
-/// Data memory and read-only data.
+/// The two regions of memory, 65,536 bytes each: data memory and read-only data.
 #[derive(Debug, Drop)]
 pub struct Memory {
     bytes: Vec<u8>,
@@ -163,8 +164,12 @@ fn put_low(bytes: &mut Vec<u8>, size: usize, at: usize, word: u32)
 }
 
 impl Memory {
-    /// A memory that begins with these bytes in data memory and in read-only data; both are zero
-    /// after them.
+    /// A memory that begins with `bytes` in data memory and `fixed` in read-only data, and is zero after them.
+    ///
+    /// # Errors
+    ///
+    /// `TooMuch` exactly if `bytes` or `fixed` has more than 65,536 bytes; `OutOfMemory` where memory was
+    /// refused.
     pub fn new(alloc: Global, bytes: &[u8], fixed: &[u8]) -> Result<Memory, MemoryFault>
         ensures too_much { (result ≡ Err MemoryFault.TooMuch) ↔ ((65536 < length bytes.now) ⊎ (65536 < length fixed.now)) }
         ensures bytes { IfOk result (λ memory. byte_of memory.bytes ≡ byte_of bytes.now) }
@@ -270,7 +275,12 @@ impl Memory {
         }
     }
 
-    /// What a load at this address returns, or the first trap that holds: unaligned, then out of range.
+    /// The word that a load at this address, in bytes, gives to its register: extended by its sign or with
+    /// zeros.
+    ///
+    /// # Errors
+    ///
+    /// The first trap that holds: `Unaligned`, then `OutOfRange`.
     pub fn load(&self, op: &Op, address: u32) -> Result<u32, Trap>
         requires { IsTrue (is_load op.now) }
         ensures value { IfOk result (λ word. load_at op.now address (byte_of self.now.fixed) (byte_of self.now.bytes) ≡ Some word) }
@@ -282,8 +292,12 @@ impl Memory {
         }
     }
 
-    /// Carries out a store at this address, or returns the first trap that holds: unaligned, then out
-    /// of range, then a store in read-only data; nothing is changed then.
+    /// Carries out a store of the low 32, 16 or 8 bits of `b` at this address, in bytes.
+    ///
+    /// # Errors
+    ///
+    /// The first trap that holds: `Unaligned`, then `OutOfRange`, then `ReadOnly`; the memory is unchanged
+    /// then.
     pub fn store(&mut self, op: &Op, address: u32, b: u32) -> Result<(), Trap>
         requires { IsTrue (is_store op.now) }
         ensures bytes { byte_of self.new.bytes ≡ store_at op.now address b (byte_of self.old.bytes) }
@@ -354,9 +368,9 @@ pub(crate) fn effective_address(a: u32, n: i16) -> u32
     a.wrapping_add(i32::from(n).cast_unsigned())
 }
 
-/// The word that a load with the operand a reads, if it is aligned and lies wholly in read-only data, else
-/// `None`; also `None` for an instruction that is no load. `fixed` are the bytes that read-only data begins
-/// with; it is zero after them.
+/// The word that a load with the operand a (its base register's word) reads, if it is aligned and lies wholly
+/// in read-only data, else `None`; also `None` for an instruction that is no load. `fixed` are the bytes that
+/// read-only data begins with; it is zero after them.
 pub fn fixed_load(op: &Op, a: u32, fixed: &[u8]) -> Option<u32>
     ensures { result ≡ fixed_load op.now a (byte_of fixed.now) }
 {

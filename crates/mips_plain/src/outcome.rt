@@ -1,9 +1,9 @@
-//! How a run stands, what a trap reports, and what an instruction read.
+//! How far a run has come, what a trap reports, and what an instruction read.
 
 use std::alloc::{AllocError, AllocFailed};
 use thiserror::Error;
 
-/// Out of memory: the output could not grow.
+/// The error of a step for which memory was refused: the output could not grow.
 #[derive(Clone, Copy, Debug, PartialEq, Eq, Error)]
 #[error("out of memory")]
 pub struct OutOfMemory;
@@ -20,7 +20,7 @@ impl<T: Drop> From<AllocFailed<T>> for OutOfMemory {
     }
 }
 
-/// Why an instruction can't be carried out (the first that holds applies).
+/// Why an instruction can't be carried out; where several hold, the one with the least number is reported.
 #[derive(Clone, Copy, Debug, PartialEq, Eq)]
 pub enum Trap {
     /// 1: the address is no multiple of the size.
@@ -33,24 +33,25 @@ pub enum Trap {
     ReadOnly,
 }
 
-/// How the plain machine stands.
+/// Whether a run continues or how it ended.
 #[derive(Clone, Copy, Debug, PartialEq, Eq)]
 pub enum Outcome {
-    /// It continues.
+    /// The next instruction can be executed.
     Running,
-    /// It reached a `halt`.
+    /// A `halt` ended the run.
     Halted,
-    /// It met a trap.
+    /// A trap ended the run.
     Trapped(Trap),
 }
 
-/// What one executed instruction read: its address and its two operands, 0 for one that it hasn't.
+/// What an executed instruction read: its address and the words of its operands a and b, 0 where it has no such
+/// operand.
 #[derive(Clone, Copy, Debug, PartialEq, Eq)]
 pub struct Read {
-    /// The address of the instruction.
+    /// The address of the instruction, in bytes.
     pub pc: u32,
-    /// The first operand.
+    /// The word of operand a.
     pub a: u32,
-    /// The second operand.
+    /// The word of operand b.
     pub b: u32,
 }

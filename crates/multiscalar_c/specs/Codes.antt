@@ -15,6 +15,7 @@ use Rattle.jobs.specs.declared.job.ReplayEmit.{ReplayEmit}
 use Rattle.jobs.specs.declared.job.ReplayEmit.TheVariants as replay
 use Rattle.jobs.specs.declared.job.CurveEmit.{CurveEmit}
 use Rattle.jobs.specs.declared.job.CurveEmit.TheVariants as curve
+use Rattle.jobs.specs.declared.job.TableFormat.TheVariants as table
 use Rattle.jobs.specs.declared.job.Prediction.{Prediction}
 use Rattle.jobs.specs.declared.job.Prediction.TheVariants as predict
 
@@ -38,16 +39,16 @@ formats = format.Text ∷ format.Sarif ∷ format.Json ∷ []
 
 -- what `run` writes, from 0 on
 abbrev pub run_emits : List RunEmit
-run_emits = run.Report ∷ run.Script ∷ run.Summary ∷ run.Picture ∷ run.Trace ∷ run.Json ∷ run.ScriptWithValues ∷ run.Waits ∷ run.Waveform ∷ run.Timeline
-    ∷ run.StepPicture ∷ []
+run_emits = run.Report ∷ run.Script ∷ run.Summary table.Text ∷ run.Picture ∷ run.Trace ∷ run.Json ∷ run.ScriptWithValues ∷ run.Waits table.Text ∷ run.Waveform ∷ run.Timeline
+    ∷ run.StepPicture (record { first = 1; last = 4294967295 }) ∷ run.Pipeline ∷ run.Summary table.Csv ∷ run.Waits table.Csv ∷ []
 
 -- what `replay` writes, from 0 on
 abbrev pub replay_emits : List ReplayEmit
-replay_emits = replay.Answers ∷ replay.Summary ∷ replay.Picture ∷ replay.Trace ∷ replay.Json ∷ replay.Timeline ∷ replay.State ∷ []
+replay_emits = replay.Answers ∷ replay.Summary table.Text ∷ replay.Picture ∷ replay.Trace ∷ replay.Json ∷ replay.Timeline ∷ replay.State ∷ replay.Summary table.Csv ∷ []
 
 -- what `curve` writes, from 0 on
 abbrev pub curve_emits : List CurveEmit
-curve_emits = curve.Table ∷ curve.Picture ∷ []
+curve_emits = curve.Table table.Text ∷ curve.Picture ∷ curve.Table table.Csv ∷ []
 
 -- positions of targets that a prediction may have
 abbrev pub is_listed : List ℕ → Bool

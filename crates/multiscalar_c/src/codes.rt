@@ -5,7 +5,8 @@ ghost use Rattle.multiscalar_c.specs.declared.answer.Fault.TheVariants.{Memory, 
 
 use crate::answer::Fault;
 use jobs::job::{
-    CertificateSource, CurveEmit, Emit, Format, Prediction, ReplayEmit, RunEmit, Warnings,
+    ALL_STEPS, CertificateSource, CurveEmit, Emit, Format, Prediction, ReplayEmit, RunEmit,
+    TableFormat, Warnings,
 };
 use jobs::ranges::PredictionList;
 use std::alloc::Global;
@@ -64,15 +65,18 @@ pub(crate) fn run_emit(code: u32) -> Option<RunEmit>
     match code {
         0 => Some(RunEmit::Report),
         1 => Some(RunEmit::Script),
-        2 => Some(RunEmit::Summary),
+        2 => Some(RunEmit::Summary(TableFormat::Text)),
         3 => Some(RunEmit::Picture),
         4 => Some(RunEmit::Trace),
         5 => Some(RunEmit::Json),
         6 => Some(RunEmit::ScriptWithValues),
-        7 => Some(RunEmit::Waits),
+        7 => Some(RunEmit::Waits(TableFormat::Text)),
         8 => Some(RunEmit::Waveform),
         9 => Some(RunEmit::Timeline),
-        10 => Some(RunEmit::StepPicture),
+        10 => Some(RunEmit::StepPicture(ALL_STEPS)),
+        11 => Some(RunEmit::Pipeline),
+        12 => Some(RunEmit::Summary(TableFormat::Csv)),
+        13 => Some(RunEmit::Waits(TableFormat::Csv)),
         _ => None,
     }
 }
@@ -83,12 +87,13 @@ pub(crate) fn replay_emit(code: u32) -> Option<ReplayEmit>
 {
     match code {
         0 => Some(ReplayEmit::Answers),
-        1 => Some(ReplayEmit::Summary),
+        1 => Some(ReplayEmit::Summary(TableFormat::Text)),
         2 => Some(ReplayEmit::Picture),
         3 => Some(ReplayEmit::Trace),
         4 => Some(ReplayEmit::Json),
         5 => Some(ReplayEmit::Timeline),
         6 => Some(ReplayEmit::State),
+        7 => Some(ReplayEmit::Summary(TableFormat::Csv)),
         _ => None,
     }
 }
@@ -98,8 +103,9 @@ pub(crate) fn curve_emit(code: u32) -> Option<CurveEmit>
     ensures { result ≡ slice_get curve_emits code }
 {
     match code {
-        0 => Some(CurveEmit::Table),
+        0 => Some(CurveEmit::Table(TableFormat::Text)),
         1 => Some(CurveEmit::Picture),
+        2 => Some(CurveEmit::Table(TableFormat::Csv)),
         _ => None,
     }
 }

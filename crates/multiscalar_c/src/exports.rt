@@ -176,7 +176,7 @@ fn explain_of(
 
 /// `replay`: plays a script of events on a machine of `units` units, 1..=16. If `is_least`, the certificate is the least
 /// one. `emit` is 0 for the answers, 1 for the summary, 2 for the picture, 3 for the trace, 4 for lines of JSON, 5 for the
-/// timeline, 6 for the state of the machine and its units.
+/// timeline, 6 for the state of the machine and its units, 7 for the summary as comma separated values.
 #[unsafe(no_mangle)]
 pub extern "C" fn multiscalar_c_replay(
     alloc: Global,
@@ -253,7 +253,8 @@ fn replay_strictly_of(
 /// `predict` is 0 for the first target, 1 for the last, 2 for the targets at the positions in `list`, from 0: 1 to 64
 /// numbers, each 0..=15. `emit` is 0 for the output words and the end, 1 for the script, 2 for the summary, 3 for the
 /// picture, 4 for the trace, 5 for lines of JSON, 6 for the script with what each event did, 7 for the table of waits, 8
-/// for the waveform, 9 for the timeline, 10 for the picture by steps.
+/// for the waveform, 9 for the timeline, 10 for the picture by steps, 11 for the log of instructions, 12 for the summary and
+/// 13 for the waits as comma separated values.
 #[unsafe(no_mangle)]
 pub extern "C" fn multiscalar_c_run_steps(
     alloc: Global,

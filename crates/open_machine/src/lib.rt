@@ -1,5 +1,6 @@
-//! A plain machine that takes any well-formed program, whether the checker accepts its marks or not: a list of
-//! units, changed by one event after another as the machine step specifies. It is written to be simple, not fast.
+//! A simple multiscalar machine that takes any well-formed program, whether the checker accepts its marks or not.
+//! It is a list of units, changed by one event after another as the machine step specifies, and is not written
+//! to be fast.
 #![tactic(auto)]
 
 mod allowed;

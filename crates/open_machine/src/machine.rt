@@ -36,11 +36,11 @@ impl<'a> OpenMachine<'a> {
     ghost use Rattle.machine_model.specs.declared.event.Standing.TheVariants as standing;
     ghost use Rattle.open_machine.specs.Machines.{state, units_of, IsAnswered, Applies};
 
-    /// A machine at the start of the program, with the given number of units, at most 16, none of them at work.
+    /// A machine at the start of the program, with up to 16 units, all of them free.
     ///
     /// # Errors
     ///
-    /// `OutOfMemory` where there was no room for the queue or the memory.
+    /// `OutOfMemory` where memory was refused for the queue or the memory.
     pub fn new(
         alloc: Global,
         program: &'a Program,
@@ -65,8 +65,8 @@ impl<'a> OpenMachine<'a> {
     ///
     /// # Errors
     ///
-    /// The first refusal that holds, else `OutOfMemory` where a growth for an Exec or a Retire was refused, the only
-    /// events that take memory; nothing is changed then.
+    /// The first refusal that holds, else `OutOfMemory` where memory was refused for an Exec or a Retire, the
+    /// only events that take it; nothing is changed then.
     pub fn apply(&mut self, event: &Event) -> Result<(), Refused>
         ensures answer { IsAnswered self.old event.now result }
         ensures ok { OnOk result (Applies self.old event.now self.new) }
@@ -92,21 +92,21 @@ impl<'a> OpenMachine<'a> {
         matches!(self.processor.outcome(), Standing::Running)
     }
 
-    /// The program.
+    /// The program that the machine runs.
     pub fn program(&self) -> &'a Program
         ensures { result.now ≡ self.now.program }
     {
         self.program
     }
 
-    /// How many events were applied.
+    /// The number of events that were applied.
     pub fn count(&self) -> usize
         ensures { result ≡ self.now.count }
     {
         self.count
     }
 
-    /// How many units there are, at work or not.
+    /// The number of units, at work or free; at most 16.
     pub fn capacity(&self) -> u32
         ensures capacity { result ≡ units_of self.now }
         ensures within { units_of self.now ≤ 16 }
@@ -114,7 +114,7 @@ impl<'a> OpenMachine<'a> {
         self.processor.capacity()
     }
 
-    /// How many units are at work.
+    /// The number of units at work.
     pub fn active(&self) -> u32
         ensures active { result ≡ length (state self.now).queue }
         ensures within { length (state self.now).queue ≤ units_of self.now }
@@ -122,21 +122,21 @@ impl<'a> OpenMachine<'a> {
         self.processor.active()
     }
 
-    /// The unit at a position from the head, 0 being the head; `None` past the tail.
+    /// The unit at a position, counted from the head, which is 0; `None` past the tail.
     pub fn unit(&self, position: u32) -> Option<&OpenUnit>
         ensures { option_map active_of (option_copied result) ≡ slice_get (state self.now).queue position }
     {
         self.processor.unit(position)
     }
 
-    /// How the run stands.
+    /// Whether the run continues or how it ended.
     pub fn outcome(&self) -> Standing
         ensures { result ≡ (state self.now).outcome }
     {
         self.processor.outcome()
     }
 
-    /// What the retired tasks read, oldest first.
+    /// What the instructions of the retired tasks read, oldest first.
     pub fn reads(&self) -> &[Read]
         ensures { result.now ≡ (state self.now).reads }
     {
@@ -150,7 +150,7 @@ impl<'a> OpenMachine<'a> {
         self.processor.commits()
     }
 
-    /// The address at which the next task after the retired ones begins.
+    /// The address, in bytes, at which the next task after the retired ones begins.
     pub fn next(&self) -> u32
         ensures { result ≡ (state self.now).next }
     {

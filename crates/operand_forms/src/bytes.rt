@@ -12,10 +12,10 @@ use program_tokens::span::{TokenSpan, read_spans};
 use program_tokens::token::{Token, TokenFault};
 use std::alloc::{AllocError, Global};
 
-/// The place of what has none: the first byte of the line.
+/// The first byte of a line, which is the place of what has none.
 pub const LINE_START: TokenSpan = TokenSpan { column: 1, len: 1 };
 
-/// The bytes of a place of a line.
+/// The bytes of a line at a place; fewer where the line ends before.
 pub fn bytes_at(line: &[u8], span: TokenSpan) -> &[u8]
     ensures { result.now ≡ bytes_at line.now span }
 {
@@ -59,7 +59,8 @@ fn byte_place(index: Option<usize>) -> TokenSpan
     }
 }
 
-/// The first byte of a line that no text has; the line's first byte where there is none.
+/// The place of the first byte that no text may have, which is neither printable ASCII nor a tab, nor the CR at the line's
+/// end; the line's first byte where there is none.
 #[tactic(auto, unfolding(crate::specs::Bytes::byte_span))]
 pub fn byte_span(line: &[u8]) -> TokenSpan
     ensures { result ≡ byte_span line.now }
@@ -67,7 +68,7 @@ pub fn byte_span(line: &[u8]) -> TokenSpan
     byte_place(first_bad(without_carriage_return(line)))
 }
 
-/// The byte where a place begins; 0 where the line has none there.
+/// The first byte of a place; 0 where the line has no such byte.
 pub fn byte_at(line: &[u8], span: TokenSpan) -> u8
     ensures { result ≡ byte_at line.now span }
 {
@@ -97,7 +98,7 @@ fn is_cut(first: u8) -> bool
     first == b'.' || first == b'!'
 }
 
-/// The place of a token, with the bytes of a name after it where it is a directive or a mark: the whole word.
+/// The place of a token; for a directive or a mark, together with the letters, digits and `_` that follow it.
 #[tactic(auto, unfolding(crate::specs::Bytes::whole_word))]
 pub fn whole_word(line: &[u8], span: TokenSpan) -> TokenSpan
     ensures { result ≡ whole_word line.now span }
@@ -136,7 +137,11 @@ fn token_from(alloc: Global, line: &[u8], spans: &[TokenSpan]) -> Result<TokenSp
     Ok(LINE_START)
 }
 
-/// The first bytes of a line that form no token; the line's first byte where there are none.
+/// The place of the first bytes of a line that form no token; the line's first byte where there are none.
+///
+/// # Errors
+///
+/// `AllocError` where memory was refused.
 #[tactic(auto, unfolding(crate::specs::Bytes::token_span))]
 pub fn token_span(alloc: Global, line: &[u8]) -> Result<TokenSpan, AllocError>
     ensures { IfOk result (λ span. span ≡ token_span line.now) }

@@ -43,8 +43,8 @@ impl Texts {
         Ok(())
     }
 
-    /// Adds what may be meant by a word that begins no statement; nothing where it begins one in another section, or in other
-    /// assemblers.
+    /// Adds what may be meant by a word that begins no statement; nothing where it begins one in another section, or in
+    /// other assemblers.
     fn add_words(&mut self, word: &[u8]) -> Result<(), AllocError> {
         if shape_of(word).is_some() || instead(word).is_some() {
             return Ok(());
@@ -112,7 +112,7 @@ fn binary_value(bytes: &[u8]) -> Option<u32> {
     Some(value)
 }
 
-/// The texts that may be meant in place of what is wrong in a line.
+/// The texts that may be meant in place of the bytes `meant`, which a fault of this kind is about.
 ///
 /// # Errors
 ///

@@ -562,7 +562,8 @@ fn sign_instead(word: &[u8]) -> Option<&'static str> {
     row_of(&SIGNS, word)
 }
 
-/// What is written instead of a word, a directive, a mark or what is no token, if it is known.
+/// What is written here instead of a word, a directive, a mark or bytes that are no token, of other assemblers, if that is
+/// known.
 pub fn instead(word: &[u8]) -> Option<&'static str> {
     match word_instead(word) {
         Some(text) => Some(text),
@@ -598,7 +599,8 @@ fn operand_row(
     None
 }
 
-/// What is written instead of an operand that does not fit, if it is known.
+/// What is written here instead of the operand `meant`, which does not fit the statement `word` with operands of the form
+/// `form`, if that is known.
 pub fn operand_instead(word: &[u8], form: &str, meant: &[u8]) -> Option<&'static str> {
     operand_row(&OPERANDS, word, form, meant)
 }

@@ -1,4 +1,4 @@
-//! Which tokens follow one another in the operands of a statement.
+//! The operands of a statement as a sequence of parts, and how many tokens fit it.
 
 ghost use Rattle.std.specs.Prelude.{◌≡◌, ◌≤◌, length, drop};
 ghost use Rattle.std.specs.Option.{option_map};
@@ -17,11 +17,11 @@ use program_tokens::token::Token;
 pub enum OperandPart {
     /// A general register, `$0` to `$31`.
     Register,
-    /// A number.
+    /// A number, of any range.
     Number,
-    /// A name, or `@` and an index.
+    /// A place in the code: a name, or `@` and a code index.
     Place,
-    /// A name.
+    /// A name alone.
     Label,
     /// `,`
     Comma,
@@ -35,24 +35,24 @@ pub enum OperandPart {
     Create,
     /// The word `targets`.
     Targets,
-    /// Numbers with commas between them.
+    /// One number or more, with commas between them.
     Numbers,
-    /// Registers with commas between them, HI and LO among them.
+    /// One register or more, with commas between them, HI and LO among them.
     RegisterList,
-    /// Such registers, or `-`.
+    /// Such registers, or `-` for none.
     RegisterSet,
-    /// Places with commas between them, or `-`.
+    /// One place or more, with commas between them, or `-` for none.
     Places,
 }
 
-/// How far the first part has come.
+/// How much of the first part has been read.
 #[derive(Clone, Copy, Debug, PartialEq, Eq)]
 pub enum Inside {
-    /// It has not begun.
+    /// Nothing of it.
     Before,
-    /// A member of its list has just been read.
+    /// A member of its list, last.
     Member,
-    /// A comma of its list has just been read.
+    /// A comma of its list, last.
     AfterComma,
 }
 
@@ -209,7 +209,7 @@ fn next_part(
     }
 }
 
-/// How many of these tokens fit the operands of a shape, from the first on.
+/// How many tokens, from the first on, fit the operands of a shape; numbers of any range fit.
 pub fn fitting(shape: OperandShape, tokens: &[Token]) -> usize
     ensures value { result ≡ fitting Inside.Before (form_of shape) tokens.now }
     ensures within { result ≤ length tokens.now }

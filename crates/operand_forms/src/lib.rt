@@ -1,5 +1,7 @@
-//! What operands a statement takes: their forms and ranges, as `explain` names them, and the laws that the assembler
-//! reads exactly these; the words of other assemblers, and the known words that are near an unknown one.
+//! The operands that each statement takes: their forms and ranges, as `explain` names them.
+//!
+//! The laws say that the assembler reads exactly these. Here, too, are the words of other assemblers, with what is written
+//! instead of them, and the known words that are near an unknown one.
 #![tactic(auto)]
 
 pub mod bytes;

@@ -6,8 +6,7 @@ ghost use Rattle.operand_forms.specs.LineFaults.{fault_at, kind_of_fault};
 use annotated_asm::fault::AsmFault;
 use program_statements::fault::StatementFault;
 
-/// What is wrong with a line, judged by itself and its section. The numbers are those of the faults of a
-/// program text.
+/// What is wrong with a line, judged by itself and its section. The numbers are those of the faults of a program text.
 #[derive(Clone, Copy, Debug, PartialEq, Eq)]
 pub enum LineFaultKind {
     /// 2: a byte is neither printable ASCII nor a tab, nor the one CR at the line's end.
@@ -25,7 +24,7 @@ pub enum LineFaultKind {
 }
 
 impl LineFaultKind {
-    /// The fault of the line of this number, as the assembler reports it.
+    /// The fault of the line with this number, from 1, as the assembler reports it.
     pub fn on_line(self, line: u32) -> AsmFault
         ensures { result ≡ fault_at line self }
     {
@@ -40,7 +39,7 @@ impl LineFaultKind {
     }
 }
 
-/// A statement's fault, as a fault of its line.
+/// The kind of line fault that a fault of a statement is.
 pub fn kind_of_fault(fault: StatementFault) -> LineFaultKind
     ensures { result ≡ kind_of_fault fault }
 {

@@ -1,4 +1,4 @@
-//! Which bytes of a line are meant by its fault.
+//! The bytes of a line that its fault is about.
 
 ghost use Rattle.std.specs.Prelude.{◌≡◌, IfOk};
 ghost use Rattle.operand_forms.specs.LinePlaces.{is_label, after_labels, word_place, word_in, shape_named, line_place};
@@ -23,7 +23,7 @@ fn is_label(line: &[u8], name: TokenSpan, colon: TokenSpan) -> bool
     begins_name(first) && bytes_at(line, colon) == COLON
 }
 
-/// The places after a line's labels.
+/// The places of a line's tokens without those of the labels, a name and a colon each, at its front.
 pub fn after_labels<'a>(line: &[u8], places: &'a [TokenSpan]) -> &'a [TokenSpan]
     ensures { result.now ≡ after_labels line.now places.now }
 {
@@ -37,28 +37,32 @@ pub fn after_labels<'a>(line: &[u8], places: &'a [TokenSpan]) -> &'a [TokenSpan]
     rest
 }
 
-/// Where the first word of a line's statement stands.
+/// The place of the first word of a line's statement, which follows the labels; the line's first byte where there is none.
 pub fn word_place(line: &[u8], places: &[TokenSpan]) -> TokenSpan
     ensures { result ≡ word_place line.now places.now }
 {
     span_at(after_labels(line, places), 0)
 }
 
-/// The first word of a line's statement.
+/// The bytes of the first word of a line's statement.
 pub fn word_in<'a>(line: &'a [u8], reading: &Reading) -> &'a [u8]
     ensures { result.now ≡ word_in line.now reading.now }
 {
     bytes_at(line, word_place(line, reading.places.as_slice()))
 }
 
-/// The operands that follow a word; none where it begins no statement.
+/// The shape of the operands that follow a word; `OperandShape::Nothing` where it begins no statement.
 pub fn shape_named(word: &[u8]) -> OperandShape
     ensures { result ≡ shape_named word.now }
 {
     shape_of(word).unwrap_or(OperandShape::Nothing)
 }
 
-/// The bytes of a line that are meant by its fault.
+/// The place in a line that a fault of this kind is about.
+///
+/// # Errors
+///
+/// `AllocError` where memory was refused.
 #[tactic(auto, unfolding(crate::specs::LinePlaces::line_place))]
 pub fn line_place(
     alloc: Global,

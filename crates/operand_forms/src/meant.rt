@@ -1,4 +1,4 @@
-//! Which token of a line is meant by a fault of its statement.
+//! The token of a line that a fault of its statement is about.
 
 ghost use Rattle.std.specs.Prelude.{◌≡◌, ◌≤◌, length, false};
 ghost use Rattle.std.specs.List.{position};
@@ -12,7 +12,7 @@ use crate::slices::after;
 use program_tokens::span::TokenSpan;
 use program_tokens::token::{Mark, Number, Token};
 
-/// How many tokens the labels at the front of a line are: a name and a colon each.
+/// How many tokens the labels at the front of a line have: two for each label, a name and a colon.
 pub fn label_tokens(tokens: &[Token]) -> usize
     ensures value { result ≡ label_tokens tokens.now }
     ensures within { result ≤ length tokens.now }
@@ -26,7 +26,7 @@ pub fn label_tokens(tokens: &[Token]) -> usize
     count
 }
 
-/// The place of the token with this index; the line's first byte where there is none.
+/// The place at this index, from 0, among the places of a line's tokens; the line's first byte where there is none.
 pub fn span_at(spans: &[TokenSpan], index: usize) -> TokenSpan
     ensures { result ≡ span_at spans.now index }
 {
@@ -77,8 +77,8 @@ fn is_early(shape: OperandShape, tokens: &[Token]) -> bool
     fitting(shape, operands) == operands.len()
 }
 
-/// The first token that is no operand of the shape, or the place after the operands where they end too
-/// early.
+/// The place of the first token that does not fit the operands of the shape, or the place after the operands where they end
+/// too early.
 #[tactic(auto, unfolding(crate::specs::Meant::operand_span))]
 pub fn operand_span(shape: OperandShape, tokens: &[Token], spans: &[TokenSpan]) -> TokenSpan
     ensures { result ≡ operand_span shape tokens.now spans.now }
@@ -121,7 +121,8 @@ fn first_beyond(range: Range, tokens: &[Token]) -> Option<usize>
     tokens.iter().position(|token| is_beyond(range, token))
 }
 
-/// The first token that is a number out of the range of the shape; the first of all where there is none.
+/// The index, from 0, of the first token that is a number out of the range of the shape, or `@` and an index above 4,096;
+/// 0 where there is none.
 #[tactic(auto, unfolding(crate::specs::Meant::number_index))]
 pub fn number_index(shape: OperandShape, tokens: &[Token]) -> usize
     ensures { result ≡ number_index shape tokens.now }
@@ -161,7 +162,7 @@ fn bad_mark(tokens: &[Token]) -> usize
     index
 }
 
-/// Whether the statement is a directive.
+/// Whether the statement of a line with these tokens is a directive.
 pub fn is_directive(tokens: &[Token]) -> bool
     ensures { result ≡ is_directive tokens.now }
 {
@@ -171,7 +172,7 @@ pub fn is_directive(tokens: &[Token]) -> bool
     }
 }
 
-/// The first mark that cannot stand where it does: on a directive none can.
+/// The index, from 0, of the first mark that the statement cannot have; on a directive, of the first mark.
 #[tactic(auto, unfolding(crate::specs::Meant::mark_index))]
 pub fn mark_index(tokens: &[Token]) -> usize
     ensures { result ≡ mark_index tokens.now }

@@ -1,4 +1,4 @@
-//! What is written instead of a line, in its own words.
+//! What is written instead of a line of another assembler, with the line's own registers, numbers and names.
 
 use crate::bytes::{byte_at, bytes_at, whole_word};
 use crate::foreign_words::NOT_AN_ADDRESS;
@@ -606,7 +606,8 @@ fn takes_register_one(text: &str) -> bool {
         .any(|two| matches!(two, [b'$', b'1']))
 }
 
-/// What is written instead of a line, in its own words, if it is known.
+/// What is written instead of a line of another assembler, with the line's own registers, numbers and names; `None` where
+/// that is not known.
 ///
 /// # Errors
 ///

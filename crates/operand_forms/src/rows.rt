@@ -12,7 +12,11 @@ use program_tokens::span::{TokenSpan, read_spans};
 use program_tokens::token::{Token, TokenFault};
 use std::alloc::{AllocError, Global};
 
-/// The lines of a text.
+/// The lines of a text, each without its LF; a text that ends with LF has an empty line at its end.
+///
+/// # Errors
+///
+/// `AllocError` where memory was refused.
 pub fn lines_of(alloc: Global, text: &[u8]) -> Result<Vec<&[u8]>, AllocError>
     ensures { IfOk result (λ list. each (λ line. line.now) list.items ≡ lines text.now) }
 {
@@ -28,7 +32,7 @@ pub fn lines_of(alloc: Global, text: &[u8]) -> Result<Vec<&[u8]>, AllocError>
     }
 }
 
-/// The line of this number, from 1 on; empty where there is none.
+/// The line of this number, from 1; empty where there is none.
 pub fn line_at<'a>(rows: &[&'a [u8]], number: u32) -> &'a [u8]
     ensures { result.now ≡ line_at (each (λ row. row.now) rows.now) number }
 {
@@ -38,12 +42,12 @@ pub fn line_at<'a>(rows: &[&'a [u8]], number: u32) -> &'a [u8]
     }
 }
 
-/// What is read of a line.
+/// The tokens of a line and their places.
 #[derive(Drop)]
 pub struct Reading {
-    /// Its tokens; none where some bytes are no token.
+    /// Its tokens; none if some of its bytes are no token.
     pub tokens: Listed<Token>,
-    /// Where its tokens stand, and what is no token.
+    /// The places of its tokens, in order, and of bytes that are no token.
     pub places: Listed<TokenSpan>,
 }
 
@@ -58,7 +62,11 @@ fn tokens_of(alloc: Global, line: &[u8]) -> Result<Vec<Token>, AllocError>
     }
 }
 
-/// Where the tokens of a line stand.
+/// The places of the tokens of a line, in order, and of bytes that are no token. The line is without its LF.
+///
+/// # Errors
+///
+/// `AllocError` where memory was refused.
 pub fn places_of(alloc: Global, line: &[u8]) -> Result<Vec<TokenSpan>, AllocError>
     ensures { IfOk result (λ places. places.items ≡ line_spans line.now) }
 {
@@ -67,7 +75,11 @@ pub fn places_of(alloc: Global, line: &[u8]) -> Result<Vec<TokenSpan>, AllocErro
     Ok(places)
 }
 
-/// What is read of a line.
+/// The tokens of a line and their places. The line is without its LF.
+///
+/// # Errors
+///
+/// `AllocError` where memory was refused; a line with bytes that are no token is no error.
 pub fn read(alloc: Global, line: &[u8]) -> Result<Reading, AllocError>
     ensures { IfOk result (λ reading. reading ≡ reading_of line.now) }
 {

@@ -1,30 +1,30 @@
-//! What operands each statement takes.
+//! The shapes of operands: what each statement takes after its word, and in which range its numbers are.
 
 ghost use Rattle.std.specs.Prelude.{◌≡◌, map};
 ghost use Rattle.operand_forms.specs.Shapes.{directives, shape_in, shape_of, instruction_text, form_text, takes_none, range_of, range_text};
 
 use mips_instructions::instruction::{Form, Mnemonic};
 
-/// What the operands of a statement are.
+/// The shape of a statement's operands.
 #[derive(Clone, Copy, Debug, PartialEq, Eq)]
 pub enum OperandShape {
-    /// Those of an instruction.
+    /// The operands of an instruction of this form.
     Instruction(Form),
     /// No operands.
     Nothing,
-    /// `NAME`
+    /// `NAME`, after `.start`.
     Start,
-    /// `NAME create=REGS targets=TS`
+    /// `NAME create=REGS targets=TS`, after `.task`.
     Task,
-    /// `n,..`
+    /// `n,..`, after `.word`.
     Words,
-    /// `n,..`
+    /// `n,..`, after `.byte`.
     Bytes,
-    /// `n`
+    /// `n`, after `.space`.
     Space,
 }
 
-/// The numbers that a statement takes.
+/// The numbers that a statement takes: `low` to `high`, both included.
 #[derive(Clone, Copy, Debug, PartialEq, Eq)]
 pub struct Range {
     /// The least.
@@ -33,7 +33,7 @@ pub struct Range {
     pub high: i64,
 }
 
-/// Every directive, with what operands follow it.
+/// Every directive, with the shape of the operands that follow it.
 pub const DIRECTIVES: [(&str, OperandShape); 8] = [
     (".start", OperandShape::Start),
     (".task", OperandShape::Task),
@@ -68,7 +68,7 @@ fn directive_shape(word: &[u8]) -> Option<OperandShape>
     shape_in(&DIRECTIVES, word)
 }
 
-/// What operands follow this word, if it begins a statement.
+/// The shape of the operands that follow a word, a mnemonic or a directive; `None` where it begins no statement.
 #[tactic(auto, unfolding(crate::specs::Shapes::shape_of))]
 pub fn shape_of(word: &[u8]) -> Option<OperandShape>
     ensures { result ≡ shape_of word.now }
@@ -97,7 +97,7 @@ fn instruction_text(form: Form) -> &'static str
     }
 }
 
-/// Operands as they may stand after the word, with the blank before them; nothing where there are none.
+/// Operands of a shape as they may follow the word, an example with a blank before it; empty where there are none.
 pub fn form_text(shape: OperandShape) -> &'static str
     ensures { result.now ≡ form_text shape }
 {
@@ -111,7 +111,7 @@ pub fn form_text(shape: OperandShape) -> &'static str
     }
 }
 
-/// Whether the statement takes no operand.
+/// Whether a statement of this shape takes no operand.
 pub fn takes_none(shape: OperandShape) -> bool
     ensures { result ≡ takes_none shape }
 {
@@ -122,7 +122,7 @@ pub fn takes_none(shape: OperandShape) -> bool
     }
 }
 
-/// The numbers that the statement takes; 0 alone where it takes none.
+/// The range of the numbers that a statement of this shape takes; 0 alone where it takes none.
 pub fn range_of(shape: OperandShape) -> Range
     ensures { result ≡ range_of shape }
 {
@@ -141,7 +141,7 @@ pub fn range_of(shape: OperandShape) -> Range
     Range { low, high }
 }
 
-/// The sentence that gives the range of a shape's number.
+/// The sentence of a message that gives the range of the shape's numbers.
 pub fn range_text(shape: OperandShape) -> &'static str
     ensures { result.now ≡ range_text shape }
 {

@@ -1,4 +1,4 @@
-//! The beginnings and the ends of lists.
+//! The beginnings and the ends of slices.
 
 ghost use Rattle.std.specs.Prelude.{◌≡◌, take, drop};
 
@@ -13,7 +13,7 @@ pub fn first<T>(all: &[T], count: usize) -> &[T]
     }
 }
 
-/// The items after the first `count`.
+/// The items after the first `count`; none if there are no more.
 pub fn after<T>(all: &[T], count: usize) -> &[T]
     ensures { result.now ≡ drop count all.now }
 {

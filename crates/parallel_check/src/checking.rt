@@ -1,4 +1,4 @@
-//! The verdict by several workers.
+//! The checker's verdict by several workers.
 
 ghost use Rattle.std.specs.Prelude.{◌≡◌, ◌↔◌, ◌+◌, ◌<◌, ◌^◌, ◌⊎◌, [], true, length, OnOk, IfOk, IfErr, Err};
 ghost use Rattle.std.specs.List.{All};
@@ -18,8 +18,8 @@ use std::thread;
 use std::thread::Threads;
 use task_descriptor::program::Program;
 
-/// The findings of all tasks, one task after another, by several workers: for every number of workers and
-/// every gate those of `mark_checker::check::verdict`. One worker works without a thread of its own.
+/// The findings of all tasks, task 0 first, by several workers: for every number of workers and every gate the
+/// same as `mark_checker::check::verdict` gives. One worker works without a thread of its own.
 ///
 /// # Errors
 ///
@@ -42,7 +42,7 @@ pub fn verdict_shared<G: CheckGate, R: Threads + Sync>(
     Ok(verdict_by(rt, alloc, program, cert, workers, gate)?)
 }
 
-/// The findings of all tasks, as `verdict_shared` has them, by this many workers.
+/// The findings of all tasks, as `verdict_shared` gives them, by 1 to 16 workers.
 ///
 /// # Errors
 ///
@@ -64,8 +64,8 @@ pub fn verdict_by<G: CheckGate, R: Threads + Sync>(
     })
 }
 
-/// Whether the rules find nothing, by several workers: for every number of workers and every gate the
-/// answer of `mark_checker::accept::accepts`.
+/// Whether the rules find nothing, by several workers: for every number of workers and every gate the answer of
+/// `mark_checker::accept::accepts`.
 ///
 /// # Errors
 ///

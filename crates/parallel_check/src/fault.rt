@@ -9,7 +9,7 @@ pub enum ShareFault {
     /// 1: the number of workers is not 1 to 16.
     #[error("1 Workers")]
     Workers,
-    /// 2: there was no memory.
+    /// 2: memory was refused.
     #[error("2 OutOfMemory")]
     OutOfMemory,
 }

@@ -38,9 +38,13 @@ const LEAST_SHARED: usize = 65_536;
 /// at the end.
 const SHARES_EACH: usize = 8;
 
-/// What `mask_certificate::reading::read` answers, faults included, by several workers, of a text that lies
-/// in pieces, cut after LFs. Any number of workers will do: 0 counts as 1, and more than 16 count as 16. A
-/// short text is read by one.
+/// The certificate that a text in pieces, cut after LFs, spells for the tasks of a program, read by several
+/// workers. Any number of workers will do: 0 counts as 1, and more than 16 count as 16. A short text is read by
+/// one.
+///
+/// # Errors
+///
+/// Those of `mask_certificate::reading::read`, whatever the number of workers.
 pub fn read_shared<G: ReadGate, R: Threads + Sync>(
     rt: &R,
     alloc: Global,
@@ -57,7 +61,8 @@ pub fn read_shared<G: ReadGate, R: Threads + Sync>(
     ReadAhead::new(rt, alloc, &pieces, workers, gate)?.read(alloc, program)
 }
 
-/// Whether the text in these pieces is shared out among the given number of workers.
+/// Whether the text in these pieces is shared out among so many workers: it has 65,536 bytes or more, and there
+/// are at least two workers.
 pub fn is_shared_out(pieces: &[&[u8]], workers: u32) -> bool
     ensures { (result ≡ true) ↔ ((1 < workers) × (65536 ≤ length (joined (map (λ piece. piece.now) pieces.now)))) }
 {
@@ -78,8 +83,8 @@ fn is_long(pieces: &[&[u8]]) -> bool
     false
 }
 
-/// What several workers have read of the text of a certificate, before it is known whose certificate it
-/// is: so the program can be read at the same time. A contract sees it as the text.
+/// What several workers have read of a certificate's text before it is known whose certificate it is: so the
+/// program can be read at the same time. A contract sees it as the text.
 #[derive(Drop)]
 pub struct ReadAhead<'a> {
     parts: Vec<CertificatePart<'a>>,
@@ -103,8 +108,8 @@ impl<'a> ReadAhead<'a> {
     ghost use Rattle.mask_certificate.specs.CertificateText.{Spells};
     ghost use Rattle.mask_certificate.specs.CertificateReading.{cert_parse, names_of};
 
-    /// Lets the workers read a text in pieces, cut after LFs. Any number of them will do: 0 counts as 1,
-    /// and more than 16 count as 16. A text that is not shared out (`is_shared_out`) is left to `read`.
+    /// Lets the workers read a text in pieces, cut after LFs. Any number of them will do: 0 counts as 1, and
+    /// more than 16 count as 16. A text that is not shared out (`is_shared_out`) is left to `read`.
     ///
     /// # Errors
     ///
@@ -124,7 +129,11 @@ impl<'a> ReadAhead<'a> {
         Ok(ReadAhead { parts })
     }
 
-    /// What `mask_certificate::reading::read` answers for the text, faults included.
+    /// The certificate that the text spells for the tasks of a program.
+    ///
+    /// # Errors
+    ///
+    /// Those of `mask_certificate::reading::read`.
     pub fn read(self, alloc: Global, program: &Program) -> Result<Cert, CertFault>
         ensures parsed { (result ≡ Err CertFault.OutOfMemory) ⊎ (result ≡ cert_parse self.entry (names_of program.now)) }
         ensures spelled { result ≢ Err CertFault.OutOfMemory

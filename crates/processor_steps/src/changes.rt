@@ -46,13 +46,14 @@ impl Processor {
         self.assigns += 1;
     }
 
-    /// The unit at a position continues from where a burst ended; a burst with many reads is left without a step.
-    /// The caller ensures that the burst was made on that unit, and that since then at most more registers have
-    /// arrived there. Where no unit is there, only the number of units and read-only data are promised.
+    /// The unit at a position, counted from the head, continues from where a burst ended; a burst with many
+    /// reads is left without instructions. The burst was made on that unit, and since then at most more
+    /// registers have arrived there. Where no unit is at the position, only the number of units and read-only
+    /// data are promised.
     ///
     /// # Errors
     ///
-    /// `OutOfMemory` where there is no room for the reads of the burst; nothing is changed then.
+    /// `OutOfMemory` where memory was refused for the reads of the burst; nothing is changed then.
     pub fn take_burst(&mut self, position: u32, burst: &mut Burst<'_>) -> Result<(), OutOfMemory>
         ensures state { OnOk result ((u : Active) → slice_get (state_of self.old).queue position ≡ Some u
             → state_of self.new ≡ with_queue (state_of self.old) (slice_set (state_of self.old).queue position (carried_on (active_of burst.old.after) u))) }

@@ -18,8 +18,8 @@ use task_descriptor::program::Program;
 use unit_core::unit::Unit;
 
 impl Processor {
-    /// The event that the head is ready for while the run continues; on an empty queue, the Assign of the
-    /// task at the next address. `None` where no task begins there.
+    /// The event that the head is ready for while the run continues; on an empty queue, the Assign of the task
+    /// at the next address. `None` where no task begins there.
     pub fn event_at_head(&self, program: &Program) -> Option<Event>
         ensures { result ≡ event_of_queue program.now (state_of self.now).next (state_of self.now).queue }
     {
@@ -58,7 +58,7 @@ impl Processor {
         }
     }
 
-    /// The targets of a tail that has not stopped; none where there is no such tail.
+    /// The targets of a tail that has not stopped, as code indices; none where there is no such tail.
     pub fn targets_of_tail<'p>(&self, program: &'p Program) -> &'p [Place]
         ensures { result.now ≡ targets_behind program.now (last_or None (state_of self.now).queue) }
     {
@@ -71,9 +71,10 @@ impl Processor {
         }
     }
 
-    /// The task that may be assigned next: after a tail that has not stopped, the one at the target with index
-    /// `answer` modulo the number of targets; after a stopped tail, the one at its exit; on an empty queue, the
-    /// one at the next address. The last two hold whatever the answer. `None` where no task may follow.
+    /// The number of the task that may be assigned next: after a tail that has not stopped, the one at its
+    /// target `answer` modulo the number of targets; after a stopped tail, the one at its exit; on an empty
+    /// queue, the one at the next address. The last two hold whatever the answer. `None` where no task may
+    /// follow.
     pub fn task_to_assign(&self, program: &Program, answer: u32) -> Option<u32>
         ensures { result ≡ task_behind program.now (state_of self.now).next (last_or None (state_of self.now).queue) answer }
     {

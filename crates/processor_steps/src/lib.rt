@@ -1,5 +1,6 @@
-//! The processor at one moment: a queue of units on a ring, memory, and what retired; and how each event
-//! changes it.
+//! The processor at one moment: the queue of units on a ring, memory, and what retired; and how each event changes it.
+//! The circular queue of units with a head and a tail is the paper's (Sohi, Breach, Vijaykumar, "Multiscalar
+//! Processors", ISCA 1995, section 2).
 #![tactic(auto)]
 
 mod allowed;

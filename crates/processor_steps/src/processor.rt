@@ -1,4 +1,4 @@
-//! What the events of a machine change: the queue of units, registers, memory and output, and what
+//! The state that the events of a machine change: the queue of units, registers, memory and output, and what
 //! retired; and how it is read.
 
 use crate::queue::Queue;
@@ -13,7 +13,7 @@ use unit_core::read_log::ReadLog;
 use unit_core::unit::Unit;
 use unit_core::world::World;
 
-/// What the events of a machine change.
+/// The state that the events of a machine change.
 #[derive(Debug, Drop)]
 pub struct Processor {
     /// The units at work.
@@ -58,11 +58,11 @@ impl Processor {
     ghost use Rattle.unit_core.specs.Units.{active_of};
     ghost use Rattle.processor_steps.specs.Processors.{state_of, position_with as position_with_serial};
 
-    /// A processor at the start of a program, with the given number of units, at most 16, none of them at work.
+    /// A processor at the start of a program, with up to 16 units, all of them free.
     ///
     /// # Errors
     ///
-    /// `OutOfMemory` where there was no room for the ring or the memory.
+    /// `OutOfMemory` where memory was refused for the ring or the memory.
     pub fn new(alloc: Global, program: &Program, units: u32) -> Result<Processor, OutOfMemory>
         requires { units ≤ 16 }
         ensures opening { IfOk result (λ processor. state_of processor ≡ opening program.now) }
@@ -86,7 +86,7 @@ impl Processor {
         }
     }
 
-    /// How many units there are, at work or not.
+    /// The number of units, at work or free; at most 16.
     #[inline]
     pub fn capacity(&self) -> u32
         ensures capacity { result ≡ self.now.queue.capacity }
@@ -95,7 +95,7 @@ impl Processor {
         self.queue.capacity()
     }
 
-    /// How many units are at work.
+    /// The number of units at work.
     #[inline]
     pub fn active(&self) -> u32
         ensures active { result ≡ length (state_of self.now).queue }
@@ -104,7 +104,7 @@ impl Processor {
         self.queue.len()
     }
 
-    /// The unit at a position from the head, 0 being the head; `None` past the tail.
+    /// The unit at a position, counted from the head, which is 0; `None` past the tail.
     #[inline]
     pub fn unit(&self, position: u32) -> Option<&Unit>
         ensures { option_map active_of (option_copied result) ≡ slice_get (state_of self.now).queue position }
@@ -112,14 +112,15 @@ impl Processor {
         self.queue.get(position as usize)
     }
 
-    /// The position of the unit with a serial number; `None` where no unit at work has it.
+    /// The position, counted from the head, of the unit with a serial number; `None` where no unit at work has
+    /// it.
     pub fn position_with(&self, serial: u32) -> Option<u32>
         ensures { result ≡ position_with_serial (state_of self.now).queue serial }
     {
         self.queue.position_with(serial)
     }
 
-    /// Memory, output and outcome.
+    /// Memory, the output, and the run's outcome.
     #[inline]
     pub fn world(&self) -> &World
         ensures { result.now ≡ self.now.world }
@@ -127,7 +128,7 @@ impl Processor {
         &self.world
     }
 
-    /// What the retired tasks read, oldest first.
+    /// What the instructions of the retired tasks read, oldest first.
     #[inline]
     pub fn reads(&self) -> &ReadLog
         ensures { result.now.reads ≡ self.now.reads }

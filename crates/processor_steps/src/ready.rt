@@ -21,7 +21,7 @@ use task_descriptor::program::Program;
 use unit_core::unit::Unit;
 
 impl Processor {
-    /// Where the unit at a position stands; `None` past the tail.
+    /// The place of the unit at a position, counted from the head; `None` past the tail.
     #[inline]
     pub fn spot(&self, position: u32) -> Option<Spot>
         ensures { result ≡ option_map (λ u. u.place) (slice_get (state_of self.now).queue position) }
@@ -33,8 +33,8 @@ impl Processor {
     }
 
     /// Whether the unit at a position lacks nothing for its next instruction, and the instruction needs only
-    /// the unit's registers and read-only data, so that it may be part of a burst. The caller ensures that
-    /// the units belong to this program and certificate.
+    /// the unit's registers and read-only data, so that it may be part of a burst. The units are of this
+    /// program and certificate.
     #[inline]
     pub fn can_run_ahead(&self, accepted: &Accepted, position: u32) -> bool
         requires { ArePlaced accepted.now (state_of self.now).queue }
@@ -46,8 +46,8 @@ impl Processor {
         }
     }
 
-    /// The least register that the unit at a position may take from the unit before it; `None` exactly
-    /// where it may take none.
+    /// The least register that the unit at a position may take from the unit before it; `None` exactly where it
+    /// may take none.
     pub fn register_to_take(&self, program: &Program, position: u32) -> Option<Reg>
         ensures { IsLeast (λ r. refusal program.now self.now.queue.capacity (state_of self.now) (event.Transfer position r) ≡ None) result }
     {
@@ -67,8 +67,8 @@ impl Processor {
         }
     }
 
-    /// The least register that the unit at a position, which has stopped, may send; `None` exactly where
-    /// it may send none.
+    /// The least register that the unit at a position, which has stopped, may send; `None` exactly where it may
+    /// send none.
     pub fn register_to_send(&self, program: &Program, position: u32) -> Option<Reg>
         ensures { IsLeast (λ r. refusal program.now self.now.queue.capacity (state_of self.now) (event.Drain position r) ≡ None) result }
     {

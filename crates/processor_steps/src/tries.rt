@@ -115,13 +115,14 @@ impl Processor {
         Ok(())
     }
 
-    /// One instruction of the head, while the run continues, after `count` events: `step` for an Exec at
-    /// position 0. It is a separate call because most events are of this kind, so it pays not to look for
+    /// Executes one instruction of the head, while the run continues, after `count` events: `step` for an Exec
+    /// at position 0. It is a separate call because most events are of this kind, so it pays not to look for
     /// others.
     ///
     /// # Errors
     ///
-    /// The first refusal that holds, `Full` the last of them, else `OutOfMemory`; nothing is changed then.
+    /// The first refusal that holds, `Full` the last of them, else `OutOfMemory` where memory was refused;
+    /// nothing is changed then.
     #[inline(always)]
     pub fn exec_head(&mut self, accepted: &Accepted, count: usize) -> Result<(), Refused>
         requires runs { self.old.world.outcome ≡ standing.Running }
@@ -134,11 +135,11 @@ impl Processor {
         self.queue.exec_head(accepted, &mut self.world)
     }
 
-    /// Like `exec_head`, but for the unit at a position after the head.
+    /// Like `exec_head`, but for the unit at a position after the head, 1 or more.
     ///
     /// # Errors
     ///
-    /// Those of `exec_head`.
+    /// Those of `exec_head`; nothing is changed then.
     #[inline(always)]
     pub fn exec_ahead(
         &mut self,
@@ -199,13 +200,13 @@ impl Processor {
         }
     }
 
-    /// One event while the run continues, after `count` events. Exec and Retire may take memory; no other
-    /// event does.
+    /// Applies one event while the run continues, after `count` events. Exec and Retire may take memory; no
+    /// other event does.
     ///
     /// # Errors
     ///
-    /// The first refusal that holds, `Full` the last of them, else for Exec and Retire alone
-    /// `OutOfMemory`; nothing is changed then.
+    /// The first refusal that holds, `Full` the last of them, else for Exec and Retire alone `OutOfMemory`
+    /// where memory was refused; nothing is changed then.
     #[inline(always)]
     pub fn step(
         &mut self,
@@ -236,7 +237,7 @@ impl Processor {
         }
     }
 
-    /// Whether only the run's end and the history's room can refuse an event.
+    /// Whether an event is refused by nothing but, perhaps, the run's end or a full history.
     pub fn is_allowed(&self, accepted: &Accepted, event: Event) -> bool
         requires { ArePlaced accepted.now (state_of self.now).queue }
         ensures { IsTrue result ↔ (refusal accepted.now.program self.now.queue.capacity (state_of self.now) event ≡ None) }

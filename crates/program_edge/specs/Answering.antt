@@ -29,6 +29,7 @@ use Rattle.program_edge.specs.Beside.{Audience, IsBeside}
 use Rattle.program_edge.specs.Colouring.{IsSettled}
 use Rattle.program_edge.specs.Hints.{IsSaid}
 use Rattle.program_edge.specs.Refusals.{is_refusal}
+use Rattle.program_edge.specs.Releases.{IsReportWith}
 use Rattle.program_edge.specs.Several.{IsEach}
 use Rattle.program_edge.specs.Streams.{IsBroken, IsToldAlone, World}
 use Rattle.program_edge.specs.Telling.{IsTold, told_as, unread_fault}
@@ -110,6 +111,24 @@ pub record IsRepairDelivered (watched : Bool) (path : String Global) (certificat
   pub right : IsRepaired (option_map string_bytes certificate) (option_map string_bytes script) warnings texts.program.items texts.certificate texts.script.items repaired
   pub delivery : IsDelivery watched (Some path) repaired.text repaired.said.items repaired.line.items repaired.status ending old new
 
+-- the job has its report with the releases that pay, which went where it was asked for; what is told beside it is not said here
+pub record IsReleaseDelivered (watched : Bool) (place : Option (String Global)) (job : Job) (texts : Texts) (ending : Answered) (old new : World) : Type 0 where
+  pub report : Report
+  pub right : IsReportWith job texts report
+  pub beside : List ℕ
+  pub taker : Option (String Global)
+  pub taken : taker ≡ place_of place (is_refusal job report.status report.bytes)
+  pub delivery : IsDelivery watched taker report.bytes (said_at taker report.bytes) beside report.status ending old new
+
+abbrev pub IsReleaseServed : (watched : Bool) → (place : Option (String Global)) → Job → Texts → Answered → World → World → Type 0
+IsReleaseServed watched place job texts ending old new =
+    IsReleaseDelivered watched place job texts ending old new ⊎ IsToldAlone (Serve serve.OutOfMemory) ending old new
+
+-- with releases or without
+abbrev pub IsServedBy : (releases progress watched : Bool) → Audience → (place : Option (String Global)) → Job → Texts → Answered → World → World → Type 0
+IsServedBy true progress watched audience place job texts ending old new = IsReleaseServed watched place job texts ending old new
+IsServedBy false progress watched audience place job texts ending old new = IsServed progress watched audience place job texts ending old new
+
 -- a program text was read to its end
 abbrev pub is_whole : Texts → Bool
 is_whole texts = nat_le (length texts.program.items) most_program
@@ -123,7 +142,7 @@ IsFixed whole progress watched audience path job texts ending old new = IsServed
 -- how the program ends on the texts of a request, with a file for the text with fixes or without
 abbrev pub IsServedWith : (fixes : Option (String Global)) → (watched : Bool) → Audience → Request → Texts → Answered → World → World → Type 0
 IsServedWith None watched audience request texts ending old new =
-    IsServed request.progress watched audience request.output request.job texts ending old new
+    IsServedBy request.releases request.progress watched audience request.output request.job texts ending old new
 IsServedWith (Some path) watched audience request texts ending old new =
     IsFixed (is_whole texts) request.progress watched audience path request.job texts ending old new
 

@@ -8,5 +8,6 @@ pub mod Colouring
 pub mod Streams
 pub mod Summaries
 pub mod Several
+pub mod Releases
 pub mod Answering
 pub mod Examples

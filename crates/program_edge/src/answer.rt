@@ -1,7 +1,7 @@
 //! From what was asked and its files to what is written and the status.
 ghost use Rattle.std.specs.Prelude.{◌≡◌, ◌⊎◌, ◌∷◌, Bool, true, None, IfErr, IfOk, OnOk};
 ghost use Rattle.result_files.specs.Files.{Files};
-ghost use Rattle.program_edge.specs.Answering.{IsAnswered, IsDelivered, IsDelivery, IsFiled, IsFixed, IsNotDone, IsRead, IsServed, IsUnfiled, is_whole, place_of, said_at};
+ghost use Rattle.program_edge.specs.Answering.{IsAnswered, IsDelivered, IsDelivery, IsFiled, IsFixed, IsNotDone, IsRead, IsReleaseServed, IsServed, IsServedBy, IsUnfiled, is_whole, place_of, said_at};
 ghost use Rattle.program_edge.specs.Beside.{is_played};
 ghost use Rattle.program_edge.specs.Several.{IsEach};
 ghost use Rattle.program_edge.specs.Telling.{told_as, unread_fault};
@@ -12,6 +12,7 @@ use crate::fault::Fault;
 use crate::named_files::NamedFiles;
 use crate::reader::{Reader, hint_unkept, is_played, told_beside};
 use crate::refusal::is_refusal;
+use crate::releases::report_with_releases;
 use crate::reports::report_heard;
 use crate::streams::{say, write_whole};
 use crate::texts::{MOST_PROGRAM, NamedTexts, read_texts};
@@ -103,6 +104,7 @@ fn answer_request<F: NamedFiles, D: Folder, O: Write, E: Write, R: Threads + Wai
         output: place,
         fixes,
         further: _,
+        releases,
         report: wants_rest,
         progress,
     } = request;
@@ -117,12 +119,70 @@ fn answer_request<F: NamedFiles, D: Folder, O: Write, E: Write, R: Threads + Wai
                 Some(path) => fix(
                     progress, rt, alloc, &job, &texts, path, &reader, folder, output, errors,
                 ),
-                None => deliver(
-                    progress, rt, alloc, &job, &texts, place, &reader, folder, output, errors,
+                None => serve_with(
+                    releases, progress, rt, alloc, &job, &texts, place, &reader, folder, output,
+                    errors,
                 ),
             }
         }
         Err(unread) => tell(&fault_of_file(&job, unread), output, errors),
+    }
+}
+
+// Does a job with its texts, and puts the releases that pay into the text that it writes, if `releases` says so.
+fn serve_with<D: Folder, O: Write, E: Write, R: Threads + Wait + Sync>(
+    releases: bool,
+    progress: bool,
+    rt: &R,
+    alloc: Global,
+    job: &Job,
+    texts: &Texts,
+    place: Option<String>,
+    reader: &Reader,
+    folder: &mut D,
+    output: &mut O,
+    errors: &mut E,
+) -> Answered
+    ensures { IsServedBy releases progress D.is_watched reader.now place job.now texts.now result
+        record { output = O.contents output.old; errors = E.contents errors.old; files = D.known folder.old }
+        record { output = O.contents output.new; errors = E.contents errors.new; files = D.known folder.new } }
+{
+    if releases {
+        release(rt, alloc, job, texts, place, reader, folder, output, errors)
+    } else {
+        deliver(
+            progress, rt, alloc, job, texts, place, reader, folder, output, errors,
+        )
+    }
+}
+
+// Does a job with its texts, and puts the releases that pay into the text that it writes.
+fn release<D: Folder, O: Write, E: Write, R: Threads + Wait + Sync>(
+    rt: &R,
+    alloc: Global,
+    job: &Job,
+    texts: &Texts,
+    place: Option<String>,
+    reader: &Reader,
+    folder: &mut D,
+    output: &mut O,
+    errors: &mut E,
+) -> Answered
+    ensures { IsReleaseServed D.is_watched place job.now texts.now result
+        record { output = O.contents output.old; errors = E.contents errors.old; files = D.known folder.old }
+        record { output = O.contents output.new; errors = E.contents errors.new; files = D.known folder.new } }
+{
+    match report_with_releases(rt, alloc, job, texts, reader) {
+        Ok(made) => {
+            let (text, end) = (made.report.bytes(), made.report.status());
+            let place = place_of(place, is_refusal(job, end, text));
+            let said = said_at(&place, text);
+            let beside = made.beside.as_slice();
+            hand_over(
+                alloc, place, text, said, beside, end, folder, output, errors,
+            )
+        }
+        Err(lack) => tell(&Fault::Serve(lack), output, errors),
     }
 }
 
@@ -146,6 +206,7 @@ fn answer_several<F: NamedFiles, O: Write, E: Write, R: Threads + Wait + Sync>(
         output: _,
         fixes: _,
         further,
+        releases: _,
         report: _,
         progress: _,
     } = request;

@@ -17,6 +17,7 @@ mod part;
 pub mod program;
 mod reader;
 pub mod refusal;
+mod releases;
 mod reports;
 mod shown;
 mod streams;

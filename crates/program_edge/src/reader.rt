@@ -7,7 +7,7 @@ use crate::hint::hint_for;
 use crate::reports::report_of;
 use explain_report::left::LeftOver;
 use explain_report::proposal::left_over;
-use jobs::job::{Job, ReplayEmit, Texts};
+use jobs::job::{Job, ReplayEmit, TableFormat, Texts};
 use report_texts::report::JobReport;
 use shown_names::name::shown_name;
 use std::alloc::{AllocError, Global};
@@ -105,7 +105,7 @@ pub(crate) fn hint_unkept<R: Threads + Wait + Sync>(
     let summary = Job::Replay {
         certificate: *certificate,
         units: *units,
-        emit: ReplayEmit::Summary,
+        emit: ReplayEmit::Summary(TableFormat::Text),
         until: *until,
     };
     let Ok(report) = report_of(rt, alloc, &summary, texts) else {

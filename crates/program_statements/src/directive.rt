@@ -1,4 +1,4 @@
-//! The directives.
+//! Directives: `.start`, `.task`, the sections and the data.
 
 ghost use Rattle.std.specs.Prelude.{◌≡◌, ℕ, List};
 ghost use Rattle.program_statements.specs.Steps.{Shows, Gives};
@@ -142,6 +142,11 @@ fn space_of(tokens: &[Token]) -> Result<Statement, StatementError>
 }
 
 /// The statement of a directive in a section, with the tokens after it.
+///
+/// # Errors
+///
+/// `Mnemonic` for an unknown directive and for data in `.text`; `Operand` where the tokens do not fit; `Number`
+/// where a number is out of its range. `OutOfMemory` where memory was refused.
 pub fn directive_of(
     alloc: Global,
     section: Section,

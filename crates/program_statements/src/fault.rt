@@ -6,8 +6,8 @@ ghost use Rattle.program_statements.specs.declared.fault.StatementError.TheVaria
 use std::alloc::{AllocError, AllocFailed};
 use thiserror::Error;
 
-/// What is wrong with the statement of a line, judged by itself and its section. The numbers are those of
-/// the faults of a program text; a byte that no text has (2) and bytes that are no token (3) come before.
+/// What is wrong with the statement of a line, judged by itself and its section. The numbers are the program
+/// text's: a byte that no text has (2) and bytes that are no token (3) come before.
 #[derive(Clone, Copy, Debug, PartialEq, Eq, Error)]
 pub enum StatementFault {
     /// 4: the section has no such statement.
@@ -24,13 +24,13 @@ pub enum StatementFault {
     Mark,
 }
 
-/// Why there is no statement.
+/// Why a line's tokens give no statement.
 #[derive(Debug, Drop, Error)]
 pub enum StatementError {
-    /// It is wrong.
+    /// They spell none.
     #[error(transparent)]
     Fault(StatementFault),
-    /// There was no memory for it.
+    /// Memory for the statement was refused.
     #[error("out of memory")]
     OutOfMemory,
 }

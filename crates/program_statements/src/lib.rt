@@ -1,5 +1,6 @@
-//! The statements of a program text: what the tokens of one line mean, before names are resolved (MIPS
-//! assembler mnemonics; tasks and marks as in Sohi, Breach, Vijaykumar, ISCA 1995).
+//! What the tokens of one line of a program text mean, before names are resolved.
+//! Mnemonics are as in MIPS assemblers; tasks and marks are the paper's (Sohi, Breach, Vijaykumar, "Multiscalar
+//! Processors", ISCA 1995).
 #![tactic(auto)]
 
 mod directive;

@@ -90,9 +90,13 @@ fn with_marks(marks: &[Token], statement: Statement) -> Result<Statement, Statem
     }
 }
 
-/// The statement of a line in this section, which its tokens after the labels spell, or its first fault:
-/// the number and kinds of the operands are judged first, then the ranges of the numbers, then the marks.
-/// Lack of memory may be reported in place of any of these.
+/// The statement that the tokens after a line's labels spell in this section; `Empty` where there are none.
+///
+/// # Errors
+///
+/// The first fault: `Mnemonic` first, then `Operand` for the number and kinds of the operands, then `Number`
+/// for their ranges, then `Mark`. `OutOfMemory`, where memory was refused, may be reported in place of any of
+/// these.
 pub fn statement_of(
     alloc: Global,
     section: Section,

@@ -22,7 +22,11 @@ fn with_register(set: RegSet, register: Reg) -> RegSet
     set.insert(register)
 }
 
-/// The set of the registers at the front, and the tokens after them.
+/// The set of the registers, with commas between them, at the front of the tokens, and the tokens after them.
+///
+/// # Errors
+///
+/// `Operand` where the front is no such list.
 #[tactic(auto, unfolding(crate::specs::Statements::registers_at, crate::specs::Statements::registers_of))]
 pub fn registers_at(tokens: &[Token]) -> Result<(RegSet, &[Token]), StatementFault>
     ensures { Shows (λ x. (x.0, x.1.now)) result (registers_at tokens.now) }
@@ -44,7 +48,11 @@ pub fn registers_at(tokens: &[Token]) -> Result<(RegSet, &[Token]), StatementFau
     }
 }
 
-/// The numbers of a list.
+/// The numbers that the tokens list, with commas between them; at least one.
+///
+/// # Errors
+///
+/// `Operand` where the tokens are no such list; `OutOfMemory` where memory was refused.
 #[tactic(auto, using(crate::proofs::Fronts::regroup, crate::proofs::Fronts::no_front), unfolding(crate::specs::Statements::numbers_of))]
 pub fn numbers_of(alloc: Global, tokens: &[Token]) -> Result<SmallVec<Number, 2>, StatementError>
     ensures { Gives (λ numbers. numbers.items) result (numbers_of tokens.now) }
@@ -66,7 +74,11 @@ pub fn numbers_of(alloc: Global, tokens: &[Token]) -> Result<SmallVec<Number, 2>
     }
 }
 
-/// The labels and indices of a list.
+/// The labels and code indices that the tokens list, with commas between them; at least one.
+///
+/// # Errors
+///
+/// `Operand` where the tokens are no such list; `OutOfMemory` where memory was refused.
 #[tactic(auto, using(crate::proofs::Fronts::regroup, crate::proofs::Fronts::no_front), unfolding(crate::specs::Statements::places_of))]
 pub fn places_of(alloc: Global, tokens: &[Token]) -> Result<Vec<Operand>, StatementError>
     ensures { Gives (λ places. places.items) result (places_of tokens.now) }
@@ -88,7 +100,12 @@ pub fn places_of(alloc: Global, tokens: &[Token]) -> Result<Vec<Operand>, Statem
     }
 }
 
-/// The targets that these labels and indices are.
+/// The targets of a task that these labels and code indices name, in the same order.
+///
+/// # Errors
+///
+/// `Number` where an index is above 4096, `Operand` where an operand is neither; `OutOfMemory` where memory was
+/// refused.
 #[tactic(auto, using(crate::proofs::Fronts::regroup, crate::proofs::Fronts::no_front), unfolding(crate::specs::Statements::targets_of))]
 pub fn targets_of(alloc: Global, places: &[Operand]) -> Result<Targets, StatementError>
     ensures { Gives (λ targets. targets) result (targets_of places.now) }
@@ -103,7 +120,11 @@ pub fn targets_of(alloc: Global, places: &[Operand]) -> Result<Targets, Statemen
     Ok(Targets::new(targets))
 }
 
-/// The bytes of these words, little-endian.
+/// The bytes of these numbers as words of 4 bytes, little-endian.
+///
+/// # Errors
+///
+/// `Number` where a number is not -2^31 to 2^32 - 1; `OutOfMemory` where memory was refused.
 #[tactic(auto, using(crate::proofs::Fronts::regroup_many, crate::proofs::Fronts::no_front), unfolding(crate::specs::Statements::words_of))]
 pub fn words_of(alloc: Global, numbers: &[Number]) -> Result<Blob, StatementError>
     ensures { Gives (λ bytes. bytes) result (words_of numbers.now) }
@@ -118,7 +139,11 @@ pub fn words_of(alloc: Global, numbers: &[Number]) -> Result<Blob, StatementErro
     Ok(Blob::new(bytes))
 }
 
-/// These bytes.
+/// These numbers as one byte each.
+///
+/// # Errors
+///
+/// `Number` where a number is not -128 to 255; `OutOfMemory` where memory was refused.
 #[tactic(auto, using(crate::proofs::Fronts::regroup, crate::proofs::Fronts::no_front), unfolding(crate::specs::Statements::bytes_of))]
 pub fn bytes_of(alloc: Global, numbers: &[Number]) -> Result<Blob, StatementError>
     ensures { Gives (λ bytes. bytes) result (bytes_of numbers.now) }

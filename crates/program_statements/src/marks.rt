@@ -43,7 +43,11 @@ fn with_mark(marks: Marks, token: Token) -> Result<Marks, StatementFault>
     }
 }
 
-/// The marks with those of these tokens added.
+/// The marks with those added that these tokens spell.
+///
+/// # Errors
+///
+/// `Mark` where a token is no known mark, and at a second `!f` or a second stop.
 pub fn marks_after(none: Marks, tokens: &[Token]) -> Result<Marks, StatementFault>
     ensures { result ≡ marks_after none tokens.now }
 {
@@ -60,7 +64,7 @@ fn is_mark(token: &Token) -> bool
     matches!(token, Token::Mark(_))
 }
 
-/// How many marks stand at the end.
+/// The number of mark tokens at the end of a line's tokens.
 pub fn mark_count(tokens: &[Token]) -> usize
     ensures value { result ≡ mark_count tokens.now }
     ensures within { result ≤ length tokens.now }

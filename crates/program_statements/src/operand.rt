@@ -1,4 +1,4 @@
-//! The operands of an instruction: what stands between its commas.
+//! The operands of an instruction: what is between its commas.
 
 ghost use Rattle.std.specs.Prelude.{◌≡◌};
 ghost use Rattle.std.specs.Option.{option_map};
@@ -10,22 +10,22 @@ use mips_instructions::number::{Gpr, Reg};
 use program_tokens::token::{Number, Token};
 use task_descriptor::name::Name;
 
-/// An operand of an instruction.
+/// An operand of an instruction, before its number's range is judged and its label is resolved.
 #[derive(Clone, Copy, Debug)]
 pub enum Operand {
-    /// A general register.
+    /// A general register, 0..=31.
     Register(Gpr),
     /// A number.
     Number(Number),
-    /// `n(base)`: a number and the general register that it is added to.
+    /// `n(base)`: an offset in bytes, and the general register that it is added to.
     Offset(Number, Gpr),
     /// A label.
     Label(Name),
-    /// `@n`: the index of an instruction.
+    /// `@n`: a code index.
     Index(Number),
 }
 
-/// The operands of an instruction, at most three.
+/// The operands of an instruction, 0 to 3, in the order of the text.
 #[derive(Clone, Copy, Debug)]
 pub enum Operands {
     /// No operand.
@@ -109,7 +109,11 @@ fn after_one(first: Operand, tokens: &[Token]) -> Result<Operands, StatementFaul
     }
 }
 
-/// The operands that these tokens spell.
+/// The operands that these tokens spell, with commas between them.
+///
+/// # Errors
+///
+/// `Operand` where the tokens are no such list, have more than three operands, or name HI or LO.
 #[tactic(auto, unfolding(crate::specs::Operands::operands_of))]
 pub fn operands_of(tokens: &[Token]) -> Result<Operands, StatementFault>
     ensures { result ≡ operands_of tokens.now }

@@ -6,7 +6,11 @@ ghost use Rattle.program_statements.specs.Ranges.{natural, signed_half, word, by
 use crate::fault::StatementFault;
 use program_tokens::token::Number;
 
-/// The number, where it is 0 to the highest.
+/// The number, where it is 0 to `highest`.
+///
+/// # Errors
+///
+/// `Number` where it is not.
 pub fn natural_of(highest: u32, number: Number) -> Result<u32, StatementFault>
     ensures { result ≡ natural highest number }
 {
@@ -19,7 +23,11 @@ pub fn natural_of(highest: u32, number: Number) -> Result<u32, StatementFault>
     }
 }
 
-/// The number, where it has 16 bits with its sign.
+/// The number, where it is -32768 to 32767.
+///
+/// # Errors
+///
+/// `Number` where it is not.
 pub fn signed_half_of(number: Number) -> Result<i16, StatementFault>
     ensures { result ≡ signed_half number }
 {
@@ -32,7 +40,11 @@ pub fn signed_half_of(number: Number) -> Result<i16, StatementFault>
     }
 }
 
-/// The word of a number that has 32 bits, with its sign or without one.
+/// The word of a number that is -2^31 to 2^32 - 1; a negative one as two's complement.
+///
+/// # Errors
+///
+/// `Number` where it is not in this range.
 pub fn word_of(number: Number) -> Result<u32, StatementFault>
     ensures { result ≡ word number }
 {
@@ -48,7 +60,11 @@ pub fn word_of(number: Number) -> Result<u32, StatementFault>
     }
 }
 
-/// The byte of a number that has 8 bits, with its sign or without one.
+/// The byte of a number that is -128 to 255; a negative one as two's complement.
+///
+/// # Errors
+///
+/// `Number` where it is not in this range.
 pub fn byte_of(number: Number) -> Result<u8, StatementFault>
     ensures { result ≡ byte number }
 {

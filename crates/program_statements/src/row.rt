@@ -1,4 +1,5 @@
-//! What each instruction of a text means: a function for each row of the instruction table.
+//! What each instruction of a text means: a function for each row of the instruction table. Each takes the
+//! operands after the mnemonic and checks their number, their kinds and the ranges of their numbers.
 
 ghost use Rattle.std.specs.Prelude.{◌≡◌, ◌<◌};
 ghost use Rattle.program_statements.specs.Rows.{no_operand, one_operand, two_operands, three_operands, as_register, as_number, as_offset, as_label, as_target, three, shift_by, shift_var, imm, logic, lui, mult, move_from, move_to, load, store, branch_two, branch_one, jump, jump_link, jump_reg, out, jump_link_reg, halt, nop, copy, immediate, load_immediate, load_address, row_of, with_operands};
@@ -87,7 +88,11 @@ fn as_label(operand: Operand) -> Result<Name, StatementFault>
     }
 }
 
-/// A place: a label or an index.
+/// The place in the code that an operand names: a label, or a code index 0..=4096.
+///
+/// # Errors
+///
+/// `Operand` where it is neither; `Number` where the index is above 4096.
 pub fn as_target(operand: Operand) -> Result<Target, StatementFault>
     ensures { result ≡ as_target operand }
 {
@@ -114,7 +119,11 @@ fn numbered(index: u8) -> Gpr
     }
 }
 
-/// `addu rd,rs,rt`
+/// `addu rd,rs,rt`, and the other mnemonics of its row.
+///
+/// # Errors
+///
+/// `Operand` where these are not the operands.
 #[tactic(auto, unfolding(crate::specs::Rows::three))]
 pub fn three(kind: ThreeKind, operands: Operands) -> Result<Instruction, StatementFault>
     ensures { result ≡ three kind operands }
@@ -124,7 +133,11 @@ pub fn three(kind: ThreeKind, operands: Operands) -> Result<Instruction, Stateme
     Ok(Instruction::One(op))
 }
 
-/// `sll rd,rt,n`
+/// `sll rd,rt,n`, and the other mnemonics of its row.
+///
+/// # Errors
+///
+/// `Operand` where these are not the operands; `Number` where n is not 0 to 31.
 #[tactic(auto, unfolding(crate::specs::Rows::shift_by))]
 pub fn shift_by(kind: ShiftByKind, operands: Operands) -> Result<Instruction, StatementFault>
     ensures { result ≡ shift_by kind operands }
@@ -137,7 +150,11 @@ pub fn shift_by(kind: ShiftByKind, operands: Operands) -> Result<Instruction, St
     Ok(Instruction::One(Op::ShiftBy(kind, rd, rt, amount)))
 }
 
-/// `sllv rd,rt,rs`
+/// `sllv rd,rt,rs`, and the other mnemonics of its row.
+///
+/// # Errors
+///
+/// `Operand` where these are not the operands.
 #[tactic(auto, unfolding(crate::specs::Rows::shift_var))]
 pub fn shift_var(kind: ShiftVarKind, operands: Operands) -> Result<Instruction, StatementFault>
     ensures { result ≡ shift_var kind operands }
@@ -147,7 +164,11 @@ pub fn shift_var(kind: ShiftVarKind, operands: Operands) -> Result<Instruction, 
     Ok(Instruction::One(op))
 }
 
-/// `addiu rt,rs,n`
+/// `addiu rt,rs,n`, and the other mnemonics of its row.
+///
+/// # Errors
+///
+/// `Operand` where these are not the operands; `Number` where n is not -32768 to 32767.
 #[tactic(auto, unfolding(crate::specs::Rows::imm))]
 pub fn imm(kind: ImmKind, operands: Operands) -> Result<Instruction, StatementFault>
     ensures { result ≡ imm kind operands }
@@ -159,7 +180,11 @@ pub fn imm(kind: ImmKind, operands: Operands) -> Result<Instruction, StatementFa
     Ok(Instruction::One(Op::Imm(kind, rt, rs, n)))
 }
 
-/// `andi rt,rs,n`
+/// `andi rt,rs,n`, and the other mnemonics of its row.
+///
+/// # Errors
+///
+/// `Operand` where these are not the operands; `Number` where n is not 0 to 65535.
 #[tactic(auto, unfolding(crate::specs::Rows::logic))]
 pub fn logic(kind: LogicKind, operands: Operands) -> Result<Instruction, StatementFault>
     ensures { result ≡ logic kind operands }
@@ -171,7 +196,11 @@ pub fn logic(kind: LogicKind, operands: Operands) -> Result<Instruction, Stateme
     Ok(Instruction::One(Op::Logic(kind, rt, rs, n as u16)))
 }
 
-/// `lui rt,n`
+/// `lui rt,n`.
+///
+/// # Errors
+///
+/// `Operand` where these are not the operands; `Number` where n is not 0 to 65535.
 #[tactic(auto, unfolding(crate::specs::Rows::lui))]
 pub fn lui(operands: Operands) -> Result<Instruction, StatementFault>
     ensures { result ≡ lui operands }
@@ -182,7 +211,11 @@ pub fn lui(operands: Operands) -> Result<Instruction, StatementFault>
     Ok(Instruction::One(Op::Lui(rt, n as u16)))
 }
 
-/// `mult rs,rt`
+/// `mult rs,rt`, and the other mnemonics of its row.
+///
+/// # Errors
+///
+/// `Operand` where these are not the operands.
 #[tactic(auto, unfolding(crate::specs::Rows::mult))]
 pub fn mult(kind: MultKind, operands: Operands) -> Result<Instruction, StatementFault>
     ensures { result ≡ mult kind operands }
@@ -191,7 +224,11 @@ pub fn mult(kind: MultKind, operands: Operands) -> Result<Instruction, Statement
     Ok(Instruction::One(Op::Mult(kind, as_register(rs)?, as_register(rt)?)))
 }
 
-/// `mfhi rd`
+/// `mfhi rd`, and the other mnemonics of its row.
+///
+/// # Errors
+///
+/// `Operand` where these are not the operands.
 #[tactic(auto, unfolding(crate::specs::Rows::move_from))]
 pub fn move_from(kind: MoveFromKind, operands: Operands) -> Result<Instruction, StatementFault>
     ensures { result ≡ move_from kind operands }
@@ -200,7 +237,11 @@ pub fn move_from(kind: MoveFromKind, operands: Operands) -> Result<Instruction, 
     Ok(Instruction::One(Op::MoveFrom(kind, rd)))
 }
 
-/// `mthi rs`
+/// `mthi rs`, and the other mnemonics of its row.
+///
+/// # Errors
+///
+/// `Operand` where these are not the operands.
 #[tactic(auto, unfolding(crate::specs::Rows::move_to))]
 pub fn move_to(kind: MoveToKind, operands: Operands) -> Result<Instruction, StatementFault>
     ensures { result ≡ move_to kind operands }
@@ -209,7 +250,11 @@ pub fn move_to(kind: MoveToKind, operands: Operands) -> Result<Instruction, Stat
     Ok(Instruction::One(Op::MoveTo(kind, rs)))
 }
 
-/// `lw rt,n(base)`
+/// `lw rt,n(base)`, and the other mnemonics of its row.
+///
+/// # Errors
+///
+/// `Operand` where these are not the operands; `Number` where n is not -32768 to 32767.
 #[tactic(auto, unfolding(crate::specs::Rows::load))]
 pub fn load(kind: LoadKind, operands: Operands) -> Result<Instruction, StatementFault>
     ensures { result ≡ load kind operands }
@@ -221,7 +266,11 @@ pub fn load(kind: LoadKind, operands: Operands) -> Result<Instruction, Statement
     Ok(Instruction::One(Op::Load(kind, rt, base, n)))
 }
 
-/// `sw rt,n(base)`
+/// `sw rt,n(base)`, and the other mnemonics of its row.
+///
+/// # Errors
+///
+/// `Operand` where these are not the operands; `Number` where n is not -32768 to 32767.
 #[tactic(auto, unfolding(crate::specs::Rows::store))]
 pub fn store(kind: StoreKind, operands: Operands) -> Result<Instruction, StatementFault>
     ensures { result ≡ store kind operands }
@@ -233,7 +282,11 @@ pub fn store(kind: StoreKind, operands: Operands) -> Result<Instruction, Stateme
     Ok(Instruction::One(Op::Store(kind, rt, base, n)))
 }
 
-/// `beq rs,rt,T`
+/// `beq rs,rt,T`, and the other mnemonics of its row.
+///
+/// # Errors
+///
+/// `Operand` where these are not the operands; `Number` where T is an index above 4096.
 #[tactic(auto, unfolding(crate::specs::Rows::branch_two))]
 pub fn branch_two(kind: BranchTwoKind, operands: Operands) -> Result<Instruction, StatementFault>
     ensures { result ≡ branch_two kind operands }
@@ -244,7 +297,11 @@ pub fn branch_two(kind: BranchTwoKind, operands: Operands) -> Result<Instruction
     Ok(Instruction::BranchTwo(kind, rs, rt, as_target(target)?))
 }
 
-/// `blez rs,T`
+/// `blez rs,T`, and the other mnemonics of its row.
+///
+/// # Errors
+///
+/// `Operand` where these are not the operands; `Number` where T is an index above 4096.
 #[tactic(auto, unfolding(crate::specs::Rows::branch_one))]
 pub fn branch_one(kind: BranchOneKind, operands: Operands) -> Result<Instruction, StatementFault>
     ensures { result ≡ branch_one kind operands }
@@ -254,7 +311,11 @@ pub fn branch_one(kind: BranchOneKind, operands: Operands) -> Result<Instruction
     Ok(Instruction::BranchOne(kind, rs, as_target(target)?))
 }
 
-/// `j T`
+/// `j T`.
+///
+/// # Errors
+///
+/// `Operand` where these are not the operands; `Number` where T is an index above 4096.
 #[tactic(auto, unfolding(crate::specs::Rows::jump))]
 pub fn jump(operands: Operands) -> Result<Instruction, StatementFault>
     ensures { result ≡ jump operands }
@@ -262,7 +323,11 @@ pub fn jump(operands: Operands) -> Result<Instruction, StatementFault>
     Ok(Instruction::Jump(as_target(one_operand(operands)?)?))
 }
 
-/// `jal T`
+/// `jal T`.
+///
+/// # Errors
+///
+/// `Operand` where these are not the operands; `Number` where T is an index above 4096.
 #[tactic(auto, unfolding(crate::specs::Rows::jump_link))]
 pub fn jump_link(operands: Operands) -> Result<Instruction, StatementFault>
     ensures { result ≡ jump_link operands }
@@ -270,7 +335,11 @@ pub fn jump_link(operands: Operands) -> Result<Instruction, StatementFault>
     Ok(Instruction::JumpLink(as_target(one_operand(operands)?)?))
 }
 
-/// `jr rs`
+/// `jr rs`.
+///
+/// # Errors
+///
+/// `Operand` where these are not the operands.
 #[tactic(auto, unfolding(crate::specs::Rows::jump_reg))]
 pub fn jump_reg(operands: Operands) -> Result<Instruction, StatementFault>
     ensures { result ≡ jump_reg operands }
@@ -279,7 +348,11 @@ pub fn jump_reg(operands: Operands) -> Result<Instruction, StatementFault>
     Ok(Instruction::One(Op::JumpReg(rs)))
 }
 
-/// `out rs`
+/// `out rs`.
+///
+/// # Errors
+///
+/// `Operand` where these are not the operands.
 #[tactic(auto, unfolding(crate::specs::Rows::out))]
 pub fn out(operands: Operands) -> Result<Instruction, StatementFault>
     ensures { result ≡ out operands }
@@ -288,7 +361,11 @@ pub fn out(operands: Operands) -> Result<Instruction, StatementFault>
     Ok(Instruction::One(Op::Out(rs)))
 }
 
-/// `halt`
+/// `halt`.
+///
+/// # Errors
+///
+/// `Operand` where there are operands.
 #[tactic(auto, unfolding(crate::specs::Rows::halt))]
 pub fn halt(operands: Operands) -> Result<Instruction, StatementFault>
     ensures { result ≡ halt operands }
@@ -297,7 +374,11 @@ pub fn halt(operands: Operands) -> Result<Instruction, StatementFault>
     Ok(Instruction::One(Op::Halt))
 }
 
-/// `jalr rd,rs`, and `jalr rs` with $31 as rd
+/// `jalr rd,rs`, and `jalr rs` with register 31 as rd.
+///
+/// # Errors
+///
+/// `Operand` where these are not the operands.
 #[tactic(auto, unfolding(crate::specs::Rows::jump_link_reg))]
 pub fn jump_link_reg(operands: Operands) -> Result<Instruction, StatementFault>
     ensures { result ≡ jump_link_reg operands }
@@ -310,7 +391,11 @@ pub fn jump_link_reg(operands: Operands) -> Result<Instruction, StatementFault>
     Ok(Instruction::One(Op::JumpLinkReg(rd, rs)))
 }
 
-/// `nop`
+/// `nop`, as `sll $0,$0,0`.
+///
+/// # Errors
+///
+/// `Operand` where there are operands.
 #[tactic(auto, unfolding(crate::specs::Rows::nop))]
 pub fn nop(operands: Operands) -> Result<Instruction, StatementFault>
     ensures { result ≡ nop operands }
@@ -320,7 +405,11 @@ pub fn nop(operands: Operands) -> Result<Instruction, StatementFault>
     Ok(Instruction::One(Op::ShiftBy(ShiftByKind::Sll, numbered(0), numbered(0), amount)))
 }
 
-/// `move rd,rs`
+/// `move rd,rs`, as `addu rd,rs,$0`.
+///
+/// # Errors
+///
+/// `Operand` where these are not the operands.
 #[tactic(auto, unfolding(crate::specs::Rows::copy))]
 pub fn copy(operands: Operands) -> Result<Instruction, StatementFault>
     ensures { result ≡ copy operands }
@@ -354,7 +443,11 @@ fn immediate(rd: Gpr, word: u32) -> Instruction
     }
 }
 
-/// `li rd,N`
+/// `li rd,N`: one machine instruction where one will do, else two.
+///
+/// # Errors
+///
+/// `Operand` where these are not the operands; `Number` where N is not -2^31 to 2^32 - 1.
 #[tactic(auto, unfolding(crate::specs::Rows::load_immediate))]
 pub fn load_immediate(operands: Operands) -> Result<Instruction, StatementFault>
     ensures { result ≡ load_immediate operands }
@@ -365,7 +458,11 @@ pub fn load_immediate(operands: Operands) -> Result<Instruction, StatementFault>
     Ok(immediate(rd, word))
 }
 
-/// `la rd,NAME`
+/// `la rd,NAME`, before the label is resolved.
+///
+/// # Errors
+///
+/// `Operand` where these are not the operands.
 #[tactic(auto, unfolding(crate::specs::Rows::load_address))]
 pub fn load_address(operands: Operands) -> Result<Instruction, StatementFault>
     ensures { result ≡ load_address operands }
@@ -407,7 +504,13 @@ fn row_of(mnemonic: Mnemonic, operands: Operands) -> Result<Instruction, Stateme
     }
 }
 
-/// The instruction of a mnemonic with the tokens of its operands; a `release` has none.
+/// The instruction of a mnemonic with the tokens of its operands; a `release`, whose operand is a list, fails
+/// here.
+///
+/// # Errors
+///
+/// `Operand` where the number or the kinds of the operands are not the mnemonic's; `Number` where a number is
+/// out of its range.
 pub fn with_operands(mnemonic: Mnemonic, tokens: &[Token]) -> Result<Instruction, StatementFault>
     ensures { result ≡ with_operands mnemonic tokens.now }
 {

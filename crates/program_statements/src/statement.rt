@@ -1,4 +1,4 @@
-//! The statements of a program text, as they stand before names are resolved.
+//! The statements of a program text, before names are resolved.
 
 use mips_instructions::instruction::{BranchOneKind, BranchTwoKind, Op};
 use mips_instructions::number::{Gpr, Place, RegSet};
@@ -8,7 +8,7 @@ use std::marker::Model;
 use task_descriptor::descriptor::Stop;
 use task_descriptor::name::Name;
 
-/// Where the lines of a text go.
+/// The section that a line adds to.
 #[derive(Clone, Copy, Debug, PartialEq, Eq)]
 pub enum Section {
     /// Instructions.
@@ -19,21 +19,21 @@ pub enum Section {
     Rodata,
 }
 
-/// A place in the code, as a text names it.
+/// A place in the code, as a text names it: by a label or by its code index.
 #[derive(Clone, Copy, Debug, PartialEq, Eq)]
 pub enum Target {
-    /// The place of a code label.
+    /// The instruction after a code label.
     Label(Name),
-    /// `@n`: the index itself.
+    /// `@n`: the code index n.
     Index(Place),
 }
 
-/// An instruction as a text has it: one or two of the machine's, some with a name to be resolved.
+/// An instruction as a text has it: one or two machine instructions, some with a name to be resolved.
 #[derive(Clone, Copy, Debug, PartialEq, Eq)]
 pub enum Instruction {
     /// An instruction of the machine.
     One(Op),
-    /// Two instructions of the machine, as `li` may need.
+    /// Two machine instructions, as `li` may need.
     Two(Op, Op),
     /// `beq rs,rt,T`.
     BranchTwo(BranchTwoKind, Gpr, Gpr, Target),
@@ -43,21 +43,21 @@ pub enum Instruction {
     Jump(Target),
     /// `jal T`.
     JumpLink(Target),
-    /// `la rd,NAME`: the address of a label, by two instructions of the machine.
+    /// `la rd,NAME`: two machine instructions, which write a label's address to rd.
     LoadAddress(Gpr, Name),
 }
 
-/// The marks of an instruction (the 1995 paper, section 2.2: forward and stop bits).
+/// The marks of an instruction: its forward and stop bits (ISCA 1995, section 2.2).
 #[derive(Clone, Copy, Debug, PartialEq, Eq)]
 pub struct Marks {
-    /// `!f`.
+    /// `!f`: the forward bit.
     pub forward: bool,
-    /// `!s`, `!st` or `!sn`.
+    /// `!s`, `!st` or `!sn`: the stop bits.
     pub stop: Stop,
 }
 
 impl Marks {
-    /// An instruction without marks.
+    /// No forward bit and no stop bits.
     pub const NONE: Marks = Marks {
         forward: false,
         stop: Stop::None,
@@ -97,7 +97,7 @@ impl Targets {
     }
 }
 
-/// The bytes of a `.word` or `.byte` statement.
+/// The bytes that a `.word` or `.byte` statement adds to its section.
 #[derive(Debug, Drop)]
 pub struct Blob {
     // Those of two words need no memory of their own.
@@ -133,7 +133,7 @@ impl Blob {
     ///
     /// # Errors
     ///
-    /// `AllocError` where memory was refused; then nothing is changed.
+    /// `AllocError` where memory was refused; nothing is changed then.
     pub fn append(&mut self, more: &[u8]) -> Result<(), AllocError>
         ensures ok { OnOk result (self.new ≡ self.old ++ more.now) }
         ensures err { OnErr result (self.new ≡ self.old) }
@@ -142,33 +142,33 @@ impl Blob {
     }
 }
 
-/// A `.task` statement.
+/// A `.task` statement: a task descriptor, before names are resolved.
 #[derive(Debug, Drop)]
 pub struct Task {
-    /// Its name, which is that of the code label where it begins.
+    /// The task's name, which is also the code label of its entry.
     pub name: Name,
-    /// `create=`: the registers for which it may produce values.
+    /// `create=`: the create mask, the registers that the task may produce.
     pub create: RegSet,
-    /// `targets=`: its possible successors.
+    /// `targets=`: the possible successors.
     pub targets: Targets,
 }
 
-/// A statement.
+/// A statement of a program text: what one line says after its labels.
 #[derive(Debug, Drop)]
 pub enum Statement {
     /// A line with labels alone, or with nothing.
     Empty,
-    /// A label: it stands for the place after it.
+    /// A label, which names the place after it.
     Label(Name),
-    /// `.text`, `.data`, `.rodata`: where the lines after it go.
+    /// `.text`, `.data`, `.rodata`: the section that the lines after it add to.
     Section(Section),
-    /// `.start NAME`.
+    /// `.start NAME`: the task at which the program starts.
     Start(Name),
-    /// `.task ..`.
+    /// `.task NAME create=.. targets=..`: a task descriptor.
     Task(Task),
-    /// `.word` or `.byte`.
+    /// `.word` or `.byte`: these bytes.
     Bytes(Blob),
-    /// `.space`: this many bytes that are 0.
+    /// `.space`: this many bytes that are 0, at most 65,536.
     Space(u32),
     /// An instruction with its marks.
     Code(Instruction, Marks),

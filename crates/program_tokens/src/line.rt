@@ -22,8 +22,8 @@ fn newline_of(text: &[u8]) -> Option<usize>
     memchr(b'\n', text)
 }
 
-/// The first line of a text, without its LF, and what follows the LF: further lines, the last of which
-/// is empty where the text ends with an LF. `None` where the line is the text's last.
+/// The first line of a text, without its LF, and the text after the LF: further lines, the last of which is
+/// empty where the text ends with an LF. `None` where the line is the text's last.
 pub fn first_line(text: &[u8]) -> (&[u8], Option<&[u8]>)
     ensures more { IfSome result.1 (λ rest. lines text.now ≡ result.0.now ∷ lines rest.now) }
     ensures last { IfNone result.1 (lines text.now ≡ result.0.now ∷ []) }
@@ -92,14 +92,14 @@ fn is_text(bytes: &[u8]) -> bool
     all
 }
 
-/// Reads the tokens of a line, given without its LF, in place of those that the vector holds; its room is
-/// used again. After an `Err` it holds none.
+/// Replaces what the vector holds with the tokens of a line, given without its LF; the vector's room is used
+/// again.
 ///
 /// # Errors
 ///
 /// `NotAscii`: a byte is neither printable ASCII nor a tab, nor the one CR that may end the line; a comment
-/// counts. Else `Token`: some bytes before the comment are no token. `OutOfMemory`: there was no room for
-/// the tokens, whatever the line holds.
+/// counts. Else `Token`: some bytes before the comment are no token. `OutOfMemory` where memory was refused,
+/// whatever the line holds. The vector is empty after an error.
 #[tactic(auto, unfolding(crate::specs::Grammar::line_tokens))]
 pub fn read_tokens(tokens: &mut Vec<Token>, line: &[u8]) -> Result<(), TokenFault>
     ensures ok { OnOk result (line_tokens line.now ≡ Ok tokens.new.items) }

@@ -1,4 +1,4 @@
-//! Where the tokens of a line stand.
+//! The columns and widths of a line's tokens.
 
 ghost use Rattle.std.specs.Prelude.{◌≡◌, OnOk};
 ghost use Rattle.program_tokens.specs.Spans.{line_spans};
@@ -7,21 +7,21 @@ use crate::kind::{is_blank, kind_of, run_len};
 use crate::line::without_carriage_return;
 use std::alloc::AllocError;
 
-/// Where a token stands in its line.
+/// The part of its line that a token covers.
 #[derive(Clone, Copy, Debug, PartialEq, Eq)]
 pub struct TokenSpan {
-    /// The column of its first byte; columns are counted in bytes, from 1.
+    /// The column of its first byte, counted in bytes from 1.
     pub column: usize,
-    /// How many bytes it has.
+    /// Its width in bytes.
     pub len: usize,
 }
 
-/// Puts the places of a line's tokens, the line given without its LF, in place of what the vector holds;
-/// its room is used again. Bytes that are no token have a place, too.
+/// Replaces what the vector holds with the spans of a line's tokens, the line given without its LF; the
+/// vector's room is used again. Bytes that are no token have a span, too.
 ///
 /// # Errors
 ///
-/// `AllocError` where memory was refused.
+/// `AllocError` where memory was refused; what the vector holds then is not known.
 pub fn read_spans(spans: &mut Vec<TokenSpan>, line: &[u8]) -> Result<(), AllocError>
     ensures { OnOk result (spans.new.items ≡ line_spans line.now) }
 {

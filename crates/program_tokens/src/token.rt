@@ -8,16 +8,16 @@ use std::alloc::AllocFailed;
 use task_descriptor::name::Name;
 use thiserror::Error;
 
-/// A token.
+/// A token of a program text, with what it means.
 #[derive(Clone, Copy, Debug, PartialEq, Eq)]
 pub enum Token {
     /// A letter or `_`, then letters, digits and `_`; 1 to 32 bytes.
     Name(Name),
-    /// `$` and a register's number, 0 to 33, or its name.
+    /// `$` and a register's number, 0 to 33 (32 is HI, 33 is LO), or its name.
     Register(Reg),
-    /// Decimal digits, or `0x` and hexadecimal digits of either case; a `-` may stand directly before.
+    /// Decimal digits, or `0x` and hexadecimal digits of either case; a `-` may come directly before.
     Number(Number),
-    /// `@` and decimal digits: the index of an instruction.
+    /// `@` and decimal digits: a code index.
     Index(Number),
     /// `.` and lower-case letters.
     Directive(Directive),
@@ -37,7 +37,7 @@ pub enum Token {
     Minus,
 }
 
-/// The value of a number.
+/// The value of a number in a text, as exact as the grammar's ranges need it.
 #[derive(Clone, Copy, Debug, PartialEq, Eq)]
 pub enum Number {
     /// A number whose absolute value is below 2^40.
@@ -53,7 +53,7 @@ impl Default for Number {
     }
 }
 
-/// What a directive's letters mean.
+/// A directive of the text format, by its letters.
 #[derive(Clone, Copy, Debug, PartialEq, Eq)]
 pub enum Directive {
     /// `.start`
@@ -76,10 +76,10 @@ pub enum Directive {
     Unknown,
 }
 
-/// What a mark's letters mean (the 1995 paper, section 2.2: forward and stop bits).
+/// A forward or stop bit of an instruction, by its letters (ISCA 1995, section 2.2).
 #[derive(Clone, Copy, Debug, PartialEq, Eq)]
 pub enum Mark {
-    /// `!f`: the instruction forwards its result.
+    /// `!f`: the forward bit; what the instruction writes goes to the later tasks at once.
     Forward,
     /// `!s`: the task stops after the instruction.
     Always,
@@ -91,7 +91,7 @@ pub enum Mark {
     Unknown,
 }
 
-/// What is wrong with a line.
+/// Why a line has no tokens, numbered as the faults of a program text are.
 #[derive(Clone, Copy, Debug, PartialEq, Eq, Error)]
 pub enum LineFault {
     /// 2: a byte is neither printable ASCII nor a tab, nor the one CR at the line's end.
@@ -111,7 +111,7 @@ pub enum TokenFault {
     /// 3: some bytes are no token.
     #[error("3 Token")]
     Token,
-    /// There was no memory for the tokens.
+    /// Memory for the tokens was refused.
     #[error("out of memory")]
     OutOfMemory,
 }

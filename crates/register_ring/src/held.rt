@@ -4,7 +4,7 @@ use crate::members::next_member;
 use mips_instructions::number::{REGISTERS, Reg, RegSet};
 use std::marker::Model;
 
-/// Words for some of the registers, at most one for each: a mask and an array.
+/// Words for some of the 34 registers, at most one for each: a mask and an array.
 #[derive(Clone, Copy, Debug)]
 pub struct RegisterWords {
     set: RegSet,
@@ -40,7 +40,7 @@ impl RegisterWords {
         }
     }
 
-    /// The words of all registers but those of a set.
+    /// A word for each register outside a set: for register r element r of `words`.
     #[inline(always)]
     pub fn all_but(words: &[u32; 34], absent: RegSet) -> RegisterWords
         ensures { (r : ℕ) → r < 34 → pairs result r ≡ (if has absent r then None else Some (slice_index words.now r)) }
@@ -83,7 +83,7 @@ impl RegisterWords {
         self.words[usize::from(register.get())] = word;
     }
 
-    /// Gives each register without a word its word from these.
+    /// Gives each register r without a word element r of `words`.
     pub fn fill(&mut self, words: &[u32; 34])
         ensures { (r : ℕ) → r < 34 → pairs self.new r ≡ option_or (pairs self.old r) (Some (slice_index words.now r)) }
     {

@@ -5,7 +5,7 @@ ghost use Rattle.mips_instructions.specs.Words.{has};
 
 use mips_instructions::number::{Reg, RegSet};
 
-/// The least member of a set at or above a register number, 0..=34; `None` where there is none.
+/// The least member of a set that is `from`, 0..=34, or above; `None` where there is none.
 #[inline]
 pub fn next_member(set: RegSet, from: u8) -> Option<Reg>
     requires { from ≤ 34 }

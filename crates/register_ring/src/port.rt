@@ -1,4 +1,4 @@
-//! What stands between a unit and its neighbours on the ring.
+//! The port of a unit on the register ring.
 
 ghost use Rattle.std.specs.Prelude.{◌≡◌, ℕ, ◌<◌, ◌↔◌, None, IsSome, IsTrue, is_some, MatchResult};
 ghost use Rattle.std.specs.List.{list_any};
@@ -12,12 +12,12 @@ use crate::held::RegisterWords;
 use mips_instructions::number::{Reg, RegSet};
 use std::marker::Model;
 
-/// A register that has arrived doesn't arrive again.
+/// The error of a register that has arrived before: it doesn't arrive again.
 #[derive(Clone, Copy, Debug, PartialEq, Eq)]
 pub struct AlreadyThere;
 
-/// What a unit took from the unit before it, and what it sent on (ISCA 1995, section 2.2): in each
-/// case at most one word for each register.
+/// A unit's port on the ring: the registers that arrived from the unit before it, and those that it sent, with
+/// at most one word for each.
 #[derive(Clone, Copy, Debug)]
 pub struct Port {
     arrived: RegisterWords,
@@ -35,8 +35,8 @@ impl Model for Port {
 }
 
 impl Port {
-    /// A port to which each register outside the accumulated mask has arrived with its word, and that
-    /// has sent nothing.
+    /// The port of a unit that begins: each register outside the accumulated mask has arrived with its word,
+    /// element r of `words` for register r, and nothing is sent.
     #[inline(always)]
     pub fn fresh(words: &[u32; 34], accum: RegSet) -> Port
         ensures arrived { arrived_of result ≡ arrived_fresh words.now accum }
@@ -48,11 +48,11 @@ impl Port {
         }
     }
 
-    /// A register arrives with a word.
+    /// A register arrives from the unit before this one with a word.
     ///
     /// # Errors
     ///
-    /// `AlreadyThere` where it has arrived; nothing is changed then.
+    /// `AlreadyThere` where it has arrived before; nothing is changed then.
     #[inline]
     pub fn arrive(&mut self, register: Reg, word: u32) -> Result<(), AlreadyThere>
         ensures { MatchResult result
@@ -68,7 +68,7 @@ impl Port {
         Ok(())
     }
 
-    /// Sends a register with a word, unless it has been sent: then it stays as it was sent.
+    /// Sends a register with a word, unless it was sent before: then the first word stays.
     #[inline]
     pub fn send(&mut self, register: Reg, word: u32)
         ensures sent { sent_of self.new ≡ put_first register word (sent_of self.old) }
@@ -79,7 +79,8 @@ impl Port {
         }
     }
 
-    /// What is passed on for a register: what was sent, if it is in the create mask, else what arrived.
+    /// The word that the next unit can take for a register: what was sent, if the register is in the create
+    /// mask, else what arrived; `None` where there is none yet.
     #[inline]
     pub fn pass(&self, create: RegSet, register: Reg) -> Option<u32>
         ensures { result ≡ passed create self.now register }
@@ -91,7 +92,7 @@ impl Port {
         }
     }
 
-    /// Each register that has not arrived arrives, with its word from these.
+    /// Each register that has not arrived arrives, register r with element r of `words`.
     pub fn fill(&mut self, words: &[u32; 34])
         ensures arrived { arrived_of self.new ≡ filled_with words.now (arrived_of self.old) }
         ensures sent { sent_of self.new ≡ sent_of self.old }
@@ -131,7 +132,7 @@ impl Port {
         self.sent.set()
     }
 
-    /// Replaces what it sent with what another port sent.
+    /// Replaces what this port sent with what another port sent; what arrived stays.
     #[inline]
     pub fn take_sent(&mut self, other: &Port)
         ensures arrived { arrived_of self.new ≡ arrived_of self.old }
@@ -140,8 +141,8 @@ impl Port {
         self.sent = other.sent;
     }
 
-    /// Whether each register that has arrived here has arrived there with the same word, and both
-    /// have sent the same words.
+    /// Whether each register that has arrived here has arrived there with the same word, and both have sent the
+    /// same words.
     pub fn is_within(&self, other: &Port) -> bool
         ensures { IsTrue result ↔ (AllIn (arrived_of self.now) (arrived_of other.now) × (sent_of self.now ≡ sent_of other.now)) }
     {
@@ -152,7 +153,7 @@ impl Port {
         self.sent.is_same(&other.sent)
     }
 
-    /// The accumulated mask: the registers of any of these create masks.
+    /// The accumulated mask: the union of these create masks.
     pub fn accum(masks: &[RegSet]) -> RegSet
         ensures { (r : ℕ) → has result r ≡ list_any (λ mask. has mask r) masks.now }
     {

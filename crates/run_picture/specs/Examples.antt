@@ -1,5 +1,5 @@
 -- Worked examples, computed by the checker.
-use Rattle.std.specs.Prelude.{◌≡◌, ℕ, ◌+◌, ◌*◌, [], ◌∷◌, Some, None, false, true}
+use Rattle.std.specs.Prelude.{◌≡◌, ℕ, ◌+◌, ◌*◌, [], ◌∷◌}
 use Rattle.std.proofs.Common.{refl}
 use Rattle.machine_model.specs.declared.event.Event.TheVariants.{Assign, Exec, Transfer, Drain, Squash, Retire}
 use Rattle.machine_model.specs.declared.event.Standing.TheVariants as standing
@@ -7,33 +7,31 @@ use Rattle.task_lives.specs.declared.life.Ending.TheVariants.{Squashed, Unfinish
 use Rattle.task_lives.specs.declared.life.Life.{Life}
 use Rattle.run_picture.specs.declared.shape.Axis.{Axis}
 use Rattle.run_picture.specs.declared.shape.Counted.TheVariants.{Events, Steps}
-use Rattle.run_picture.specs.declared.shape.Meaning.TheVariants.{OfExec, OfTransfer, OfDrain, OfSquash}
-use Rattle.run_picture.specs.Meanings.{halted_unit, is_halted, marks_of}
+use Rattle.run_picture.specs.declared.shape.Meaning.TheVariants.{OfHead, OfExec, OfTransfer, OfDrain, OfSquash}
+use Rattle.run_picture.specs.Meanings.{ending_told, heads_of, marks_from}
 use Rattle.run_picture.specs.Stretches.{overlap, share_of}
-
--- after five tasks retired on four units the head is unit 1; where it is not known that the run halted, no unit did
-pub unit_of_head : halted_unit 4 5 (Some standing.Halted) ≡ 1
-unit_of_head = refl
-
-pub no_unit : halted_unit 4 5 None ≡ 4
-no_unit = refl
 
 abbrev life : Life
 life = record { task = 1; unit = 1; first = 1; last = 9; executed = 3; ending = Squashed }
 
-pub halted : is_halted 1 (record life { ending = Unfinished }) ≡ true
+pub halted : ending_told 1 standing.Halted (record life { ending = Unfinished }) ≡ standing.Halted
 halted = refl
 
-pub squashed : is_halted 1 life ≡ false
+pub squashed : ending_told 1 standing.Halted life ≡ standing.Running
 squashed = refl
 
 -- unit 0, which has stopped, sends `$8`, which goes on to unit 1; after the Retire the instruction at position 0 is one of unit 1
-pub marks : marks_of (record { counted = Events; units = 2; count = 5 }) (1 ∷ 2 ∷ 3 ∷ 4 ∷ 5 ∷ []) (Assign 0 ∷ Drain 0 8 ∷ Transfer 1 8 ∷ Retire ∷ Exec 0 ∷ [])
+pub marks : marks_from (record { counted = Events; units = 2; lanes = 2; before = 0; count = 5; total = 5 }) (1 ∷ 2 ∷ 3 ∷ 4 ∷ 5 ∷ []) 0 0 (Assign 0 ∷ Drain 0 8 ∷ Transfer 1 8 ∷ Retire ∷ Exec 0 ∷ [])
     ≡ OfDrain Events 2 8 0 ∷ OfTransfer Events 3 8 0 1 ∷ OfExec Events 5 1 ∷ []
 marks = refl
 
+-- unit 0 is the head up to event 4, in which its task retires, and then unit 1
+pub heads : heads_of (record { counted = Events; units = 2; lanes = 2; before = 0; count = 5; total = 5 }) (1 ∷ 2 ∷ 3 ∷ 4 ∷ 5 ∷ []) 0 (Assign 0 ∷ Drain 0 8 ∷ Transfer 1 8 ∷ Retire ∷ Exec 0 ∷ [])
+    ≡ OfHead Events 0 4 0 ∷ OfHead Events 4 5 1 ∷ []
+heads = refl
+
 -- more than 300 steps have room for squashes alone; both events come in step 7
-pub marks_of_many : marks_of (record { counted = Steps; units = 2; count = 301 }) (7 ∷ 7 ∷ []) (Exec 1 ∷ Squash 0 ∷ []) ≡ OfSquash Steps 7 0 ∷ []
+pub marks_of_many : marks_from (record { counted = Steps; units = 2; lanes = 2; before = 0; count = 301; total = 301 }) (7 ∷ 7 ∷ []) 0 0 (Exec 1 ∷ Squash 0 ∷ []) ≡ OfSquash Steps 7 0 ∷ []
 marks_of_many = refl
 
 -- in stretches of 4 events, events 1 to 9 have 3, 4 and 2

@@ -1,8 +1,8 @@
 -- What the shapes of a picture stand for: which life, wait or event. Where they stand in it, and how they are written, is
 -- not stated. Columns are events or steps, numbered from 1.
-use Rattle.std.specs.Prelude.{ℕ, ◌+◌, ◌-◌, ◌%◌, Bool, true, false, ◌&&◌, ◌||◌, List, [], ◌∷◌, ◌++◌, map, filter, slice_get, nat_eq, nat_le, if◌then◌else◌, unwrap_or, Option, Some}
+use Rattle.std.specs.Prelude.{ℕ, ◌+◌, ◌-◌, ◌%◌, Bool, true, false, ◌&&◌, ◌||◌, List, [], ◌∷◌, ◌++◌, map, filter, slice_get, nat_eq, nat_le, nat_lt, if◌then◌else◌, unwrap_or}
 use Rattle.machine_model.specs.declared.event.Event.{Event}
-use Rattle.machine_model.specs.declared.event.Event.TheVariants.{Exec, Transfer, Drain, Squash}
+use Rattle.machine_model.specs.declared.event.Event.TheVariants.{Exec, Transfer, Drain, Squash, Retire}
 use Rattle.machine_model.specs.declared.event.Standing.{Standing}
 use Rattle.machine_model.specs.declared.event.Standing.TheVariants as standing
 use Rattle.machine_model.specs.HeadEvent.{unit_of, retired_after}
@@ -13,7 +13,7 @@ use Rattle.run_picture.specs.declared.shape.Counted.{Counted}
 use Rattle.run_picture.specs.declared.shape.Counted.TheVariants.{Events, Steps}
 use Rattle.run_picture.specs.declared.shape.Shape.{Shape}
 use Rattle.run_picture.specs.declared.shape.Meaning.{Meaning}
-use Rattle.run_picture.specs.declared.shape.Meaning.TheVariants.{Nothing, OfLife, OfExec, OfTransfer, OfDrain, OfSquash}
+use Rattle.run_picture.specs.declared.shape.Meaning.TheVariants.{Nothing, OfLife, OfHead, OfExec, OfTransfer, OfDrain, OfSquash}
 
 -- what shapes stand for, in their order; those that stand for nothing are left out
 abbrev pub is_something : Meaning → Bool
@@ -23,17 +23,12 @@ is_something _ = true
 abbrev pub meanings : List Shape → List Meaning
 meanings shapes = filter is_something (map (λ shape. shape.meaning) shapes)
 
--- the unit that halted: the head's, whose number round the ring is that of the retired tasks; else a number that no unit has
-abbrev pub halted_unit : (units retired : ℕ) → Option Standing → ℕ
-halted_unit units retired (Some standing.Halted) = retired % units
-halted_unit units retired _ = units
+-- how the run ended, of the life of the task at the head then, on the unit of this number; of any other life, that it has not
+abbrev pub ending_told : (head : ℕ) → Standing → Life → Standing
+ending_told head stands life = if nat_eq life.unit head && is_unfinished life.ending then stands else standing.Running
 
--- a life, and whether it is that of the task that halted
-abbrev pub is_halted : (halted : ℕ) → Life → Bool
-is_halted halted life = nat_eq life.unit halted && is_unfinished life.ending
-
-abbrev pub life_told : Counted → (halted : ℕ) → Life → Meaning
-life_told counted halted life = OfLife counted life (is_halted halted life)
+abbrev pub life_told : Counted → (head : ℕ) → Standing → Life → Meaning
+life_told counted head stands life = OfLife counted life (ending_told head stands life)
 
 -- the column of an event, numbered from 0
 abbrev pub column_at : (columns : List ℕ) → (event : ℕ) → ℕ
@@ -54,6 +49,29 @@ stands_for axis n unit (Drain k r) = OfDrain axis.counted n r unit ∷ []
 stands_for axis n unit (Squash k) = OfSquash axis.counted n unit ∷ []
 stands_for axis n unit _ = []
 
+-- from one retirement to the next one unit is the head, whose number round the ring is that of the retired tasks
+abbrev pub is_retirement : Event → Bool
+is_retirement Retire = true
+is_retirement _ = false
+
+abbrev pub after_retirement : (after column : ℕ) → Event → ℕ
+after_retirement after column Retire = column
+after_retirement after column _ = after
+
+abbrev pub head_told : Axis → (retired after last : ℕ) → List Meaning
+head_told axis retired after last = if nat_lt after last then OfHead axis.counted after last (retired % axis.units) ∷ [] else []
+
+-- before event n, `retired` tasks have retired, the last one in the column `after`
+abbrev pub heads_from : Axis → (columns : List ℕ) → (retired after n : ℕ) → List Event → List Meaning
+heads_from axis columns retired after n [] = head_told axis retired after (column_at columns (n - 1))
+heads_from axis columns retired after n (e ∷ es) =
+    (if is_retirement e then head_told axis retired after (column_at columns n) else [])
+    ++ heads_from axis columns (retired_after retired e) (after_retirement after (column_at columns n) e) (n + 1) es
+
+-- of some events, before which `retired` tasks retired
+abbrev pub heads_of : Axis → (columns : List ℕ) → (retired : ℕ) → List Event → List Meaning
+heads_of axis columns retired history = heads_from axis columns retired axis.before 0 history
+
 -- more than 300 steps have room for squashes alone
 abbrev pub is_squash : Event → Bool
 is_squash (Squash k) = true
@@ -72,6 +90,3 @@ marks_from axis columns retired n [] = []
 marks_from axis columns retired n (e ∷ es) =
     (if is_marked axis e then stands_for axis (column_at columns n) (unit_of axis.units retired 0 e) e else [])
     ++ marks_from axis columns (retired_after retired e) (n + 1) es
-
-abbrev pub marks_of : Axis → (columns : List ℕ) → List Event → List Meaning
-marks_of axis columns history = marks_from axis columns 0 0 history

@@ -3,32 +3,25 @@
 ghost use Rattle.std.specs.Prelude.{◌≡◌, ◌<◌, ◌++◌, OnOk, map};
 ghost use Rattle.task_lives.specs.Sums.{is_unfinished as is_unfinished_ending};
 ghost use Rattle.run_picture.specs.declared.shape.Meaning.TheVariants.{OfWait};
-ghost use Rattle.run_picture.specs.Meanings.{halted_unit as halted_unit_of, is_halted as is_halted_on, life_told, meanings};
+ghost use Rattle.run_picture.specs.Meanings.{ending_told, life_told, meanings};
 
-use crate::scale::{BAR_HEIGHT, left_edge, letters_in, top};
+use crate::scale::{AXIS_LEFT, AXIS_WIDTH, BAR_HEIGHT, left_in, letters_in, top};
 use crate::shape::{Axis, Element, Geometry, LabelText, Meaning, Shape, Style, Wait, Why};
 use machine_model::event::Standing;
 use std::alloc::AllocError;
 use task_descriptor::descriptor::Descriptor;
 use task_lives::life::{Ending, Life};
 
-/// The unit that halted in a run that stands so, in which `retired` tasks retired; if none did, or that is not known, a
-/// number that no unit has.
-pub fn halted_unit(units: u32, retired: u32, standing: Option<Standing>) -> u32
-    requires { 0 < units }
-    ensures { result ≡ halted_unit_of units retired standing }
+/// How a run ended that stands so, of the life of the task with which it did, on the unit that is the head last; of any
+/// other life, that it has not.
+fn ending_of(head: u32, standing: Standing, life: Life) -> Standing
+    ensures { result ≡ ending_told head standing life }
 {
-    match standing {
-        Some(Standing::Halted) => retired % units,
-        _ => units,
+    if life.unit == head && is_unfinished(life.ending) {
+        standing
+    } else {
+        Standing::Running
     }
-}
-
-/// Whether a life is that of the task that halted.
-fn is_halted(halted: u32, life: Life) -> bool
-    ensures { result ≡ is_halted_on halted life }
-{
-    life.unit == halted && is_unfinished(life.ending)
 }
 
 /// Whether a life has not ended.
@@ -38,67 +31,99 @@ fn is_unfinished(ending: Ending) -> bool
     matches!(ending, Ending::Unfinished)
 }
 
-/// Adds a bar for each life, in their order; the unit `halted` halted, if any has that number.
+/// Adds a bar for each life, in their order, of a run that stands so, in which the unit `head` is the head last.
 pub(crate) fn push_bars(
     shapes: &mut Vec<Shape>,
     axis: Axis,
-    halted: u32,
+    head: u32,
+    standing: Standing,
     lives: &[Life],
 ) -> Result<(), AllocError>
-    ensures { OnOk result (meanings shapes.new.items ≡ meanings shapes.old.items ++ map (life_told axis.counted halted) lives.now) }
+    ensures { OnOk result (meanings shapes.new.items ≡ meanings shapes.old.items ++ map (life_told axis.counted head standing) lives.now) }
 {
     for life in lives {
-        shapes.push(bar_of(axis, halted, *life))?;
+        shapes.push(bar_of(axis, head, standing, *life))?;
     }
     Ok(())
 }
 
 /// The bar of a life: in the lane of its unit, from where its first event or step begins to where its last one ends.
-fn bar_of(axis: Axis, halted: u32, life: Life) -> Shape
-    ensures { result.meaning ≡ life_told axis.counted halted life }
+fn bar_of(axis: Axis, head: u32, standing: Standing, life: Life) -> Shape
+    ensures { result.meaning ≡ life_told axis.counted head standing life }
 {
-    let is_halted = is_halted(halted, life);
-    let style = if is_halted {
-        Style::Halted
-    } else {
-        Style::Bar(life.ending)
+    let ending = ending_of(head, standing, life);
+    let style = match ending {
+        Standing::Running => Style::Bar(life.ending),
+        Standing::Halted => Style::Halted,
+        Standing::Trapped(_) | Standing::Unlisted(_) => Style::Trapped,
     };
-    let left = left_edge(axis.count, life.first);
+    let left = left_in(axis, life.first);
     let form = Geometry::Rectangle(left, top(life.unit), width(axis, life), BAR_HEIGHT);
     Shape {
         element: Element { style, form },
-        meaning: Meaning::OfLife(axis.counted, life, is_halted),
+        event: usize::MAX,
+        meaning: Meaning::OfLife(axis.counted, life, ending),
     }
 }
 
 /// How wide the bar of a life is.
 fn width(axis: Axis, life: Life) -> u64 {
-    let left = left_edge(axis.count, life.first);
-    let right = left_edge(axis.count, life.last.saturating_add(1));
+    let left = left_in(axis, life.first);
+    let right = left_in(axis, life.last.saturating_add(1));
     right.saturating_sub(left)
 }
 
-/// Adds the names of the tasks on the bars that have room for one.
+/// Adds the names of the tasks: on the bars that have room for one, else after the bar, if the whole name has room there
+/// before the unit's next bar.
 pub(crate) fn push_names(
     labels: &mut Vec<Element>,
     tasks: &[Descriptor],
     axis: Axis,
     lives: &[Life],
 ) -> Result<(), AllocError> {
-    for life in lives {
-        let letters = letters_in(name_of(tasks, life.task), width(axis, *life));
+    for (index, life) in lives.iter().enumerate() {
+        let name = name_of(tasks, life.task);
+        let letters = letters_in(name, width(axis, *life));
+        let right = left_in(axis, life.last.saturating_add(1));
         if letters > 0 {
-            let left = left_edge(axis.count, life.first) + 600;
-            let words = LabelText::Task(life.task, letters);
-            let form = Geometry::Label(left, top(life.unit) + 1_800, words);
-            let style = Style::TaskName;
-            labels.push(Element { style, form })?;
+            push_name(labels, *life, left_in(axis, life.first) + 600, letters)?;
+        } else if letters_in(name, room_after(axis, lives, index)) == name.len() {
+            push_name(labels, *life, right + 400, name.len())?;
         }
     }
     Ok(())
 }
 
-/// The name of a task; of letters, digits and `_` alone, so that nothing in it has a meaning in SVG.
+/// How much room there is after the bar of the life of this index, before the next one of its unit.
+fn room_after(axis: Axis, lives: &[Life], index: usize) -> u64 {
+    let Some(life) = lives.get(index) else {
+        return 0;
+    };
+    let right = left_in(axis, life.last.saturating_add(1));
+    for next in lives.get(index..).unwrap_or(&[]) {
+        if next.unit == life.unit && next.first > life.last {
+            return left_in(axis, next.first).saturating_sub(right);
+        }
+    }
+    (AXIS_LEFT + AXIS_WIDTH).saturating_sub(right)
+}
+
+/// Adds the first letters of the name of a life's task.
+fn push_name(
+    labels: &mut Vec<Element>,
+    life: Life,
+    left: u64,
+    letters: usize,
+) -> Result<(), AllocError> {
+    let words = LabelText::Task(life.task, letters);
+    let form = Geometry::Label(left, top(life.unit) + 1_800, words);
+    let style = Style::TaskName;
+    labels.push(Element { style, form })?;
+    Ok(())
+}
+
+/// The name of a task, or `?` for a number that no task has; letters, digits and `_` alone, so that nothing in it has a
+/// meaning in SVG.
 pub fn name_of(tasks: &[Descriptor], task: u32) -> &str {
     match tasks.get(task as usize) {
         Some(descriptor) => descriptor.name.as_str(),
@@ -130,12 +155,13 @@ fn strip_of(axis: Axis, wait: Wait) -> Shape
         Why::HasToPass(_) => Style::WaitToPass,
     };
     let first = wait.step.saturating_sub(1);
-    let left = left_edge(axis.count, first);
-    let right = left_edge(axis.count, first.saturating_add(wait.count));
+    let left = left_in(axis, first);
+    let right = left_in(axis, first.saturating_add(wait.count));
     let wide = right.saturating_sub(left);
     let form = Geometry::Rectangle(left, top(wait.unit) + 2_400, wide, 1_300);
     Shape {
         element: Element { style, form },
+        event: usize::MAX,
         meaning: Meaning::OfWait(wait),
     }
 }

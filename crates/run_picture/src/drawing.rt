@@ -8,10 +8,10 @@ ghost use Rattle.run_picture.specs.Charts.{HasRoom};
 
 use crate::chart::{Chart, chart_of_events, shapes_of};
 use crate::frame::{frame, labels, push};
-use crate::scale::bottom;
+use crate::scale::{end_of_lanes, left_edge};
 use crate::shape::{Axis, Element, Geometry, LabelText, Style};
-use crate::shape_text::{write_elements, write_shapes};
-use crate::sheet::{MARKS_LEGEND, SHEET, STRETCHES_LEGEND};
+use crate::shape_text::{Telling, word_of_counted, write_elements, write_shapes};
+use crate::sheet::{ARROW_LEGEND, MARKS_LEGEND, SHEET, SINGLE_LEGEND, STRETCHES_LEGEND};
 use crate::title::write_title;
 use machine_model::event::{EventRun, Standing};
 use std::alloc::{AllocError, Global};
@@ -19,10 +19,14 @@ use task_descriptor::descriptor::Descriptor;
 use task_descriptor::program::Program;
 use task_lives::tally::Tally;
 
-/// Draws the history of a run of a program of this name, which may be empty, on `units` units, at least one: one
-/// SVG file, with no script and no font of its own. The history has at most 1,000,000 events, and no event of it is
-/// at a position where there is no unit; this holds for every history of a machine
-/// (`task_lives::laws::histories_fit`). How the run stands is not said. An error means that memory was refused.
+/// The picture of the history of a run of a program of this name, which may be empty, on `units` units, at least one: an
+/// SVG file with no script and no font of its own. It does not say how the run ended. The history has at most 1,000,000
+/// events, and no event of it is at a position where there is no unit; this holds for every history of a machine
+/// (`task_lives::laws::histories_fit`).
+///
+/// # Errors
+///
+/// `AllocError` where memory was refused.
 pub fn draw(
     alloc: Global,
     program: &Program,
@@ -34,11 +38,16 @@ pub fn draw(
     requires room { length (events_of runs.now) ≤ most_events }
     requires fit { AllFit 0 (events_of runs.now) }
 {
-    draw_ended(alloc, program, name, "", units, None, runs)
+    draw_ended(alloc, program, name, "", units, None, &[], runs)
 }
 
-/// Draws a history as `draw` does; if it is known how the run stands after it, the picture says so, and shows which task
-/// halted. `said` is text of SVG that stands beside that, and may be empty. An error means that memory was refused.
+/// The picture of a history, as `draw` makes it, which also says how the run is after the history, if that is known, and
+/// shows how the task ended with which it did. `said` is SVG text, which may be empty and is put to the right of the legend.
+/// `notes` say what each event did; there may be none.
+///
+/// # Errors
+///
+/// `AllocError` where memory was refused.
 pub fn draw_ended(
     alloc: Global,
     program: &Program,
@@ -46,19 +55,21 @@ pub fn draw_ended(
     said: &str,
     units: u32,
     standing: Option<Standing>,
+    notes: &[String],
     runs: &[EventRun],
 ) -> Result<String, AllocError>
     requires some { 0 < units }
     requires room { length (events_of runs.now) ≤ most_events }
     requires fit { AllFit 0 (events_of runs.now) }
 {
-    let chart = chart_of_events(alloc, units, standing, runs)?;
+    let stands = standing.unwrap_or(Standing::Running);
+    let chart = chart_of_events(alloc, units, stands, runs)?;
     let tasks = program.tasks();
     let mut text = String::new(alloc);
     write_opening(&mut text, name, said, &chart)?;
     let outcome = outcome(alloc, chart.tally, standing)?;
     write_elements(&mut text, tasks, &outcome)?;
-    write_chart(alloc, &mut text, tasks, &chart)?;
+    write_chart(alloc, &mut text, tasks, notes, &chart)?;
     Ok(text)
 }
 
@@ -72,12 +83,14 @@ fn write_opening(
 ) -> Result<(), AllocError> {
     write_root(text, name, chart.axis)?;
     text.push_str(SHEET)?;
-    text.push_str(if chart.is_single() {
-        MARKS_LEGEND
+    if chart.is_single() {
+        text.push_str(SINGLE_LEGEND)?;
+        text.push_str(MARKS_LEGEND)?;
+        text.push_str(ARROW_LEGEND)?;
     } else {
-        STRETCHES_LEGEND
-    })?;
-    text.push_str("<text class='title' x='88.00' y='46.00'>")?;
+        text.push_str(STRETCHES_LEGEND)?;
+    }
+    text.push_str("</g>\n<text class='title' x='88.00' y='46.00'>")?;
     write_title(text, name, chart.axis)?;
     text.push_str("</text>\n")?;
     if said.is_empty() {
@@ -85,13 +98,17 @@ fn write_opening(
     }
     writeln!(
         text,
-        "<text class='quiet' x='700.00' y='133.00'>{said}</text>"
+        "<text class='quiet' x='760.00' y='133.00'>{said}</text>"
     )
 }
 
-/// Writes the beginning of the root element, and its title. An error means that memory was refused.
+/// Adds the start tag of the root element, and its title.
+///
+/// # Errors
+///
+/// `AllocError` where memory was refused; a part may have been added.
 pub fn write_root(text: &mut String, name: &str, axis: Axis) -> Result<(), AllocError> {
-    let height = (bottom(axis.units) + 9_200) / 100;
+    let height = (end_of_lanes(axis) + 9_200) / 100;
     write!(
         text,
         "<svg xmlns='http://www.w3.org/2000/svg' viewBox='0 0 1280 {height}' width='1280' height='{height}' role='img' font-family='system-ui,Segoe UI,Liberation Sans,Arial,sans-serif'><title>"
@@ -116,20 +133,50 @@ fn outcome(
     Ok(elements)
 }
 
-/// Writes lanes, the axis, the shapes of a chart, its labels, and the end of the file. An error means that memory was
-/// refused.
+// Adds a line above the lanes, which shows where in the whole run the part is that is drawn, if it is a part.
+fn write_place(text: &mut String, axis: Axis) -> Result<(), AllocError> {
+    if axis.count >= axis.total {
+        return Ok(());
+    }
+    let left = left_edge(axis.total, axis.before);
+    let right = left_edge(axis.total, axis.before.saturating_add(axis.count));
+    let wide = right.saturating_sub(left).max(200);
+    let (x, wide) = (left / 100, wide / 100);
+    let (first, last) = (
+        axis.before.saturating_add(1),
+        axis.before.saturating_add(axis.count),
+    );
+    let (total, counted) = (axis.total, word_of_counted(axis.counted));
+    writeln!(
+        text,
+        "<g><title>{counted}s {first} to {last} of {total}</title><rect class='idle' x='88' y='139' width='1160' height='4'/><rect class='leads' x='{x}' y='139' width='{wide}' height='4'/></g>"
+    )
+}
+
+/// Adds the lanes, the axis, the shapes of a picture with the notes on its events, its labels, and the end of the file.
+///
+/// # Errors
+///
+/// `AllocError` where memory was refused; a part may have been added.
 pub fn write_chart(
     alloc: Global,
     text: &mut String,
     tasks: &[Descriptor],
+    notes: &[String],
     chart: &Chart,
 ) -> Result<(), AllocError>
     requires { HasRoom chart.now }
 {
     let frame = frame(alloc, chart.axis)?;
     write_elements(text, tasks, &frame)?;
+    write_place(text, chart.axis)?;
     let shapes = shapes_of(alloc, chart)?;
-    write_shapes(text, tasks, &shapes)?;
+    let telling = Telling {
+        tasks,
+        notes,
+        before: chart.axis.before,
+    };
+    write_shapes(alloc, text, &telling, &shapes)?;
     let labels = labels(alloc, tasks, chart)?;
     write_elements(text, tasks, &labels)?;
     text.push_str("</svg>\n")

@@ -7,7 +7,11 @@ ghost use Rattle.machine_model.specs.Runs.{events_of};
 use machine_model::event::{Event, EventRun};
 use std::alloc::{AllocError, Global};
 
-/// The events of some runs, in order. An error means that memory was refused.
+/// The events of some runs of equal events, one by one, in order.
+///
+/// # Errors
+///
+/// `AllocError` where memory was refused.
 pub fn single_events(alloc: Global, runs: &[EventRun]) -> Result<Vec<Event>, AllocError>
     ensures { IfOk result (λ events. events.items ≡ events_of runs.now) }
 {

@@ -1,10 +1,11 @@
 //! The marks of single events: instructions, registers that go from one unit to the next or are sent by a stopped
 //! unit, and where a squash begins.
 
-ghost use Rattle.std.specs.Prelude.{◌≡◌, ◌+◌, ◌++◌, ◌%◌, ◌<◌, ◌≤◌, ◌^◌, OnOk, length};
-ghost use Rattle.machine_model.specs.HeadEvent.{retired_after, unit_of};
-ghost use Rattle.run_picture.specs.Meanings.{column_at, is_marked as is_marked_on, marks_of, meanings, stands_for};
+ghost use Rattle.std.specs.Prelude.{◌≡◌, ◌+◌, ◌++◌, ◌<◌, ◌^◌, OnOk, length};
+ghost use Rattle.machine_model.specs.HeadEvent.{unit_of};
+ghost use Rattle.run_picture.specs.Meanings.{column_at, is_marked as is_marked_on, marks_from, meanings, stands_for};
 
+use crate::queue::{retired_with, unit_at, unit_before};
 use crate::scale::{BAR_HEIGHT, middle, room, top};
 use crate::shape::{Axis, Counted, Element, Geometry, LabelText, Meaning, Shape, Style};
 use machine_model::event::Event;
@@ -16,24 +17,32 @@ const SMALL_ROOM: u64 = 350;
 /// This much room after its arrow is enough for a register's number.
 const ROOM_OF_REGISTER: u64 = 2_600;
 
-/// Up to this many steps have room for all marks; more, for squashes alone.
+/// The most steps of a picture that shows the marks of all events; one of more steps shows squashes alone.
 pub const MOST_MARKED: u32 = 300;
 
-/// Adds the marks of the events of a history, each in its column, numbered from 1.
+/// Adds the marks of some events, before which this many tasks retired, each in its column, numbered from 1.
 pub(crate) fn push_marks(
     shapes: &mut Vec<Shape>,
     axis: Axis,
     columns: &[u32],
+    retired: u32,
     events: &[Event],
 ) -> Result<(), AllocError>
     requires some { 0 < axis.units }
-    requires few { length events.now < 2 ^ 31 }
-    ensures { OnOk result (meanings shapes.new.items ≡ meanings shapes.old.items ++ marks_of axis columns.now events.now) }
+    requires few { retired + length events.now < 2 ^ 31 }
+    ensures { OnOk result (meanings shapes.new.items ≡ meanings shapes.old.items ++ marks_from axis columns.now retired 0 events.now) }
 {
-    let mut retired: u32 = 0;
+    let mut retired = retired;
     for (index, event) in events.iter().enumerate() {
         if is_marked(axis, *event) {
-            push_mark(shapes, axis, column_of(columns, index), retired, *event)?;
+            push_mark(
+                shapes,
+                axis,
+                index,
+                column_of(columns, index),
+                retired,
+                *event,
+            )?;
             push_register(shapes, axis, columns, events, index, retired)?;
         }
         retired = retired_with(retired, *event);
@@ -61,32 +70,11 @@ pub(crate) fn column_of(columns: &[u32], event: usize) -> u32
     }
 }
 
-/// How many tasks have retired after an event.
-fn retired_with(retired: u32, event: Event) -> u32
-    requires { retired < 2 ^ 31 }
-    ensures value { result ≡ retired_after retired event }
-    ensures bound { result ≤ retired + 1 }
-{
-    match event {
-        Event::Retire => retired + 1,
-        _ => retired,
-    }
-}
-
-/// The number of the unit at a position, after `retired` tasks have retired.
-fn unit_at(units: u32, retired: u32, position: u32) -> u32
-    requires { 0 < units }
-    ensures value { result ≡ (retired + position) % units }
-    ensures bound { result < units }
-{
-    let place = u64::from(retired) + u64::from(position);
-    (place % u64::from(units)) as u32
-}
-
-/// Adds what stands for an event in a column; `retired` tasks have retired before it.
+/// Adds what stands for the event of this index in a column; `retired` tasks have retired before it.
 fn push_mark(
     shapes: &mut Vec<Shape>,
     axis: Axis,
+    index: usize,
     column: u32,
     retired: u32,
     event: Event,
@@ -95,13 +83,9 @@ fn push_mark(
     ensures { OnOk result (meanings shapes.new.items
         ≡ meanings shapes.old.items ++ stands_for axis column (unit_of axis.units retired 0 event) event) }
 {
-    let Axis {
-        counted,
-        units,
-        count,
-    } = axis;
-    let x = middle(count, column);
-    let (arrow, tick) = if room(count) < SMALL_ROOM {
+    let (counted, units) = (axis.counted, axis.units);
+    let x = middle(axis, column);
+    let (arrow, tick) = if room(axis.count) < SMALL_ROOM {
         (Style::FineArrow, Style::FineInstruction)
     } else {
         (Style::Arrow, Style::Instruction)
@@ -111,27 +95,27 @@ fn push_mark(
             let unit = unit_at(units, retired, position);
             let low = top(unit) + BAR_HEIGHT;
             let meaning = Meaning::OfExec(counted, column, unit);
-            shapes.push(line(tick, x, low - 1_300, low - 400, meaning))?;
+            shapes.push(line(tick, x, low - 1_300, low - 400, index, meaning))?;
         }
         Event::Transfer(position, register) => {
             let unit = unit_at(units, retired, position);
-            let from = if unit == 0 { units - 1 } else { unit - 1 };
+            let from = unit_before(units, unit);
             let high = top(unit);
             let meaning = Meaning::OfTransfer(counted, column, register.get(), from, unit);
             if unit == 0 {
                 // It leaves the last unit below, and goes on at the first.
                 let low = top(from) + BAR_HEIGHT;
-                shapes.push(line(arrow, x, low, low + 1_400, meaning))?;
-                shapes.push(line(arrow, x, high - 1_400, high, meaning))?;
+                shapes.push(line(arrow, x, low, low + 1_400, index, meaning))?;
+                shapes.push(line(arrow, x, high - 1_400, high, index, meaning))?;
             } else {
-                shapes.push(line(arrow, x, high - 2_800, high, meaning))?;
+                shapes.push(line(arrow, x, high - 2_800, high, index, meaning))?;
             }
         }
         Event::Drain(position, register) => {
             let unit = unit_at(units, retired, position);
             let low = top(unit) + BAR_HEIGHT;
             let meaning = Meaning::OfDrain(counted, column, register.get(), unit);
-            shapes.push(line(arrow, x, low - 1_300, low, meaning))?;
+            shapes.push(line(arrow, x, low - 1_300, low, index, meaning))?;
         }
         Event::Squash(position) => {
             let unit = unit_at(units, retired, position);
@@ -141,20 +125,26 @@ fn push_mark(
                 style: Style::SquashMark,
                 form,
             };
-            shapes.push(Shape { element, meaning })?;
+            let event = index;
+            shapes.push(Shape {
+                element,
+                event,
+                meaning,
+            })?;
         }
         _ => {}
     }
     Ok(())
 }
 
-/// A line down that stands for something.
-fn line(style: Style, x: u64, top: u64, bottom: u64, meaning: Meaning) -> Shape
+/// A line down that stands for the event of this index.
+fn line(style: Style, x: u64, top: u64, bottom: u64, event: usize, meaning: Meaning) -> Shape
     ensures { result.meaning ≡ meaning }
 {
     let form = Geometry::Line(x, top, x, bottom);
     Shape {
         element: Element { style, form },
+        event,
         meaning,
     }
 }
@@ -176,10 +166,10 @@ fn push_register(
         return Ok(());
     };
     let unit = unit_at(axis.units, retired, position);
-    let x = middle(axis.count, column_of(columns, index));
+    let x = middle(axis, column_of(columns, index));
     if let Some(next) = next_arrival(axis.units, unit, retired, &events[index + 1..]) {
         let next = column_of(columns, (index + 1).saturating_add(next));
-        if middle(axis.count, next) < x + ROOM_OF_REGISTER {
+        if middle(axis, next) < x + ROOM_OF_REGISTER {
             return Ok(());
         }
     }
@@ -190,7 +180,11 @@ fn push_register(
         form,
     };
     let meaning = Meaning::Nothing;
-    shapes.push(Shape { element, meaning })?;
+    shapes.push(Shape {
+        element,
+        event: usize::MAX,
+        meaning,
+    })?;
     Ok(())
 }
 

@@ -1,11 +1,12 @@
-//! The vocabulary of pictures. An element has a place, a class and, if it is a label, words; a shape also stands for
-//! something. All lengths are in hundredths of a pixel, from the left and from above.
+//! The vocabulary of pictures. An element has a place, a class and, if it is a label, words; a shape also has a meaning.
+//! All lengths are in hundredths of a pixel, from the left and from the top; units have their numbers round the ring,
+//! tasks their numbers in the program, both from 0.
 
 use machine_model::event::Standing;
 use task_lives::life::{Ending, Life};
 use task_lives::tally::Tally;
 
-/// How an element looks: a class of the style sheet.
+/// The look of an element: a class of the style sheet.
 #[derive(Clone, Copy, Debug)]
 pub enum Style {
     /// Further text.
@@ -32,16 +33,20 @@ pub enum Style {
     Instruction,
     /// An instruction, where events have little room.
     FineInstruction,
-    /// A register that goes from one unit to the next.
+    /// A register that travels from one unit to the next.
     Arrow,
-    /// A register that goes from one unit to the next, where events have little room.
+    /// A register that travels from one unit to the next, where events have little room.
     FineArrow,
-    /// The register beside its arrow.
+    /// The number of the register, right of its arrow.
     RegisterName,
     /// Where a squash begins.
     SquashMark,
     /// The bar of the task that halted.
     Halted,
+    /// The bar of the task with which the run ended otherwise: by a trap, or at an exit that is not listed.
+    Trapped,
+    /// Where a unit is the head, over its bar.
+    Leads,
     /// A step in which a unit waits for a register.
     WaitForRegister,
     /// A step in which a unit waits to be the head.
@@ -50,15 +55,17 @@ pub enum Style {
     WaitToPass,
 }
 
-/// What a label says.
+/// The words of a label.
 #[derive(Clone, Copy, Debug)]
 pub enum LabelText {
     /// The tally of the lives.
     Sums(Tally),
-    /// How the run stands.
+    /// How the run is at the end of its history.
     HowItStands(Standing),
     /// The number of a unit.
     OfUnit(u32),
+    /// Units from one number to another, which never had a task.
+    Idle(u32, u32),
     /// The number of an event or a step, from 1.
     ColumnNumber(u32),
     /// What the axis counts.
@@ -67,9 +74,9 @@ pub enum LabelText {
     Task(u32, usize),
     /// A register's number.
     Register(u8),
-    /// What is to be known of a picture of single events or steps.
+    /// The note of a picture of single events or steps.
     Single(Counted),
-    /// How many events or steps are summed in a column.
+    /// The note of a picture of a long run, with the number of events or steps that are summed in a column.
     Summed(Counted, u32),
 }
 
@@ -82,15 +89,21 @@ pub enum Counted {
     Steps,
 }
 
-/// How many columns a picture has from left to right, and of how many units it has lanes.
+/// The columns of a picture, from left to right, and its lanes.
 #[derive(Clone, Copy, Debug)]
 pub struct Axis {
     /// What the columns are.
     pub counted: Counted,
-    /// How many units there are.
+    /// How many units, and so lanes, there are.
     pub units: u32,
+    /// How many units have a lane: those from 0 on that ever had a task, and all those between.
+    pub lanes: u32,
+    /// How many events or steps come before the first one that is drawn.
+    pub before: u32,
     /// How many columns there are: events or steps.
     pub count: u32,
+    /// How many events or steps there are in all.
+    pub total: u32,
 }
 
 /// What happens in a stretch of events or steps, on all units.
@@ -106,33 +119,33 @@ pub struct StretchTally {
     pub dropped: u64,
 }
 
-/// How much of a stretch of events or steps a unit spent on tasks that ended in one way.
+/// The share of a stretch of events or steps that a unit spent on tasks that ended in one way.
 #[derive(Clone, Copy, Debug)]
 pub struct StretchShare {
-    /// The number of the unit.
+    /// The number of the unit round the ring.
     pub unit: u32,
     /// The ending.
     pub ending: Ending,
-    /// How many events or steps of the stretch it is.
+    /// How many events or steps of the stretch the share has.
     pub count: u64,
     /// The first event or step of the stretch, from 1.
     pub first: u64,
-    /// The last event or step of the stretch.
+    /// The last event or step of the stretch, from 1.
     pub last: u64,
     /// What happens in the stretch on all units.
     pub tally: StretchTally,
 }
 
-/// Who owes a register.
+/// The unit that has to send a register for which another waits.
 #[derive(Clone, Copy, Debug, PartialEq, Eq)]
 pub struct Debt {
-    /// The register's number.
+    /// The register's number, 0 to 33.
     pub register: u8,
-    /// The task that owes it.
+    /// The number of the task that has to send it.
     pub task: u32,
-    /// The unit of that task.
+    /// The number, round the ring, of that task's unit.
     pub unit: u32,
-    /// Whether the register is on its way.
+    /// Whether the register was sent and is on its way.
     pub is_sent: bool,
 }
 
@@ -149,10 +162,10 @@ pub enum Why {
     HasFinished,
 }
 
-/// Steps, one after the other, in which a unit waits for one reason.
+/// Consecutive steps in which a unit waits for one reason.
 #[derive(Clone, Copy, Debug, PartialEq, Eq)]
 pub struct Wait {
-    /// The number of the unit.
+    /// The number of the unit round the ring.
     pub unit: u32,
     /// The number of its task.
     pub task: u32,
@@ -164,20 +177,22 @@ pub struct Wait {
     pub why: Why,
 }
 
-/// What a shape stands for. Events and steps are numbered from 1; only those of a life, from 0.
+/// The meaning of a shape. Events and steps are numbered from 1; only those of a life, from 0.
 #[derive(Clone, Copy, Debug)]
 pub enum Meaning {
     /// Nothing.
     Nothing,
-    /// A life, and whether it is that of the task that halted.
-    OfLife(Counted, Life, bool),
-    /// In this event or step a unit executes an instruction.
+    /// A life; and how the run ended, of the task with which it did. Of any other that is `Running`.
+    OfLife(Counted, Life, Standing),
+    /// After one event or step and up to another this unit is the head.
+    OfHead(Counted, u32, u32, u32),
+    /// In the event or step of this number this unit executes an instruction.
     OfExec(Counted, u32, u32),
-    /// In this event or step a register goes from one unit to another.
+    /// In the event or step of this number this register travels from one unit to another.
     OfTransfer(Counted, u32, u8, u32, u32),
-    /// In this event or step a register is sent by this unit, which has stopped.
+    /// In the event or step of this number this register is sent by this unit, which has stopped.
     OfDrain(Counted, u32, u8, u32),
-    /// In this event or step what follows a unit is squashed.
+    /// In the event or step of this number all after this unit is squashed.
     OfSquash(Counted, u32, u32),
     /// A unit waits.
     OfWait(Wait),
@@ -185,20 +200,20 @@ pub enum Meaning {
     OfShare(Counted, StretchShare),
 }
 
-/// The form of an element.
+/// The form of an element, and its place: first the distance from the left, then from the top.
 #[derive(Clone, Copy, Debug)]
 pub enum Geometry {
-    /// A rectangle: where its left upper corner is, and how wide and high it is.
+    /// A rectangle: its upper left corner, its width and its height.
     Rectangle(u64, u64, u64, u64),
     /// A line from one point to another.
     Line(u64, u64, u64, u64),
     /// A small triangle that points down, from its left upper corner.
     Wedge(u64, u64),
-    /// A label: where its first letter stands, or the one in its middle or the last one, as its style says.
+    /// A label: the place of its first letter, its middle or its last letter, as its style says, and its words.
     Label(u64, u64, LabelText),
 }
 
-/// An element, which by itself stands for nothing: a part of the frame, or a label.
+/// An element, which by itself has no meaning: a part of the frame, or a label.
 #[derive(Clone, Copy, Debug)]
 pub struct Element {
     /// How it looks.
@@ -207,11 +222,13 @@ pub struct Element {
     pub form: Geometry,
 }
 
-/// An element and what it stands for.
+/// An element with its meaning.
 #[derive(Clone, Copy, Debug)]
 pub struct Shape {
     /// Its look and its place.
     pub element: Element,
-    /// What it stands for.
+    /// The index of its event in those that are drawn; of a shape of no event, a number that no event has.
+    pub event: usize,
+    /// What it means.
     pub meaning: Meaning,
 }

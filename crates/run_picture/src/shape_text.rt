@@ -4,8 +4,10 @@ use crate::bars::name_of;
 use crate::shape::{
     Counted, Debt, Element, Geometry, Meaning, Shape, StretchShare, Style, Wait, Why,
 };
-use crate::words_text::write_words;
-use std::alloc::AllocError;
+use crate::title::write_escaped;
+use crate::words_text::{write_how_it_stands, write_words};
+use machine_model::event::Standing;
+use std::alloc::{AllocError, Global};
 use std::fmt;
 use task_descriptor::descriptor::Descriptor;
 use task_lives::life::{Ending, Life};
@@ -23,6 +25,18 @@ impl fmt::Display for Pixels {
     }
 }
 
+/// What shapes are told by: the names of the tasks, a note on each event that is drawn, if there are notes, and how many
+/// columns come before the first one.
+#[derive(Clone, Copy, Debug)]
+pub struct Telling<'t> {
+    /// The tasks.
+    pub tasks: &'t [Descriptor],
+    /// The notes, of the first event on.
+    pub notes: &'t [String],
+    /// How many columns come before the first one that is drawn.
+    pub before: u32,
+}
+
 /// Writes elements, each in a line of its own.
 pub(crate) fn write_elements(
     text: &mut String,
@@ -30,21 +44,55 @@ pub(crate) fn write_elements(
     elements: &[Element],
 ) -> Result<(), AllocError> {
     for element in elements {
-        write_element(text, tasks, *element, &Meaning::Nothing)?;
+        write_element(text, tasks, *element, "")?;
     }
     Ok(())
 }
 
-/// Writes shapes, each in a line of its own, with titles that say what they stand for.
+/// Writes shapes, with titles that say what they stand for.
 pub(crate) fn write_shapes(
+    alloc: Global,
     text: &mut String,
-    tasks: &[Descriptor],
+    telling: &Telling<'_>,
     shapes: &[Shape],
 ) -> Result<(), AllocError> {
     for shape in shapes {
-        write_element(text, tasks, shape.element, &shape.meaning)?;
+        let mut title = String::new(alloc);
+        write_meaning(&mut title, telling, &shape.meaning)?;
+        write_note(&mut title, telling, shape)?;
+        write_shape(text, telling.tasks, shape.element, title.as_str())?;
     }
     Ok(())
+}
+
+/// Writes the note on the event of a shape, if there is one.
+fn write_note(title: &mut String, telling: &Telling<'_>, shape: &Shape) -> Result<(), AllocError> {
+    let Some(note) = telling.notes.get(shape.event) else {
+        return Ok(());
+    };
+    if !note.is_empty() {
+        title.push_str(match shape.meaning {
+            Meaning::OfExec(..) => ": ",
+            _ => "; ",
+        })?;
+    }
+    write_escaped(title, note.as_bytes())
+}
+
+/// Writes the element of a shape with its title: a line in a group, with more room for a pointer.
+fn write_shape(
+    text: &mut String,
+    tasks: &[Descriptor],
+    element: Element,
+    title: &str,
+) -> Result<(), AllocError> {
+    let Geometry::Line(x, top, _, bottom) = element.form else {
+        return write_element(text, tasks, element, title);
+    };
+    write!(text, "<g><title>{title}</title>")?;
+    write_element(text, tasks, element, "")?;
+    let (x, top, bottom) = (Pixels(x), Pixels(top), Pixels(bottom));
+    writeln!(text, "<path class='hit' d='M{x} {top}V{bottom}'/></g>")
 }
 
 /// Writes an element: its class and its place, its title, and what a label says.
@@ -52,7 +100,7 @@ fn write_element(
     text: &mut String,
     tasks: &[Descriptor],
     element: Element,
-    meaning: &Meaning,
+    title: &str,
 ) -> Result<(), AllocError> {
     let (name, x, y) = match element.form {
         Geometry::Rectangle(left, top, _, _) => ("rect", left, top),
@@ -74,47 +122,53 @@ fn write_element(
         Geometry::Wedge(..) => write!(text, " d='M{x} {y}h14l-7 11z'>")?,
         Geometry::Label(..) => write!(text, " x='{x}' y='{y}'>")?,
     }
-    write_title(text, tasks, meaning)?;
+    if !title.is_empty() {
+        write!(text, "<title>{title}</title>")?;
+    }
     if let Geometry::Label(_, _, words) = element.form {
         write_words(text, tasks, words)?;
     }
     writeln!(text, "</{name}>")
 }
 
-/// Writes the title of a shape, shown where a pointer rests on it.
-fn write_title(
+/// Writes what a shape stands for, which is shown where a pointer rests on it.
+fn write_meaning(
     text: &mut String,
-    tasks: &[Descriptor],
+    telling: &Telling<'_>,
     meaning: &Meaning,
 ) -> Result<(), AllocError> {
+    let tasks = telling.tasks;
     match *meaning {
-        Meaning::Nothing | Meaning::OfExec(..) => Ok(()),
-        Meaning::OfLife(counted, life, is_halted) => {
-            write_life(text, tasks, counted, life, is_halted)
+        Meaning::Nothing => Ok(()),
+        Meaning::OfExec(counted, number, unit) => {
+            let one = word_of_counted(counted);
+            write!(text, "{one} {number}, unit {unit}")
+        }
+        Meaning::OfLife(counted, life, ending) => write_life(text, tasks, counted, life, ending),
+        Meaning::OfHead(counted, after, last, unit) => {
+            write_span(text, counted, u64::from(after) + 1, u64::from(last))?;
+            write!(text, ": unit {unit} is the head")
         }
         Meaning::OfTransfer(counted, number, register, from, to) => {
             let one = word_of_counted(counted);
             write!(
                 text,
-                "<title>{one} {number}: ${register} goes from unit {from} to unit {to}</title>"
+                "{one} {number}: ${register} goes from unit {from} to unit {to}"
             )
         }
         Meaning::OfDrain(counted, number, register, unit) => {
             let one = word_of_counted(counted);
             write!(
                 text,
-                "<title>{one} {number}: ${register} is sent by unit {unit}, which has stopped</title>"
+                "{one} {number}: ${register} is sent by unit {unit}, which has stopped"
             )
         }
         Meaning::OfSquash(counted, number, unit) => {
             let one = word_of_counted(counted);
-            write!(
-                text,
-                "<title>{one} {number}: what follows unit {unit} is squashed</title>"
-            )
+            write!(text, "{one} {number}: what follows unit {unit} is squashed")
         }
         Meaning::OfWait(wait) => write_wait(text, tasks, wait),
-        Meaning::OfShare(counted, share) => write_share(text, counted, share),
+        Meaning::OfShare(counted, share) => write_share(text, counted, telling.before, share),
     }
 }
 
@@ -124,18 +178,17 @@ fn write_life(
     tasks: &[Descriptor],
     counted: Counted,
     life: Life,
-    is_halted: bool,
+    ending: Standing,
 ) -> Result<(), AllocError> {
     let (name, unit, executed) = (name_of(tasks, life.task), life.unit, life.executed);
-    write!(text, "<title>task {name}, unit {unit}, ")?;
+    write!(text, "task {name}, unit {unit}, ")?;
     let (first, last) = (u64::from(life.first) + 1, u64::from(life.last) + 1);
     write_span(text, counted, first, last)?;
-    let ending = if is_halted {
-        "halted"
-    } else {
-        word_of(life.ending)
-    };
-    write!(text, ", instructions: {executed}, {ending}</title>")
+    write!(text, ", instructions: {executed}, ")?;
+    match ending {
+        Standing::Running => text.push_str(word_of(life.ending)),
+        _ => write_how_it_stands(text, ending),
+    }
 }
 
 /// Writes the numbers of the first and the last of what is counted.
@@ -157,19 +210,22 @@ fn write_span(
 fn write_wait(text: &mut String, tasks: &[Descriptor], wait: Wait) -> Result<(), AllocError> {
     let (first, count) = (u64::from(wait.step), wait.count);
     let last = (first + u64::from(count)).saturating_sub(1);
-    text.push_str("<title>")?;
     write_span(text, Counted::Steps, first, last)?;
     if count > 1 {
         write!(text, " ({count} steps)")?;
     }
     text.push_str(": ")?;
-    match wait.why {
-        Why::NeedsRegister(debt) => write_debt(text, tasks, "waits for", debt)?,
-        Why::NeedsHead => text.push_str("waits to be the head")?,
-        Why::HasToPass(debt) => write_debt(text, tasks, "has to pass on", debt)?,
-        Why::HasFinished => text.push_str("has finished, and waits to be the head")?,
+    write_why(text, tasks, wait.why)
+}
+
+/// Writes why a unit waits. An error means that memory was refused.
+pub fn write_why(text: &mut String, tasks: &[Descriptor], why: Why) -> Result<(), AllocError> {
+    match why {
+        Why::NeedsRegister(debt) => write_debt(text, tasks, "waits for", debt),
+        Why::NeedsHead => text.push_str("waits to be the head"),
+        Why::HasToPass(debt) => write_debt(text, tasks, "has to pass on", debt),
+        Why::HasFinished => text.push_str("has finished, and waits to be the head"),
     }
-    text.push_str("</title>")
 }
 
 /// Writes what is done for a register, and the task and the unit that owe it.
@@ -189,14 +245,23 @@ fn write_debt(
 }
 
 /// Writes the title of a part of a stretch.
-fn write_share(text: &mut String, counted: Counted, share: StretchShare) -> Result<(), AllocError> {
-    text.push_str("<title>")?;
-    write_span(text, counted, share.first, share.last)?;
+fn write_share(
+    text: &mut String,
+    counted: Counted,
+    before: u32,
+    share: StretchShare,
+) -> Result<(), AllocError> {
+    let before = u64::from(before);
+    let (first, last) = (
+        share.first.saturating_add(before),
+        share.last.saturating_add(before),
+    );
+    write_span(text, counted, first, last)?;
     let (executed, retired) = (share.tally.executed, share.tally.retired);
     let (squashed, dropped) = (share.tally.squashed, share.tally.dropped);
     write!(
         text,
-        ". On all units: instructions: {executed}; tasks that end here: retired: {retired}, squashed: {squashed}, dropped: {dropped}. The column is of this unit alone.</title>"
+        ". On all units: instructions: {executed}; tasks that end here: retired: {retired}, squashed: {squashed}, dropped: {dropped}. The column is of this unit alone."
     )
 }
 
@@ -241,6 +306,8 @@ fn class_of(style: Style) -> &'static str {
         Style::RegisterName => "register",
         Style::SquashMark => "squash",
         Style::Halted => "halted",
+        Style::Trapped => "trapped",
+        Style::Leads => "leads",
         Style::WaitForRegister => "wait needs",
         Style::WaitForTurn => "wait turn",
         Style::WaitToPass => "wait pass",

@@ -19,7 +19,8 @@ use task_lives::life::{Ending, Life};
 /// The most stretches of a picture: each has 4 pixels.
 const STRETCHES: u32 = 290;
 
-/// How many columns a stretch has; the last ones may be shorter, or empty.
+/// How many of `count` columns a stretch has, so that there are at most 290 stretches; the last ones may be shorter, or
+/// empty.
 pub fn stretch_length(count: u32) -> u32
     ensures { result ≡ length_of count }
 {
@@ -150,6 +151,7 @@ fn push_share(
     let below = below(&shares[part - part % 4..part]);
     shapes.push(Shape {
         element: rectangle(axis, share, below),
+        event: usize::MAX,
         meaning: Meaning::OfShare(axis.counted, share),
     })?;
     Ok(())

@@ -1,4 +1,4 @@
-//! What labels say.
+//! The words of labels.
 
 ghost use Rattle.std.specs.Prelude.{◌≡◌};
 ghost use Rattle.run_picture.specs.WordsText.{plural as plural_of};
@@ -27,6 +27,8 @@ pub(crate) fn write_words(
             })
         }
         LabelText::OfUnit(unit) => write!(text, "unit {unit}"),
+        LabelText::Idle(unit, last) if unit == last => write!(text, "unit {unit}: idle"),
+        LabelText::Idle(first, last) => write!(text, "units {first} to {last}: idle"),
         LabelText::ColumnNumber(number) => write!(text, "{number}"),
         LabelText::OfAxis(Counted::Events) => {
             text.push_str("events that were allowed, numbered from 1")
@@ -53,12 +55,16 @@ pub(crate) fn write_words(
     }
 }
 
-/// Writes how a run stands, to follow the words "the run". An error means that memory was refused.
+/// Adds how a run is at the end of its history, to follow the words "the run".
+///
+/// # Errors
+///
+/// `AllocError` where memory was refused; a part may have been added.
 pub fn write_how_it_stands(text: &mut String, standing: Standing) -> Result<(), AllocError> {
     match standing {
         Standing::Running => text.push_str("has not ended"),
         Standing::Halted => text.push_str("halted"),
-        Standing::Trapped(_) => text.push_str("trapped"),
+        Standing::Trapped(trap) => write!(text, "trapped: {trap}"),
         Standing::Unlisted(address) => write!(
             text,
             "is unlisted: the head's task goes to 0x{address:x}, which it does not list"
@@ -66,7 +72,7 @@ pub fn write_how_it_stands(text: &mut String, standing: Standing) -> Result<(), 
     }
 }
 
-/// What follows a word for a number of things.
+/// The ending of a noun for a number of things: `s`, or nothing for one.
 pub fn plural(count: usize) -> &'static str
     ensures { result.now ≡ plural_of count }
 {

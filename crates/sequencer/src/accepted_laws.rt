@@ -20,11 +20,10 @@ fn kept(accepted: &Accepted)
     let _ = accepted.program().start();
 }
 
-/// The headline, from acceptance: after every list of events that the machine of an accepted program
-/// allows, units interleaved in any way, with wrong predictions, squashes, drops and tasks assigned anew
-/// among them, what the retired tasks read is what the plain machine's first c instructions read, and
-/// these are c; each retired exit is listed; output and memory are the plain machine's after h
-/// instructions, and so is each register of the head.
+/// Law: after every list of events that the machine of an accepted program allows, units interleaved in any
+/// way, with wrong predictions, squashes, drops and repeated assignments of tasks among them, what the retired
+/// tasks read is what the plain machine's first c instructions read, and these are c; each retired exit is
+/// listed; output and memory are the plain machine's after h instructions, and so is each register of the head.
 pub fn accepted_headline(accepted: &Accepted)
     ensures { Headline accepted.now.program }
 {
@@ -32,9 +31,9 @@ pub fn accepted_headline(accepted: &Accepted)
     headline();
 }
 
-/// How a run of an accepted program ends: Halted and Trapped as the plain machine is after h
-/// instructions, Unlisted at an address where the plain machine, still running, is about to fetch, and
-/// that the head's task does not list.
+/// Law: a run of an accepted program ends Halted or Trapped as the plain machine is after h instructions, or
+/// Unlisted at an address where the plain machine, still running, is about to fetch, and that the head's task
+/// does not list.
 pub fn accepted_run_ends(accepted: &Accepted)
     ensures { RunEnds accepted.now.program }
 {
@@ -42,7 +41,7 @@ pub fn accepted_run_ends(accepted: &Accepted)
     how_a_run_ends();
 }
 
-/// With one unit or more, while the run of an accepted program continues there is a head event, and the
+/// Law: with one unit or more, while the run of an accepted program continues there is a head event, and the
 /// machine step allows it.
 pub fn accepted_never_stuck(accepted: &Accepted)
     ensures { NeverStuck accepted.now.program }
@@ -51,8 +50,8 @@ pub fn accepted_never_stuck(accepted: &Accepted)
     never_stuck();
 }
 
-/// A unit of an accepted program whose place is valid, and that has not stopped, stands at an
-/// instruction that has a mask in its task's list.
+/// Law: a unit of an accepted program whose place is valid, and that has not stopped, is before an instruction
+/// that has a mask in its task's list.
 pub fn places_masked(accepted: &Accepted)
     ensures { PlacesMasked accepted.now }
 {
@@ -61,8 +60,8 @@ pub fn places_masked(accepted: &Accepted)
     accepted_entry();
 }
 
-/// In every state that a list of events leaves, whatever the registers hold, on a wrong path too, each unit that
-/// has not stopped stands at an instruction that has a mask in its task's list.
+/// Law: in every state that a list of events leaves, whatever the registers hold, on a wrong path too, each
+/// unit that has not stopped is before an instruction that has a mask in its task's list.
 pub fn replayed_places_masked(accepted: &Accepted)
     ensures { ReplayedPlacesMasked accepted.now }
 {
@@ -71,7 +70,7 @@ pub fn replayed_places_masked(accepted: &Accepted)
     places_masked(accepted);
 }
 
-/// The masks of each task's list fit: a mask holds what its instruction writes and what the masks of the
+/// Law: the masks of each task's list fit: a mask holds what its instruction writes and what the masks of the
 /// inner successors hold, and none of these holds what the instruction sends.
 pub fn masks_fit(accepted: &Accepted)
     ensures { AllMasksFit accepted.now }
@@ -80,8 +79,8 @@ pub fn masks_fit(accepted: &Accepted)
     accepted_place();
 }
 
-/// What a unit of an accepted program keeps of its sent registers: where none of them is in the mask of
-/// the unit's place, that holds after each Exec too, and each keeps its value.
+/// Law: where none of the registers that a unit of an accepted program sent is in the mask of the unit's place,
+/// this holds after each Exec too, and each keeps its value.
 pub fn accepted_sent_stays(accepted: &Accepted)
     ensures { SentStays accepted.now }
 {

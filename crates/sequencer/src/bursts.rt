@@ -23,10 +23,10 @@ impl<'a> Machine<'a> {
     ghost use Rattle.sequencer.specs.Rings.{unit_for};
     ghost use Rattle.sequencer.specs.Bursts.{IsAtWork, IsFresh, IsRefusedBurst, Takes};
 
-    /// Lends the unit with this number on the ring, as it is, of its log only the length, with the machine's
-    /// program and certificate, to make a burst on. `None` exactly where that unit is free or has stopped, or
-    /// there is no such unit. The machine does not change. Takes no memory, and the cost does not depend on
-    /// the length of the log.
+    /// Lends the unit with this number on the ring, from 0, as it is, with only the length of its log and with
+    /// the machine's program and certificate, to make a burst on. `None` exactly where that unit is free or has
+    /// stopped, or there is no such unit. The machine does not change. Takes no memory, and the cost does not
+    /// depend on the length of the log.
     pub fn lease(&self, unit: u32) -> Option<Lease<'a>>
         ensures some { IfSome result (λ lease. (lease.accepted ≡ self.now.accepted)
             × ((u : Active) × IsAtWork self.now unit u × (active_of lease.unit ≡ with_log u []) × (lease.reads ≡ length u.log))) }
@@ -39,8 +39,8 @@ impl<'a> Machine<'a> {
         }
     }
 
-    /// Lends as `lease` does, into a burst that the caller holds, which then has no step and keeps the room
-    /// of its reads. Answers whether it did; if not, the burst stays as it is.
+    /// Lends as `lease` does, into a burst that the caller holds, which then has no instruction and keeps the
+    /// memory of its reads. Answers whether it did; if not, the burst stays as it is.
     pub fn lend(&self, unit: u32, burst: &mut Burst<'a>) -> bool
         ensures lent { IsTrue result → (burst.new.accepted ≡ self.now.accepted) × (burst.new.steps ≡ 0)
             × ((u : Active) × IsAtWork self.now unit u × (active_of burst.new.before ≡ with_log u []) × (burst.new.reads ≡ length u.log)) }
@@ -72,7 +72,7 @@ impl<'a> Machine<'a> {
         }
     }
 
-    /// The number on the ring of the unit at work with this serial number; `None` where none has it. A
+    /// The number on the ring, from 0, of the unit at work with this serial number; `None` where none has it. A
     /// burst that the machine takes over is one of the unit with the serial number of its unit before.
     pub fn unit_with(&self, serial: u32) -> Option<u32>
         ensures { result ≡ option_map (λ k. unit_for self.now (Exec k)) (position_with (state self.now).queue serial) }
@@ -83,19 +83,19 @@ impl<'a> Machine<'a> {
         }
     }
 
-    /// Hands in a burst, and answers how many events that was. Where an active unit is the one that
-    /// the burst was made on, with at most more registers arrived, that unit takes it over: one Exec for
-    /// each step. Of its log the length is compared: with the serial number it tells the log. Answers 0, and
-    /// changes nothing, exactly where the burst has no step, was made with another program or certificate
-    /// than the machine's, which are compared by value, or no active unit is the one that it was made on, as
-    /// when that was squashed or has executed since. Apart from that comparison, the cost depends on the
-    /// length of the burst alone, not on the size of the log or the history.
+    /// Hands in a burst, and answers how many events that was. Where an active unit is the one that the burst
+    /// was made on, with at most more registers arrived, that unit takes it over: one Exec for each
+    /// instruction. Of its log the length is compared: with the serial number it tells the log. Answers 0, and
+    /// changes nothing, exactly where the burst has no instruction, was made with another program or
+    /// certificate than the machine's, which are compared by value, or no active unit is the one that it was
+    /// made on, as when that was squashed or has executed since. Apart from that comparison, the cost depends
+    /// on the length of the burst alone, not on the size of the log or the history.
     ///
     /// # Errors
     ///
-    /// `Ended` exactly where the run has ended; else, for a burst that is not answered 0, `Full` exactly
-    /// where the history with its steps is longer than 1,000,000 events, and else `OutOfMemory` where its
-    /// reads find no room in the unit's log. The burst is handed back and nothing is changed then.
+    /// `Ended` exactly where the run has ended; else, for a burst that is not answered 0, `Full` exactly where
+    /// the history would have more than 1,000,000 events with it, and else `OutOfMemory` where memory was
+    /// refused for its reads. The burst is handed back and nothing is changed then.
     pub fn apply_burst<'b>(&mut self, mut burst: Burst<'b>) -> Result<u32, (Burst<'b>, Refused)>
         ensures running { IsOk result → (state self.old).outcome ≡ standing.Running }
         ensures taken { IfOk result (λ events. 0 < events → (events ≡ burst.entry.steps) × Takes self.old burst.entry self.new) }
@@ -116,13 +116,13 @@ impl<'a> Machine<'a> {
     }
 
     /// Hands in a burst that the caller holds, as `apply_burst` does, but compares no program and no
-    /// certificate: the caller ensures that the burst was made with this machine's. The cost depends on the
-    /// length of the burst alone, not on the size of the program, the certificate, the log or the history. The
-    /// burst stays as it is, but one that is taken over may be left without a step.
+    /// certificate: the burst was made with this machine's. The cost depends on the length of the burst alone,
+    /// not on the size of the program, the certificate, the log or the history. The burst stays as it is, but
+    /// one that is taken over may be left without instructions.
     ///
     /// # Errors
     ///
-    /// Those of `apply_burst`; nothing is changed then.
+    /// Those of `apply_burst`; machine and burst are unchanged then.
     pub fn take_own_burst(&mut self, burst: &mut Burst<'_>) -> Result<u32, Refused>
         requires { burst.old.accepted ≡ self.old.accepted }
         ensures running { IsOk result → (state self.old).outcome ≡ standing.Running }

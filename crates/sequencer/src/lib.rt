@@ -1,5 +1,6 @@
-//! The machine: the processor over one accepted program, and the history of events that it is the
-//! replay of; and what holds of each such machine.
+//! The multiscalar machine over an accepted program: the processor, the history of its events, and what holds of it.
+//! The machine is always the replay of its history. It is the paper's (Sohi, Breach, Vijaykumar, "Multiscalar
+//! Processors", ISCA 1995, section 2), with events in place of cycles.
 #![tactic(auto)]
 
 pub mod accepted_laws;

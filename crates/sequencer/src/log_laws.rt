@@ -5,8 +5,8 @@ ghost use Rattle.sequencer.specs.Logs.{LengthTellsLog, LogsGrow};
 
 use machine_model::laws::{next_is_after, replays_join};
 
-/// A unit's log only grows: later in the same machine the log of the unit with its serial number is its log
-/// with reads appended.
+/// Law: a unit's log only grows: later in the same machine the log of the unit with its serial number is its
+/// log with reads appended.
 pub fn logs_grow()
     ensures { LogsGrow }
 {
@@ -14,8 +14,8 @@ pub fn logs_grow()
     next_is_after();
 }
 
-/// In one machine a serial number and the length of a log tell the log. So a burst whose unit has the serial
-/// number and the length of the log that it was lent with has the log too, which is not compared.
+/// Law: in one machine a serial number and the length of a log tell the log. So a burst whose unit has the
+/// serial number and the length of the log that it was lent with has the log too, which is not compared.
 pub fn length_tells_log()
     ensures { LengthTellsLog }
 {

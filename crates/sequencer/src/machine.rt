@@ -15,7 +15,7 @@ use std::marker::Model;
 use thiserror::Error;
 use unit_core::read_log::ReadLog;
 
-/// Why a machine isn't made.
+/// Why no machine is made; where both hold, the first.
 #[derive(Clone, Copy, Debug, PartialEq, Eq, Error)]
 pub enum MachineFault {
     /// 1: not 1 to 16 units.
@@ -26,8 +26,7 @@ pub enum MachineFault {
     OutOfMemory,
 }
 
-/// A multiscalar machine (Sohi, Breach, Vijaykumar, ISCA 1995, section 2) over an accepted program. It
-/// is always the replay of its history.
+/// A multiscalar machine over an accepted program; it is always the replay of its history.
 #[derive(Drop)]
 pub struct Machine<'a> {
     alloc: Global,
@@ -69,11 +68,11 @@ impl<'a> Machine<'a> {
     ghost use Rattle.sequencer.specs.Rings.{unit_for, AreDistinct, EventFits};
     ghost use Rattle.sequencer.specs.Histories.{AreCounted, executed_in};
 
-    /// A machine at the start of the program, as `with_units` makes it, with the given number of units, 1 to 16.
+    /// A machine at the start of the program, as `with_units` makes it, with 1 to 16 units.
     ///
     /// # Errors
     ///
-    /// `Units` and `OutOfMemory`, in this order.
+    /// `Units` exactly where the number of units is not 1 to 16, else `OutOfMemory` where memory was refused.
     pub fn new(
         alloc: Global,
         accepted: &'a Accepted,
@@ -94,8 +93,8 @@ impl<'a> Machine<'a> {
         }
     }
 
-    /// A machine at the start of the program, with this many units, none of them at work. It reserves the
-    /// room of its history, once.
+    /// A machine at the start of the program, with so many units, all of them free. It reserves the memory of
+    /// its history, once.
     ///
     /// # Errors
     ///
@@ -126,13 +125,13 @@ impl<'a> Machine<'a> {
         })
     }
 
-    /// Applies an event exactly where the machine step allows it and the history has fewer than
-    /// 1,000,000 events. Exec and Retire may take memory; no other event does.
+    /// Applies an event exactly where the machine step allows it and the history has fewer than 1,000,000
+    /// events. Exec and Retire may take memory; no other event does.
     ///
     /// # Errors
     ///
-    /// The first refusal of 1 to 16 whose condition holds, else for Exec and Retire alone
-    /// `OutOfMemory` where a growth was refused; nothing is changed then.
+    /// The first refusal of 1 to 16 whose condition holds, else for Exec and Retire alone `OutOfMemory` where
+    /// memory was refused; nothing is changed then.
     #[inline(always)]
     pub fn apply(&mut self, event: Event) -> Result<(), Refused>
         ensures answer { IsAnswered self.old event result }
@@ -260,14 +259,15 @@ impl<'a> Machine<'a> {
         }
     }
 
-    /// Applies head events until h has grown by `k` or the run has ended. h grows by more than `k`
-    /// only where the last event is a Retire whose next unit had executed ahead.
+    /// Applies head events until h, the instructions of the retired tasks and the head, has grown by `k` or the
+    /// run has ended. h grows by more than `k` only where the last event is a Retire whose next unit had
+    /// executed ahead.
     ///
     /// # Errors
     ///
     /// It stops at a head event that is refused, before h has grown by `k`: by `Full` with a history of
-    /// 1,000,000 events, else by `OutOfMemory`, which only Exec and Retire may get. The events before
-    /// it stay.
+    /// 1,000,000 events, else by `OutOfMemory`, where memory was refused for an Exec or a Retire. The events
+    /// before it stay applied.
     pub fn finish(&mut self, k: u64) -> Result<(), Refused>
         ensures kept { SameRing self.old self.new }
         ensures runs { (es : List Event) × (self.new.history ≡ self.old.history ++ es)
@@ -308,8 +308,7 @@ impl<'a> Machine<'a> {
         Ok(true)
     }
 
-    /// The events that were applied, in order, as runs of equal events. The machine is always
-    /// their replay.
+    /// The events that were applied, in order, as runs of equal events. The machine is always their replay.
     pub fn history(&self) -> &[EventRun]
         ensures value { events_of result.now ≡ self.now.history }
         ensures counted { AreCounted result.now }
@@ -321,22 +320,22 @@ impl<'a> Machine<'a> {
         self.history.runs()
     }
 
-    /// How many events were applied.
+    /// The number of events that were applied, at most 1,000,000.
     pub fn length(&self) -> usize
         ensures { result ≡ length self.now.history }
     {
         self.history.len()
     }
 
-    /// How many instructions the units executed, including on paths that were given up: the Exec events of
-    /// the history.
+    /// The number of instructions that the units executed, including on paths that were given up: the Exec
+    /// events of the history.
     pub fn executed(&self) -> usize
         ensures { result ≡ executed_in self.now.history }
     {
         self.history.executed()
     }
 
-    /// Whether the machine was made over an equal program and certificate, with the given number of units. Both are
+    /// Whether the machine was made over an equal program and certificate, with so many units. Both are
     /// compared by value.
     pub fn is_over(&self, accepted: &Accepted, units: u32) -> bool
         ensures { IsTrue result ↔ ((self.now.accepted ≡ accepted.now) × (units_of self.now ≡ units)) }
@@ -426,7 +425,7 @@ impl<'a> Machine<'a> {
         self.processor.reads()
     }
 
-    /// The words that were output, in order. They are the plain machine's after h instructions.
+    /// The words that `out` has appended, in order. They are the plain machine's after h instructions.
     pub fn output(&self) -> &[u32]
         ensures value { result.now ≡ (state self.now).output }
         ensures headline { Claims self.now.accepted.program (state self.now) }
@@ -446,7 +445,8 @@ impl<'a> Machine<'a> {
         self.processor.world().memory()
     }
 
-    /// How many instructions the retired tasks executed, c, and how many these and the head together, h.
+    /// The numbers c and h: c instructions were executed by the retired tasks, h by these and the head
+    /// together.
     pub fn counts(&self) -> (u64, u64)
         ensures retired { result.0 ≡ count_c (state self.now) }
         ensures head { result.1 ≡ count_h (state self.now) }
@@ -461,8 +461,9 @@ impl<'a> Machine<'a> {
         }
     }
 
-    /// How the run stands: Halted or Trapped only as the plain machine is after h instructions, Unlisted
-    /// at an address only where it is about to fetch there and the head's task does not list it.
+    /// Whether the run continues or how it ended: Halted or Trapped only as the plain machine is after h
+    /// instructions, Unlisted at an address only where it is about to fetch there and the head's task does not
+    /// list it.
     pub fn outcome(&self) -> Standing
         ensures value { result ≡ (state self.now).outcome }
         ensures ends { EndsLike self.now.accepted.program (state self.now) result }
@@ -471,8 +472,8 @@ impl<'a> Machine<'a> {
         self.processor.world().outcome()
     }
 
-    /// The value of a register at a position from the head; `None` where no unit is there or the
-    /// register is reserved. At position 0 it is the plain machine's after h instructions.
+    /// The value of a register in the unit at a position, counted from the head; `None` where no unit is there
+    /// or the register is reserved. At position 0 it is the plain machine's after h instructions.
     pub fn value(&self, position: u32, register: Reg) -> Option<u32>
         ensures value { result ≡ option_and_then (λ u. value_of u register) (slice_get (state self.now).queue position) }
         ensures headline { Claims self.now.accepted.program (state self.now) }
@@ -484,9 +485,9 @@ impl<'a> Machine<'a> {
         }
     }
 
-    /// The position of a unit of the ring, by its number: an Exec at that position belongs to it. `None`
-    /// where it is not at work or there is no such unit. The head is at the number of retired tasks,
-    /// modulo the number of units.
+    /// The position, counted from the head, of the unit with this number on the ring: an Exec at that position
+    /// belongs to it. `None` where the unit is free or there is no such unit. The head's number is the number
+    /// of retired tasks, modulo the number of units.
     pub fn position(&self, unit: u32) -> Option<u32>
         ensures position { IfSome result (λ k. (k < length (state self.now).queue) × (unit_for self.now (Exec k) ≡ unit)) }
         ensures none { IfNone result ((k : ℕ) → k < length (state self.now).queue → unit_for self.now (Exec k) ≡ unit → ⊥) }
@@ -517,7 +518,7 @@ impl<'a> Machine<'a> {
         ((self.processor.commits().len() + position as usize) % units) as u32
     }
 
-    /// The number of the unit that the next Assign fills; `None` where all are at work.
+    /// The number on the ring of the unit that the next Assign fills; `None` where all are at work.
     pub fn next_unit(&self) -> Option<u32>
         ensures { (task : ℕ) → result ≡ (if nat_lt (length (state self.now).queue) (units_of self.now) then Some (unit_for self.now (Assign task)) else None) }
     {
@@ -530,8 +531,8 @@ impl<'a> Machine<'a> {
         }
     }
 
-    /// The targets of a tail that has not stopped; none where there is no such tail or the run has
-    /// ended.
+    /// The targets, as code indices, of a tail that has not stopped; none where there is no such tail or the
+    /// run has ended.
     pub fn choices(&self) -> &[Place]
         ensures { result.now ≡ choices_of self.now.accepted.program (state self.now) }
     {
@@ -542,11 +543,10 @@ impl<'a> Machine<'a> {
         }
     }
 
-    /// The Assign that may follow: after a tail that has not stopped, that of the target at this
-    /// position modulo their number; after a stopped tail, and on an empty queue, the one that the
-    /// machine step allows by task and place, whatever the answer. `None` once the run has ended, and
-    /// otherwise only where no task may follow, so never where there are choices. A full ring makes no
-    /// difference.
+    /// The Assign that may follow: after a tail that has not stopped, the one of target `answer` modulo the
+    /// number of targets; after a stopped tail, and on an empty queue, the one that the machine step allows by
+    /// task and place, whatever the answer. `None` once the run has ended, and otherwise only where no task may
+    /// follow, so never where there are choices. A full ring makes no difference.
     pub fn choice(&self, answer: u32) -> Option<Event>
         ensures value { result ≡ choice_of self.now.accepted.program (state self.now) answer }
         ensures follows { IfSome result (λ e. (task : ℕ) × (e ≡ Assign task) × MayFollow self.now.accepted.program (state self.now) task) }

@@ -1,15 +1,16 @@
-//! Which target the sequencer follows after a running tail (Sohi, Breach, Vijaykumar, ISCA 1995,
-//! section 2.1: it predicts the next task; how is the caller's choice).
+//! Prediction of the next task: which target the sequencer follows after a running tail (Sohi, Breach,
+//! Vijaykumar, "Multiscalar Processors", ISCA 1995, section 2.1: it predicts the next task; how is the caller's
+//! choice).
 
 use mips_instructions::number::Place;
 use std::marker::Model;
 
-/// Chooses among the targets of a running tail.
+/// A predictor: chooses among the targets of a running tail.
 pub trait Predict: Send + Drop {
     ghost use Rattle.std.specs.Prelude.{◌<◌, length};
 
-    /// A number: the next task begins at the target at this position, modulo the number of targets.
-    /// The targets are not empty.
+    /// The number of a target in the list, from 0, taken modulo the number of targets: the next task begins
+    /// there. There is at least one target; each is a code index.
     fn choose(&mut self, targets: &[Place]) -> u32
         requires { 0 < length targets.now };
 }
@@ -17,7 +18,7 @@ pub trait Predict: Send + Drop {
 /// The position of the first target.
 const FIRST_TARGET: u32 = 0;
 
-/// Chooses the first target.
+/// The predictor that chooses the first target.
 #[derive(Clone, Copy, Debug, PartialEq, Eq)]
 pub struct First;
 
@@ -31,7 +32,7 @@ impl Predict for First {
     }
 }
 
-/// Chooses the last target.
+/// The predictor that chooses the last target.
 #[derive(Clone, Copy, Debug, PartialEq, Eq)]
 pub struct Last;
 
@@ -46,7 +47,7 @@ impl Predict for Last {
     }
 }
 
-/// Chooses the targets at the positions in a list, over and over; the first where the list is empty.
+/// The predictor that chooses by a list of positions, over and over; the first target where the list is empty.
 #[derive(Debug, Drop)]
 pub struct Script {
     numbers: Vec<u32>,
@@ -67,7 +68,7 @@ impl Model for Script {
 impl Script {
     ghost use Rattle.std.specs.Prelude.{◌≡◌};
 
-    /// A predictor that begins with the first number of the list.
+    /// A predictor that begins with the first position of the list.
     pub fn new(numbers: Vec<u32>) -> Script
         ensures list { result.list ≡ numbers.items }
         ensures at { result.at ≡ 0 }

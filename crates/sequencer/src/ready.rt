@@ -18,7 +18,7 @@ impl<'a> Machine<'a> {
     ghost use Rattle.sequencer.specs.Machines.{state, units_of, answer_to};
     ghost use Rattle.sequencer.specs.Rings.{unit_for};
 
-    /// The number of the unit at position 0: the head, or on an empty queue the unit that the next
+    /// The number on the ring of the unit at position 0: the head, or on an empty queue the unit that the next
     /// Assign fills.
     #[inline]
     pub fn head_unit(&self) -> u32
@@ -27,7 +27,7 @@ impl<'a> Machine<'a> {
         self.number_at(0)
     }
 
-    /// Where the unit at a position stands; `None` past the tail.
+    /// The place of the unit at a position, counted from the head; `None` past the tail.
     #[inline]
     pub fn spot(&self, position: u32) -> Option<Spot>
         ensures { result ≡ option_map (λ u. u.place) (slice_get (state self.now).queue position) }
@@ -35,9 +35,9 @@ impl<'a> Machine<'a> {
         self.processor.spot(position)
     }
 
-    /// Whether the unit at a position lacks nothing for its next instruction, and this needs nothing but
-    /// the unit's registers and read-only data: so it may be part of a burst. An Exec of it is then
-    /// refused by nothing but the run's end or a full history. Takes no memory.
+    /// Whether the unit at a position lacks nothing for its next instruction, and this needs nothing but the
+    /// unit's registers and read-only data: so it may be part of a burst. An Exec of it is then refused by
+    /// nothing but the run's end or a full history. Takes no memory.
     pub fn can_run_ahead(&self, position: u32) -> bool
         ensures alone { IsTrue result ↔ ((u : Active) × (slice_get (state self.now).queue position ≡ Some u) × (exec_refusal self.now.accepted.program false u ≡ None)) }
         ensures allowed { IsTrue result → refusal self.now.accepted.program (units_of self.now) (state self.now) (Exec position) ≡ None }
@@ -46,8 +46,8 @@ impl<'a> Machine<'a> {
         self.processor.can_run_ahead(self.accepted, position)
     }
 
-    /// The least register that the unit at a position may take from the unit before it; `None` exactly
-    /// where it may take none. Takes no memory.
+    /// The least register that the unit at a position may take from the unit before it; `None` exactly where it
+    /// may take none. Takes no memory.
     pub fn register_to_take(&self, position: u32) -> Option<Reg>
         ensures { IsLeast (λ r. refusal self.now.accepted.program (units_of self.now) (state self.now) (Transfer position r) ≡ None) result }
     {
@@ -55,8 +55,8 @@ impl<'a> Machine<'a> {
             .register_to_take(self.accepted.program(), position)
     }
 
-    /// The least register that the unit at a position, which has stopped, may send; `None` exactly where
-    /// it may send none. Takes no memory.
+    /// The least register that the unit at a position, which has stopped, may send; `None` exactly where it may
+    /// send none. Takes no memory.
     pub fn register_to_send(&self, position: u32) -> Option<Reg>
         ensures { IsLeast (λ r. refusal self.now.accepted.program (units_of self.now) (state self.now) (Drain position r) ≡ None) result }
     {
@@ -64,8 +64,8 @@ impl<'a> Machine<'a> {
             .register_to_send(self.accepted.program(), position)
     }
 
-    /// An event is answered Ok, want of memory aside, while the run continues, the history has room and
-    /// nothing refuses the event, so wherever the machine step allows it; the call does nothing.
+    /// Law: an event is answered Ok, lack of memory aside, while the run continues, the history has room and
+    /// nothing refuses the event, so wherever the machine step allows it. The call does nothing.
     pub fn law_answers(&self)
         ensures unrefused { (e : Event) → (state self.now).outcome ≡ standing.Running → refusal self.now.accepted.program (units_of self.now) (state self.now) e ≡ None → length self.now.history < most_events → answer_to self.now e ≡ Ok tt }
         ensures allowed { (e : Event) (s : State) → Next self.now.accepted.program (units_of self.now) (state self.now) e s → length self.now.history < most_events → answer_to self.now e ≡ Ok tt }

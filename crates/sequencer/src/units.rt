@@ -9,7 +9,7 @@ impl<'a> Machine<'a> {
     ghost use Rattle.unit_core.specs.Units.{active_of};
     ghost use Rattle.sequencer.specs.Machines.{state};
 
-    /// How many units are at work.
+    /// The number of units at work, at most 16.
     pub fn active(&self) -> u32
         ensures active { result ≡ length (state self.now).queue }
         ensures within { result ≤ 16 }
@@ -19,8 +19,8 @@ impl<'a> Machine<'a> {
         self.processor.active()
     }
 
-    /// The unit at a position from the head, 0 being the head: its task, where it stands, what arrived and
-    /// what it sent. `None` past the tail.
+    /// The unit at a position, counted from the head, which is 0: its task, its place, what arrived and what it
+    /// sent. `None` past the tail.
     pub fn unit(&self, position: u32) -> Option<&Unit>
         ensures { option_map active_of (option_copied result) ≡ slice_get (state self.now).queue position }
     {

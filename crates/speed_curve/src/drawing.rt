@@ -7,12 +7,16 @@ use crate::sheet::SHEET;
 use machine_model::event::Standing;
 use std::alloc::{AllocError, Global};
 
-/// Draws the results of runs of a program in steps, a column for each row: one SVG file, with no script and no font
-/// of its own. Above, one line joins how many instructions retired in a step, and a dashed one how many times as many
-/// steps the run on one unit took, which is the first row; below, a bar says which share was thrown away. All are
-/// rounded as in the table (`crate::table`), and a run has a speed-up where it has one there. The row of n units
-/// stands in column n, and there are as many columns as rows. `caption`, which is text of SVG, stands above the title.
-/// The error says that memory was refused.
+/// The picture of the results of runs in steps, a column for each row: an SVG file with no script and no font of its own.
+/// The row of n units is in column n. `caption` is SVG text, which may be empty and is put above the title.
+///
+/// Above, one line joins how many instructions retired in a step, and a dashed one how many times as many steps the run on
+/// one unit took, which is the first row; below, a bar shows the share of instructions that were thrown away. All are
+/// rounded as in the table (`crate::table`), and a run has a speed-up where it has one there.
+///
+/// # Errors
+///
+/// `AllocError` where memory was refused.
 pub fn draw(alloc: Global, caption: &str, rows: &[Row]) -> Result<String, AllocError> {
     let mut text = String::from_str(alloc, SHEET)?;
     writeln!(text, "<text class='quiet' x='88' y='18'>{caption}</text>")?;

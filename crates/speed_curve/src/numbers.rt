@@ -7,7 +7,7 @@ use crate::row::Row;
 use machine_model::event::Standing;
 use std::fmt;
 
-/// How many instructions retired in a step; 0 where there was no step.
+/// How many instructions retired in a step, in hundredths; 0 where there was no step.
 pub fn rate(row: &Row) -> u64
     ensures value { result ≡ rate_of row.now }
     ensures few { result < 2 ^ 48 }
@@ -15,8 +15,8 @@ pub fn rate(row: &Row) -> u64
     rounded(u64::from(row.retired), u64::from(row.steps))
 }
 
-/// How many times as many steps the run on one unit took. There is an answer if both runs ended, since then they did the
-/// same work, and an instruction retired.
+/// How many times as many steps the run on one unit took, in hundredths; `None` unless both runs ended, since then they
+/// did the same work, and an instruction retired.
 pub fn speed_up(one: &Row, row: &Row) -> Option<u64>
     ensures value { result ≡ speed_up_of one.now row.now }
     ensures few { IfSome result (λ speed. speed < 2 ^ 48) }
@@ -28,8 +28,8 @@ pub fn speed_up(one: &Row, row: &Row) -> Option<u64>
     }
 }
 
-/// Of the instructions of tasks that retired, were squashed or were dropped, how many in a hundred were of
-/// tasks that were squashed or dropped; 0 where there were none.
+/// The share, in hundredths of a percent, of the instructions of tasks that retired, were squashed or were dropped, that
+/// were of tasks that were squashed or dropped; 0 where there were none.
 pub fn share(row: &Row) -> u64
     ensures { result ≡ share_of row.now }
 {

@@ -27,12 +27,16 @@ pub struct Row {
     /// How many instructions the tasks executed that were squashed or dropped, at most 1,000,000. What the
     /// tasks executed that are unfinished counts neither here nor in `retired`.
     pub wasted: u32,
-    /// How the run stands after the last step; one that still goes on is out of budget.
+    /// How the run is after the last step; `Standing::Running` if it is out of budget.
     pub standing: Standing,
 }
 
-/// Runs the accepted program in steps, as `run_steps` does, on a machine of `units` units, 1 to 16, up to `budget`
-/// events, 1 to 1,000,000, and answers the result. The error says that memory was refused.
+/// The result of a run of an accepted program in steps, as `run_steps` makes it, on a machine of `units` units, 1 to 16,
+/// up to `budget` events, 1 to 1,000,000.
+///
+/// # Errors
+///
+/// `AllocError` where memory was refused.
 pub fn row_of(
     alloc: Global,
     accepted: &Accepted,

@@ -1,4 +1,4 @@
-//! Where things stand in the picture. All lengths are in pixels, from the left and from above.
+//! Where things are in the picture. All lengths are in pixels, from the left and from the top.
 
 ghost use Rattle.std.specs.Prelude.{◌≤◌};
 

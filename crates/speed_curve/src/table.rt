@@ -4,11 +4,16 @@ use crate::numbers::{Hundredths, end_of, rate, share, speed_up};
 use crate::row::Row;
 use std::alloc::{AllocError, Global};
 
-/// The table of some runs of a program, of which the first is the one on one unit: a heading, and a row for
-/// each. The columns are the units, the steps, the retired instructions, how many of these there are for each
-/// step, how many times as many steps the run on one unit took, the share of instructions that were thrown
-/// away, and how the run ended. The fifth has `-` unless both runs ended and an instruction retired. Numbers
-/// with decimals have two, rounded to the nearest. The error says that memory was refused.
+/// The table of some runs of a program, of which the first is the one on one unit: a heading, and a row for each.
+///
+/// The columns are the units, the steps, the retired instructions, how many of these there are for each step, how many
+/// times as many steps the run on one unit took, the share of instructions that were thrown away, and how the run ended.
+/// The fifth has `-` unless both runs ended and an instruction retired. Numbers with decimals have two, rounded to the
+/// nearest.
+///
+/// # Errors
+///
+/// `AllocError` where memory was refused.
 pub fn write(alloc: Global, rows: &[Row]) -> Result<Vec<u8>, AllocError> {
     let mut text = String::from_str(
         alloc,

@@ -1,5 +1,5 @@
 -- What a picture of a run in steps is of.
-use Rattle.std.specs.Prelude.{◌≡◌, ◌≤◌, ℕ, List, flat_map, map, Some}
+use Rattle.std.specs.Prelude.{◌≡◌, ◌≤◌, ◌%◌, ℕ, List, flat_map, map}
 use Rattle.std.specs.List.{range_with_len}
 use Rattle.task_descriptor.specs.Listing.{Listing}
 use Rattle.machine_model.specs.declared.event.Event.{Event}
@@ -10,7 +10,6 @@ use Rattle.unit_waits.specs.Waits.{waits}
 use Rattle.run_picture.specs.declared.chart.Chart.{Chart}
 use Rattle.run_picture.specs.declared.shape.Counted.TheVariants.{Steps}
 use Rattle.run_picture.specs.declared.shape.Wait.{Wait}
-use Rattle.run_picture.specs.Meanings.{halted_unit}
 use Rattle.step_picture.specs.Steps.{count_of, in_steps, steps_of}
 use Rattle.step_picture.specs.Strips.{each_step, waits_on}
 
@@ -20,10 +19,15 @@ AreWaits p units history strips = flat_map each_step strips ≡ flat_map (waits_
 
 -- each event comes in the column of its step; up to 2,000 steps have their waits
 pub record IsChartOfSteps (p : Listing) (units : ℕ) (stands : Standing) (history : List Event) (c : Chart) : Type 0 where
-  pub axis : c.axis ≡ record { counted = Steps; units = units; count = count_of (steps_of history) }
+  pub counted : c.axis.counted ≡ Steps
+  pub ring : c.axis.units ≡ units
+  pub before : c.axis.before ≡ 0
+  pub count : c.axis.count ≡ count_of (steps_of history)
   pub columns : c.columns.items ≡ steps_of history
+  pub retired : c.retired ≡ 0
   pub events : c.events.items ≡ history
   pub lives : c.lives.items ≡ map (in_steps (steps_of history)) (lives_of units history)
   pub tally : c.tally ≡ tally_of (lives_of units history)
-  pub halted : c.halted ≡ halted_unit units (tally_of (lives_of units history)).retired (Some stands)
+  pub head : c.head ≡ (tally_of (lives_of units history)).retired % units
+  pub standing : c.standing ≡ stands
   pub waits : count_of (steps_of history) ≤ 2000 → AreWaits p units history c.waits.items

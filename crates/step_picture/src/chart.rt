@@ -1,4 +1,4 @@
-//! What a picture of a run in steps is of.
+//! The content of a picture of a run in steps.
 
 ghost use Rattle.std.specs.Prelude.{◌≡◌, ℕ, ◌<◌, ◌≤◌, IfOk, length};
 ghost use Rattle.machine_model.specs.Answer.{most_events};
@@ -12,8 +12,7 @@ use crate::steps::{all_in_steps, count, steps};
 use crate::strips::strips;
 use machine_model::event::{Event, EventRun, Standing};
 use mark_checker::accept::Accepted;
-use run_picture::bars::halted_unit;
-use run_picture::chart::{Chart, MOST_SINGLE};
+use run_picture::chart::{Chart, MOST_SINGLE, lanes_of};
 use run_picture::events::single_events;
 use run_picture::shape::{Axis, Counted, Wait};
 use std::alloc::{AllocError, Global};
@@ -22,9 +21,13 @@ use task_lives::lives::lives_of_runs;
 use task_lives::tally::add_up;
 use unit_waits::waits::waits;
 
-/// What a picture of the history of a run in steps of an accepted program on `units` units, 1 to 16, with this final state
-/// is of. Each event of the history is allowed where it comes, and there are at most 1,000,000. An event at position 0 ends
-/// a step. An error means that memory was refused.
+/// The content of a picture of the history of a run in steps of an accepted program on `units` units, 1 to 16, with this
+/// final state. Each event of the history is allowed when it occurs, and there are at most 1,000,000. An event at position
+/// 0 ends a step.
+///
+/// # Errors
+///
+/// `AllocError` where memory was refused.
 pub fn chart_of_steps(
     alloc: Global,
     accepted: &Accepted,
@@ -51,13 +54,18 @@ pub fn chart_of_steps(
         axis: Axis {
             counted: Counted::Steps,
             units,
+            lanes: lanes_of(&lives),
+            before: 0,
             count,
+            total: count,
         },
         columns,
+        retired: 0,
         events,
         lives,
         tally,
-        halted: halted_unit(units, tally.retired, Some(standing)),
+        head: tally.retired % units,
+        standing,
         waits,
     })
 }

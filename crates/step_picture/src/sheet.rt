@@ -1,52 +1,15 @@
-//! The parts of the file that every picture of steps has.
+//! The parts of the file that pictures of steps alone have.
 
-/// The style of all shapes, light or dark, patterns, the ground, and the legend of the bars of lives that ended. What a colour shows, a pattern or a border shows too.
-pub(crate) const SHEET: &str = "<style>
-text{fill:#1f2933;font-size:14px;pointer-events:none}line{pointer-events:none}
-.title{font-size:24px;font-weight:600}.quiet,.caption,.number{fill:#52606d}.number{font-size:12px}.unit{text-anchor:end}.caption,.number{text-anchor:middle}
-.task{font-size:13px;font-weight:600;paint-order:stroke;stroke:#fff;stroke-width:3px;stroke-linejoin:round}
-.paper,.idle{fill:#fff}.idle{stroke:#cbd2d9}.lane{fill:#f4f6f9}.grid{stroke:#dde3e9}.axis{stroke:#7b8794;stroke-width:1.5}
-.retired,.halted{fill:#cfe8d5;stroke:#2f6b4a}.squashed{fill:url(#hatched);stroke:#b0402a}.dropped{fill:url(#dotted);stroke:#7d5f10}
-.unfinished{fill:#d8e4f5;stroke:#34588f;stroke-dasharray:5 3}.retired,.squashed,.dropped,.unfinished{stroke-width:1.5}.halted{stroke-width:4}
-.share{stroke-width:0}.share,.wait{shape-rendering:crispEdges}.needs{fill:#d9822b}.turn{fill:url(#upright)}.pass{fill:url(#level)}.squash{fill:#b0402a;stroke:#fff}
-.instruction{stroke:#1f2933;stroke-width:1.6}.transfer{stroke:#52606d;stroke-width:1.3;marker-end:url(#head);pointer-events:stroke}.head,.register{fill:#52606d}.register{font-size:12px}
-.rose{fill:#fae3dc}.red{stroke:#e09a86}.sand{fill:#f6edd0}.ochre{fill:#a98a35}.mist{fill:#e4e9ee}.slate{stroke:#52606d}.lilac{fill:#eadcf8}.violet{stroke:#7a4fb0}
-@media (prefers-color-scheme:dark){
-text{fill:#e4e9ee}.quiet,.caption,.number{fill:#9aa7b4}.task{stroke:#1c2229}.paper,.idle{fill:#1c2229}.idle,.grid{stroke:#38424d}.lane{fill:#232b33}
-.retired,.halted{fill:#214a33;stroke:#6fd198}.squashed{stroke:#ff9d94}.dropped{stroke:#d8b45a}.unfinished{fill:#22344f;stroke:#7fb0ff}.needs{fill:#f0a04b}.squash{fill:#ff9d94;stroke:#1c2229}
-.instruction{stroke:#e4e9ee}.transfer{stroke:#9aa7b4}.head,.register{fill:#9aa7b4}
-.rose{fill:#4a2220}.red{stroke:#b3564a}.sand{fill:#40361a}.mist{fill:#38424d}.slate{stroke:#c3ccd5}.lilac{fill:#3a2a52}.violet{stroke:#c9a2f5}
-}
-</style>
-<defs>
-<pattern id='hatched' width='7' height='7' patternUnits='userSpaceOnUse' patternTransform='rotate(45)'><path class='rose' d='M0 0H7V7H0Z'/><path class='red' d='M0 0V7' stroke-width='2.6'/></pattern>
-<pattern id='dotted' width='7' height='7' patternUnits='userSpaceOnUse'><path class='sand' d='M0 0H7V7H0Z'/><circle class='ochre' cx='2' cy='2' r='1.2'/><circle class='ochre' cx='5.5' cy='5.5' r='1.2'/></pattern>
-<pattern id='upright' width='5' height='5' patternUnits='userSpaceOnUse'><path class='mist' d='M0 0H5V5H0Z'/><path class='slate' d='M1 0V5' stroke-width='2'/></pattern>
-<pattern id='level' width='5' height='5' patternUnits='userSpaceOnUse'><path class='lilac' d='M0 0H5V5H0Z'/><path class='violet' d='M0 1H5' stroke-width='2'/></pattern>
-<marker id='head' viewBox='0 0 8 8' refX='7' refY='4' markerWidth='7' markerHeight='7' markerUnits='userSpaceOnUse' orient='auto'><path class='head' d='M0 .8 7.4 4 0 7.2z'/></marker>
-</defs>
-<path class='paper' d='M0 0H1280V9999H0Z'/>
-<g>
-<rect class='retired' x='88' y='94' width='28' height='16'/><text x='124' y='107'>retired</text>
-<rect class='squashed' x='194' y='94' width='28' height='16'/><text x='230' y='107'>squashed</text>
-<rect class='dropped' x='316' y='94' width='28' height='16'/><text x='352' y='107'>dropped</text>
-";
-
-/// What single steps look like.
-pub(crate) const SINGLE_LEGEND: &str =
-    "<rect class='unfinished' x='430' y='94' width='28' height='16'/><text x='466' y='107'>unfinished</text>
-<rect class='halted' x='564' y='94' width='28' height='16'/><text x='600' y='107'>halted</text>
-<path class='squash' d='M670 96h14l-7 11z'/><text x='692' y='107'>squash begins</text>
-<rect class='wait needs' x='88' y='122' width='28' height='13'/><text x='124' y='133'>waits for a register</text>
+/// Why units wait.
+pub(crate) const WAITS_LEGEND: &str =
+    "<rect class='wait needs' x='88' y='122' width='28' height='13'/><text x='124' y='133'>waits for a register</text>
 <rect class='wait turn' x='316' y='122' width='28' height='13'/><text x='352' y='133'>waits to be the head</text>
 <rect class='wait pass' x='564' y='122' width='28' height='13'/><text x='600' y='133'>has to pass a register on</text>
 ";
 
-/// What the marks of the events look like.
-pub(crate) const MARKS_LEGEND: &str =
-    "<path class='instruction' d='M810 97v10M816 97v10M822 97v10'/><text x='832' y='107'>instruction</text>
-<rect class='retired' x='936' y='94' width='16' height='16'/><path class='transfer' d='M944 97V110'/><text x='960' y='107'>register sent at the exit</text>
-<path class='transfer' d='M802 120V137'/><text x='814' y='133'>register arrives; at unit 0, from the last unit</text>
+/// What an arrow between units is.
+pub(crate) const ARROW_LEGEND: &str =
+    "<path class='transfer' d='M802 120V137'/><text x='814' y='133'>register arrives; at unit 0, from the last unit</text>
 ";
 
 /// That more steps than have room for marks have none.
@@ -58,5 +21,5 @@ pub(crate) const NO_MARKS_LEGEND: &str =
 pub(crate) const SUMMED_LEGEND: &str =
     "<rect class='unfinished' x='430' y='94' width='28' height='16'/><text x='466' y='107'>unfinished, or halted</text>
 <rect class='idle' x='630' y='94' width='28' height='16'/><text x='666' y='107'>no task</text>
-<text class='quiet' x='88' y='133'>over 2,000 steps, no waits, instructions, registers or squashes are drawn</text>
+<text class='quiet' x='88' y='133'>over 2,000 steps, no waits, instructions, registers or squashes are drawn: --from and --to draw a part</text>
 ";

@@ -1,4 +1,4 @@
-//! The steps in which the events of a history come.
+//! The steps of the events of a history.
 
 ghost use Rattle.std.specs.Prelude.{◌≡◌, ◌+◌, ◌<◌, ◌≤◌, ◌^◌, IfOk, length, map};
 ghost use Rattle.unit_waits.specs.Waits.{ends_step as ends_step_of};
@@ -11,7 +11,11 @@ use run_picture::queue::{active_with, position_of};
 use std::alloc::{AllocError, Global};
 use task_lives::life::Life;
 
-/// The steps of the events of a history, in order, numbered from 1. An error means that memory was refused.
+/// The step of each event of a history, in order, numbered from 1.
+///
+/// # Errors
+///
+/// `AllocError` where memory was refused.
 pub fn steps(alloc: Global, events: &[Event]) -> Result<Vec<u32>, AllocError>
     requires { length events.now < 2 ^ 31 }
     ensures { IfOk result (λ steps. steps.items ≡ steps_of events.now) }
@@ -57,7 +61,12 @@ pub(crate) fn count(steps: &[u32]) -> u32
     step_at(steps, steps.len().saturating_sub(1))
 }
 
-/// Lives by their first and last steps, numbered from 0, in place of their events. An error means that memory was refused.
+/// Lives with the numbers of their first and last steps, from 0, in place of the numbers of events. `steps` has the step
+/// of each event, from 1.
+///
+/// # Errors
+///
+/// `AllocError` where memory was refused.
 pub fn all_in_steps(alloc: Global, steps: &[u32], lives: &[Life]) -> Result<Vec<Life>, AllocError>
     requires { AreFew lives.now }
     ensures exact { IfOk result (λ found. found.items ≡ map (in_steps_of steps.now) lives.now) }

@@ -1,4 +1,4 @@
-//! Why units wait: the waits of a run, unit by unit, those in steps one after the other together.
+//! The waits of a run, unit by unit, consecutive steps together.
 
 ghost use Rattle.std.specs.Prelude.{◌≡◌, ◌++◌, true, IfOk, IfSome, OnOk, flat_map};
 ghost use Rattle.std.specs.List.{range_with_len};
@@ -9,7 +9,12 @@ use run_picture::shape::{Debt, Wait, Why};
 use std::alloc::{AllocError, Global};
 use unit_waits::waiting::{Owed, Reason, Waiting};
 
-/// The waits of `units` units, of each in the order of its steps. An error means that memory was refused.
+/// The waits of `units` units, unit after unit, of each in the order of its steps, with consecutive steps for one reason
+/// together.
+///
+/// # Errors
+///
+/// `AllocError` where memory was refused.
 pub fn strips(alloc: Global, units: u32, waits: &[Waiting]) -> Result<Vec<Wait>, AllocError>
     ensures { IfOk result (λ strips. flat_map each_step strips.items ≡ flat_map (waits_on waits.now) (range_with_len 0 units)) }
 {

@@ -1,4 +1,4 @@
-//! What is reported about a program's parts that are refused.
+//! The texts of build faults.
 
 use crate::program::BuildFault;
 use std::error::Error;

@@ -6,39 +6,39 @@ use crate::places::Places;
 use mips_instructions::instruction::Op;
 use mips_instructions::number::{Place, RegSet};
 
-/// Where a task ends: the stop bits of an instruction.
+/// The stop bits of an instruction: whether the task ends after it.
 #[derive(Clone, Copy, Debug, PartialEq, Eq)]
 pub enum Stop {
-    /// It continues after this instruction.
+    /// The task continues after the instruction.
     None,
-    /// It ends after this instruction.
+    /// `!s`: the task ends after the instruction.
     Always,
-    /// It ends if the branch is taken.
+    /// `!st`: the task ends if the branch is taken.
     Taken,
-    /// It ends if the branch is not taken.
+    /// `!sn`: the task ends if the branch is not taken.
     NotTaken,
 }
 
-/// An instruction with its marks.
+/// An instruction with its forward bit and its stop bits.
 #[derive(Clone, Copy, Debug, PartialEq, Eq)]
 pub struct Marked {
-    /// The instruction.
+    /// The instruction without marks.
     pub op: Op,
-    /// The forward bit: the values that it writes go to the successors.
+    /// The forward bit: whether the values that the instruction writes go to the later tasks at once.
     pub forward: bool,
     /// The stop bits.
     pub stop: Stop,
 }
 
-/// What the sequencer knows of a task.
+/// A task descriptor: what the sequencer knows of a task.
 #[derive(Debug, Drop)]
 pub struct Descriptor {
-    /// The task's name.
+    /// The task's name; no two tasks of a program share one.
     pub name: Name,
-    /// The index of its first instruction.
+    /// The code index of the task's first instruction.
     pub entry: Place,
-    /// The create mask: the registers for which the task may produce values.
+    /// The create mask: the registers that the task may produce; in a program never register 0.
     pub create: RegSet,
-    /// The possible successors' first instructions, in order; one may stand there twice.
+    /// The code indices of the possible successors' first instructions, in order; one may be listed twice.
     pub targets: Places,
 }

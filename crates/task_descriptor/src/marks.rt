@@ -29,7 +29,7 @@ fn has_destination(op: &Op) -> bool
     has_member(op.dests())
 }
 
-/// Whether the set has a register.
+/// Whether the set of registers has a member.
 pub fn has_member(set: RegSet) -> bool
     ensures { result ≡ list_any (has set) registers }
 {

@@ -2,7 +2,7 @@
 
 use std::marker::Model;
 
-/// The most bytes that a name can have.
+/// The most bytes of a name.
 pub const MOST_NAME: usize = 32;
 
 /// A name: a letter or `_`, then letters, digits and `_`; 1 to 32 bytes.
@@ -37,7 +37,7 @@ impl Name {
     ghost use Rattle.std.specs.Prelude.{◌≡◌, ◌↔◌, IsSome, IfSome, IsTrue};
     ghost use Rattle.task_descriptor.specs.Names.{is_name};
 
-    /// The name of these bytes; `None` if they are not a name.
+    /// The name that these bytes spell; `None` if they spell no name.
     pub fn new(bytes: &[u8]) -> Option<Name>
         ensures some { IsSome result ↔ IsTrue (is_name bytes.now) }
         ensures value { IfSome result (λ name. name ≡ bytes.now) }
@@ -53,7 +53,7 @@ impl Name {
         })
     }
 
-    /// The bytes, 1 to 32.
+    /// The bytes of the name, 1 to 32 of them.
     pub fn bytes(&self) -> &[u8]
         ensures bytes { result.now ≡ self.now }
         ensures name { IsTrue (is_name self.now) }
@@ -101,14 +101,14 @@ fn all_continue(bytes: &[u8]) -> bool
     all
 }
 
-/// Whether a name may begin with this byte.
+/// Whether a name may begin with this byte: an ASCII letter or `_`.
 pub fn begins_name(byte: u8) -> bool
     ensures { result ≡ begins_name_of byte }
 {
     byte.is_ascii_alphabetic() || byte == b'_'
 }
 
-/// Whether a name may continue with this byte.
+/// Whether a name may have this byte after its first: an ASCII letter, a digit or `_`.
 pub fn continues_name(byte: u8) -> bool
     ensures { result ≡ continues_name_of byte }
 {

@@ -1,9 +1,9 @@
-//! Lists of places in the code.
+//! Lists of code indices.
 
 use mips_instructions::number::Place;
 use std::marker::Model;
 
-/// A list of places, such as a descriptor's targets.
+/// A list of code indices, such as a descriptor's targets.
 #[derive(Debug, Drop)]
 pub struct Places {
     items: Vec<Place>,
@@ -20,21 +20,21 @@ impl Model for Places {
 impl Places {
     ghost use Rattle.std.specs.Prelude.{◌≡◌};
 
-    /// The list of these places.
+    /// The list with these code indices, in the same order.
     pub fn new(items: Vec<Place>) -> Places
         ensures { result ≡ items.items }
     {
         Places { items }
     }
 
-    /// The places in their order.
+    /// The code indices, in their order.
     pub fn as_slice(&self) -> &[Place]
         ensures { result.now ≡ self.now }
     {
         &self.items
     }
 
-    /// The places as a `Vec`, in their order.
+    /// The code indices as a `Vec`, in their order.
     pub fn into_vec(self) -> Vec<Place>
         ensures { result.items ≡ self }
     {

@@ -1,4 +1,4 @@
-//! Whole programs.
+//! Whole programs: parts that are checked once, and what every program that passed has.
 
 use crate::check::fault_of;
 use crate::descriptor::{Descriptor, Marked};
@@ -12,31 +12,31 @@ use mips_plain::plain::{Plain, PlainFault};
 use std::alloc::{AllocError, Global};
 use std::marker::Model;
 
-/// The most tasks that a program can have.
+/// The most tasks of a program.
 pub const MOST_TASKS: usize = 1024;
 
-/// The most targets that a task can have.
+/// The most targets of a task.
 pub const MOST_TARGETS: usize = 16;
 
-/// The most bytes of data, and of read-only data, that a program can give.
+/// The most bytes that a program gives for data memory, and as many for read-only data.
 pub const MOST_BYTES: usize = 65_536;
 
-/// What a program is made of, not yet checked.
+/// What a program is made of, not checked yet.
 #[derive(Debug, Drop)]
 pub struct Parts {
     /// The instructions, index 0 first.
     pub code: Vec<Marked>,
-    /// The bytes that data memory begins with.
+    /// The bytes that data memory begins with; zeros follow.
     pub bytes: Vec<u8>,
-    /// The bytes that read-only data begins with.
+    /// The bytes that read-only data begins with; zeros follow.
     pub fixed: Vec<u8>,
     /// The tasks, task 0 first.
     pub tasks: Vec<Descriptor>,
-    /// Where the program starts.
+    /// The code index at which the program starts.
     pub start: Place,
 }
 
-/// Why parts make no program (the first that holds is returned).
+/// Why parts make no program; where several faults hold, the one with the least number is returned.
 #[derive(Clone, Copy, Debug, PartialEq, Eq)]
 pub enum BuildFault {
     /// 1: more instructions, tasks, targets of a task, or bytes of either region than the limits allow.
@@ -55,7 +55,7 @@ pub enum BuildFault {
     BadStart,
 }
 
-/// A well-formed annotated program.
+/// A well-formed annotated program: parts of which no `BuildFault` holds.
 #[derive(Debug, Drop)]
 pub struct Program {
     code: Vec<Marked>,
@@ -93,8 +93,11 @@ impl Program {
     ghost use Rattle.mips_plain.specs.PlainView.{IsAfter};
     ghost use Rattle.task_descriptor.specs.Listing.{Listing, IsWellFormed, build_fault, listing_of, instruction_at, input};
 
-    /// The program that the parts make. A refusal gives the parts back with the first fault that
-    /// holds of them.
+    /// The program that the parts make.
+    ///
+    /// # Errors
+    ///
+    /// The first fault that holds of the parts, with the parts as they were.
     pub fn build(parts: Parts) -> Result<Program, (Parts, BuildFault)>
         ensures built { MatchResult result
             (λ program. (program ≡ listing_of parts) × (build_fault (listing_of parts) ≡ None))
@@ -154,7 +157,7 @@ impl Program {
         &self.tasks
     }
 
-    /// The index of the first instruction, which is a task's entry.
+    /// The code index of the first instruction, which is a task's entry.
     pub fn start(&self) -> Place
         ensures value { result ≡ self.now.start }
         ensures well_formed { IsWellFormed self.now }
@@ -162,8 +165,8 @@ impl Program {
         self.start
     }
 
-    /// Whether the two are the same program: the same instructions with their marks, the same bytes, the
-    /// same tasks in the same order, the same start. Takes no memory.
+    /// Whether the two are equal: the same instructions with the same marks, the same bytes, the same tasks in
+    /// the same order, the same start. Takes no memory.
     pub fn is_same(&self, other: &Program) -> bool
         ensures { IsTrue result ↔ (self.now ≡ other.now) }
     {
@@ -176,8 +179,11 @@ impl Program {
         are_same_tasks(&self.tasks, &other.tasks)
     }
 
-    /// The plain machine at the program's start: it takes the instructions without their marks, and no
-    /// task. If memory runs out, nothing is left behind.
+    /// The plain machine at the program's start: it takes the instructions without their marks, and no task.
+    ///
+    /// # Errors
+    ///
+    /// `OutOfMemory` where memory was refused; nothing is left behind then.
     pub fn plain(&self, alloc: Global) -> Result<Plain, OutOfMemory>
         ensures { IfOk result (λ machine. IsAfter (input self.now) 0 machine) }
     {
@@ -191,7 +197,7 @@ impl Program {
         }
     }
 
-    /// The parts again.
+    /// The parts that the program was built from.
     pub fn parts(self) -> Parts
         ensures { listing_of result ≡ self }
     {
@@ -211,14 +217,15 @@ impl Program {
         }
     }
 
-    /// The address of an instruction of this index, 0x00400000 + 4 * index.
+    /// The address, in bytes, of the instruction at a code index: 0x00400000 + 4 * index.
     pub fn address(&self, place: Place) -> u32
         ensures { result ≡ address place }
     {
         address_of(place.get())
     }
 
-    /// The index of the instruction at an address; `None` where no instruction is there.
+    /// The code index of the instruction at an address, in bytes; `None` where the program has no instruction
+    /// there.
     pub fn index(&self, address: u32) -> Option<u32>
         ensures { result ≡ instruction_at self.now address }
     {
@@ -230,7 +237,7 @@ impl Program {
         }
     }
 
-    /// The number of the task that begins at this index; `None` where none does.
+    /// The number, from 0, of the task whose entry is this code index; `None` where no task begins there.
     pub fn task_at(&self, index: u32) -> Option<u32>
         ensures { result ≡ position (λ t. t.entry == index) self.now.tasks }
     {

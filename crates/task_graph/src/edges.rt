@@ -7,23 +7,23 @@ use mips_instructions::instruction::Op;
 use task_descriptor::descriptor::{Marked, Stop};
 use task_descriptor::program::Program;
 
-/// At most two indices, the lesser one first; one that would occur twice occurs once.
+/// At most two code indices, the lesser one first; one that would occur twice occurs once.
 #[derive(Clone, Copy, Debug, PartialEq, Eq)]
 pub struct Next {
-    /// The least index, if there is any.
+    /// The least code index, if there is any.
     pub first: Option<u32>,
-    /// The other index, if there are two.
+    /// The other code index, if there are two.
     pub second: Option<u32>,
 }
 
-/// Where a task may continue from one of its instructions.
+/// The exits of a task at one of its instructions: where it may continue after its stop.
 #[derive(Clone, Copy, Debug, PartialEq, Eq)]
 pub struct Exits {
-    /// The indices that exit edges lead to. One may be no instruction's.
+    /// The code indices that exit edges lead to. One may be no instruction's.
     pub direct: Next,
-    /// The instruction is a `jr` or `jalr` that stops always.
+    /// Whether the instruction is a `jr` or `jalr` that stops always: its exit is an address in a register.
     pub indirect: bool,
-    /// An inner edge leads to no instruction.
+    /// Whether an inner edge leads to no instruction.
     pub falls_off: bool,
 }
 
@@ -31,8 +31,8 @@ ghost use Rattle.std.specs.Prelude.{◌≡◌, ℕ, ◌<◌, ◌≤◌, ◌↔�
 ghost use Rattle.task_graph.specs.Edges.{Edge, edge, leaves, end_of, is_indirect};
 ghost use Rattle.task_graph.specs.Neighbours.{is_among, InOrder, Follows, FallsOff, ExitsIndirectly};
 
-/// The inner successors of the instruction at `i`: the instructions that an inner edge leads to. The
-/// caller sees to it that `i` is an instruction. Takes no memory.
+/// The inner successors of the instruction at code index `i`: the instructions that may follow it inside a
+/// task. Takes no memory.
 pub fn next_inside(program: &Program, i: u32) -> Next
     requires { i < length program.now.code }
     ensures exact { (j : ℕ) → (is_among result j ≡ true) ↔ Follows program.now i j }
@@ -46,8 +46,7 @@ pub fn next_inside(program: &Program, i: u32) -> Next
     in_order(onward, branch)
 }
 
-/// The exits of the instruction at `i`. The caller sees to it that `i` is an instruction. Takes no
-/// memory.
+/// The exits of the instruction at code index `i`. Takes no memory.
 pub fn exits_of(program: &Program, i: u32) -> Exits
     requires { i < length program.now.code }
     ensures direct { (j : ℕ) → (is_among result.direct j ≡ true) ↔ Edge program.now true i j }
@@ -67,9 +66,9 @@ pub fn exits_of(program: &Program, i: u32) -> Exits
     }
 }
 
-/// The index that `op` at `i` leads to, for a conditional branch where it is `taken` or isn't; `None`
-/// for a jump to an address in a register and for `halt`, and if `taken` for all but a conditional
-/// branch. The caller sees to it that `i` is below 4,096. Takes no memory.
+/// The code index that `op` at code index `i` leads to, for a conditional branch where it is `taken` or isn't;
+/// `None` for a jump to an address in a register and for `halt`, and if `taken` for all but a conditional
+/// branch. Takes no memory.
 #[inline]
 pub fn leads_to(op: &Op, i: u32, taken: bool) -> Option<u32>
     requires { i < 4096 }
@@ -84,8 +83,8 @@ pub fn leads_to(op: &Op, i: u32, taken: bool) -> Option<u32>
     }
 }
 
-/// Whether the task ends there: the stop's condition is met, for a conditional branch where it is
-/// `taken` or isn't. Takes no memory.
+/// Whether the task ends at an instruction with these stop bits, for a conditional branch where it is `taken`
+/// or isn't. Takes no memory.
 #[inline]
 pub fn ends_task(stop: Stop, taken: bool) -> bool
     ensures { result ≡ leaves stop taken }

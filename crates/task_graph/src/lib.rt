@@ -1,5 +1,5 @@
-//! Where the instructions of an annotated program lead: inner edges, exits, which instructions belong to a
-//! task, and a step of a search.
+//! The control flow graph of an annotated program: inner edges and exits of tasks, and each task's instructions.
+//! Also a step of a search along edges.
 #![tactic(auto)]
 
 pub mod edges;

@@ -1,4 +1,4 @@
-//! Which instructions belong to a task.
+//! The instructions that belong to a task.
 
 ghost use Rattle.std.specs.Prelude.{◌≡◌, ℕ, ◌<◌, ◌≤◌, ◌↔◌, true, false, length, filter, Contains, IfOk, Some, None, slice_get, slice_index_or, []};
 ghost use Rattle.std.specs.List.Sorted.{IsStrictlyIncreasing};
@@ -12,8 +12,8 @@ use crate::search::mark;
 use std::alloc::{AllocError, Global};
 use task_descriptor::program::Program;
 
-/// The indices of the instructions that the task reaches from its entry along inner edges, rising;
-/// none for a task number that does not exist. Each instruction is visited once.
+/// The code indices, in ascending order, of the instructions that task `task` reaches from its entry along
+/// inner edges; none for a task number that does not exist. Each instruction is visited once.
 ///
 /// # Errors
 ///

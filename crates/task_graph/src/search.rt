@@ -5,12 +5,11 @@ ghost use Rattle.task_graph.specs.SearchSteps.{mark_of, work_of};
 
 use std::alloc::AllocError;
 
-/// Marks an index, and puts it into the work if it had no mark. The caller sees to it that there is room for
-/// the mark.
+/// Marks a code index, and adds it to the work if it had no mark; `marks` has an element for the index.
 ///
 /// # Errors
 ///
-/// `AllocError` where memory was refused.
+/// `AllocError` where memory was refused; what marks and work hold then is not known.
 pub fn mark(
     marks: &mut Vec<bool>,
     work: &mut Vec<u32>,

@@ -1,7 +1,9 @@
-//! The lives of tasks: from the event that assigns a task to a unit to the one that retires, squashes or
-//! drops it, read off the history of a machine; and the summary of a run, counted over its lives.
+//! The lives of tasks, each from its assignment to a unit to its retirement, squash or drop, and the summary of a run.
+//!
+//! They are read off the history of a machine; the summary is counted over the lives.
 #![tactic(auto)]
 
+pub mod csv;
 mod following;
 pub mod laws;
 pub mod life;

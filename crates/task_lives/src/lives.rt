@@ -11,10 +11,13 @@ use crate::life::Life;
 use machine_model::event::EventRun;
 use std::alloc::{AllocError, Global};
 
-/// The lives of the tasks that a history assigned to `units` units, at least one, in the order in which
-/// the lives begin. The history has at most 1,000,000 events, and no event of it is at a position where
-/// there is no unit; this holds for every history of a machine (`histories_fit`), whose lives add up
-/// (`lives_add_up`). An error means that memory was refused.
+/// The lives of the tasks that a history assigned to `units` units, at least one, in the order in which the lives begin. The
+/// history has at most 1,000,000 events, and no event of it is at a position where there is no unit; this holds for every
+/// history of a machine (`histories_fit`), whose lives account for it (`lives_add_up`).
+///
+/// # Errors
+///
+/// `AllocError` where memory was refused.
 pub fn lives_of_runs(alloc: Global, runs: &[EventRun], units: u32) -> Result<Vec<Life>, AllocError>
     requires some { 0 < units }
     requires room { length (events_of runs.now) ≤ most_events }

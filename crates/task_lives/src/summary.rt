@@ -12,10 +12,13 @@ use std::alloc::{AllocError, Global};
 use task_descriptor::descriptor::Descriptor;
 use task_descriptor::program::Program;
 
-/// The summary of a run of a program, whose lives these are: a heading, a row for each task of the program
-/// in the order of their numbers, and a row for all lives. A life of a task that the program lacks counts in
-/// the last row alone. There are at most 1,000,000 lives, which executed at most 1,000,000 instructions, as
-/// `lives_of_runs` returns them. An error means that memory was refused.
+/// The summary of a run of a program, whose lives these are: a heading, a row for each task of the program in the order of
+/// their numbers, and a row for all lives. A life of a task that the program lacks counts in the last row alone. There are
+/// at most 1,000,000 lives, which executed at most 1,000,000 instructions, as `lives_of_runs` returns them.
+///
+/// # Errors
+///
+/// `AllocError` where memory was refused.
 pub fn write(alloc: Global, program: &Program, lives: &[Life]) -> Result<Vec<u8>, AllocError>
     requires { AreFew lives.now }
     ensures { IfOk result (λ text. text.items ≡ summary_text program.now lives.now) }

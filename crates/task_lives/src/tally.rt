@@ -8,8 +8,8 @@ ghost use Rattle.task_lives.specs.Counting.{HasRoom, HaveRoom, with_life, with_t
 use crate::life::{Ending, Life};
 use std::alloc::{AllocError, Global};
 
-/// Of some lives, how many there are, how they ended, and how many instructions they executed. Each number
-/// is at most 1,000,000 in the tallies that `add_up` and `by_task` return.
+/// How many of some lives there are, how they ended, and how many instructions they executed. Each number is at most
+/// 1,000,000 in the tallies that `add_up` and `by_task` return.
 #[derive(Clone, Copy, Debug, PartialEq, Eq)]
 pub struct Tally {
     /// How many there are: how often a task was assigned to a unit.
@@ -51,9 +51,12 @@ pub fn add_up(lives: &[Life]) -> Tally
     tally
 }
 
-/// The tallies of the given number of tasks, from task 0 on, each of the lives of that task. A life of any
-/// other task counts in none. There are at most 1,000,000 lives, which executed at most 1,000,000
-/// instructions. An error means that memory was refused.
+/// The tallies of tasks 0 to `tasks` - 1, each of the lives of that task; a life of any other task counts in none. There
+/// are at most 1,000,000 lives, which executed at most 1,000,000 instructions.
+///
+/// # Errors
+///
+/// `AllocError` where memory was refused.
 pub fn by_task(alloc: Global, lives: &[Life], tasks: usize) -> Result<Vec<Tally>, AllocError>
     requires { AreFew lives.now }
     ensures { IfOk result (λ tallies. tallies.items ≡ tallies_of tasks lives.now) }

@@ -10,7 +10,7 @@ use mask_certificate::reading::read;
 use std::alloc::Global;
 use task_descriptor::program::Program;
 
-/// The program and the certificate that the texts spell; `None` where one of them is refused, or memory was.
+/// The program and the certificate that two texts spell; `None` where one of them is refused, or memory was.
 pub fn parts(alloc: Global, program: &str, certificate: &str) -> Option<(Program, Cert)>
     ensures { IfSome result (λ parts. Spells program.now parts.0) }
 {
@@ -19,7 +19,8 @@ pub fn parts(alloc: Global, program: &str, certificate: &str) -> Option<(Program
     Some((program, cert))
 }
 
-/// Like `parts`, but accepted; `None` also where the rules find something.
+/// The program with its certificate, accepted by the checker; `None` where `parts` gives none, or the checker finds
+/// something.
 pub fn accepted(alloc: Global, program: &str, certificate: &str) -> Option<Accepted>
     ensures { IfSome result (λ accepted. Spells program.now accepted.program) }
 {

@@ -24,7 +24,7 @@ task B
 5 0000000000000000
 ";
 
-/// The certificate of `COUNT` without $9 in the mask of the instruction that writes it.
+/// The certificate of `COUNT` without $9 in the mask of the instruction that writes it, so that rule 3 is broken.
 pub const COUNT_CERTIFICATE_LACKING: &str = "cert 1
 task A
 0 00000700

@@ -1,4 +1,4 @@
-//! The program texts and certificates that the tests share, and what is accepted of them.
+//! The program texts and certificates that the tests share, and how they are read and accepted.
 #![tactic(auto)]
 
 pub mod acceptance;

@@ -1,4 +1,4 @@
-//! Program texts.
+//! Program texts, each with marks. Of the certificates some are in `certificates`.
 
 /// Adds 1 to $8 and $8 to $9 until $8 is 4, one task for each round, and puts out $9; in canonical
 /// text.
@@ -29,12 +29,12 @@ out $9
 halt
 ";
 
-/// A task that never ends.
+/// A task that never ends: an endless loop.
 pub const SPIN: &str = ".task A create=- targets=-
 A: j A
 ";
 
-/// Two ways that join again.
+/// Two paths of tasks that join again.
 pub const DIAMOND: &str = ".task A create=$8 targets=B,C
 .task B create=- targets=D
 .task C create=- targets=D
@@ -48,7 +48,7 @@ out $9
 halt
 ";
 
-/// A loop without end on a path that is never taken.
+/// An endless loop on a path that is never taken.
 pub const WRONG_PATH_SPIN: &str = ".task A create=- targets=B,C
 .task B create=- targets=-
 .task C create=- targets=-
@@ -66,7 +66,7 @@ B: addiu $9,$0,2 !f !s
 C: halt
 ";
 
-/// Three tasks with five faults.
+/// Three tasks with five wrong marks.
 pub const FIVE_FINDINGS: &str = ".task A create=- targets=B
 .task B create=$9 targets=D
 .task C create=- targets=-
@@ -76,7 +76,7 @@ C: out $9
 D: halt
 ";
 
-/// Two tasks, of which the first releases a register on one of its two ways; in its create mask is $7, too, which it never
+/// Two tasks, of which the first releases a register on one of its two paths; its create mask also has $7, which it never
 /// writes.
 pub const RELEASE_CREATES_MORE: &str = ".task A create=$7,$8,$9 targets=B
 .task B create=- targets=-

@@ -10,7 +10,7 @@ fn place_of(wanted: u8, bytes: &[u8]) -> Option<usize>
     bytes.iter().position(|byte| *byte == wanted)
 }
 
-/// The bytes before the first such byte and those after it; `None` where there is none.
+/// The bytes before the first `byte` and those after it, both without it; `None` where there is none.
 pub fn cut(byte: u8, bytes: &[u8]) -> Option<(&[u8], &[u8])>
     ensures parts { MatchOption result
         (slice_split (λ other. other == byte) bytes.now ≡ bytes.now ∷ [])

@@ -1,6 +1,6 @@
-//! A long text that is held as a few pieces, each in memory of its own, so that several threads can fetch
-//! and read them. Its value is its bytes, one after another. Only code that takes the pieces sees where it is cut:
-//! always after an LF, so that each line lies in one piece. Also: bytes that are cut at the first of one kind; and the
+//! A long text that is held as a few pieces, each in memory of its own, so that several threads fetch and read it.
+//! Its value is its bytes, one after another. Only code that takes the pieces sees where it is cut: always
+//! after an LF, so that each line lies in one piece. Also: bytes that are cut at the first of one kind; and the
 //! fetch of one text by several workers.
 #![tactic(auto)]
 

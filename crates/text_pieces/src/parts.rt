@@ -1,4 +1,4 @@
-//! The parts of a file, and the text from them.
+//! Parts of a file, and the text that they make together.
 ghost use Rattle.std.specs.Prelude.{◌≡◌, ◌≤◌, ◌+◌, ◌*◌, ℕ, List, Some, IfSome, length, take, drop, vec_len};
 ghost use Rattle.text_pieces.specs.PositionedReads.{AreParts, AreFull};
 
@@ -11,9 +11,8 @@ use std::alloc::Global;
 // added to it, and should fit without moving it.
 const LINE: usize = 4_096;
 
-/// The bytes of a file from an offset on: `most` of them, or those up to its end. `None` where a read fails
-/// or is interrupted, and where memory was refused. `room` is how
-/// many bytes of memory are asked for at once.
+/// Up to `most` bytes of a file from byte `from` on, fewer where the file ends before. `room` is how many bytes
+/// of memory are asked for at once. `None` where a read fails or is interrupted, and where memory was refused.
 pub fn fetch_from<F: PositionedFile>(
     alloc: Global,
     file: &F,
@@ -39,8 +38,8 @@ pub fn fetch_from<F: PositionedFile>(
     Some(all)
 }
 
-/// The part of this number, where each part has `size` bytes. `None` where the file ends within it, and where
-/// `fetch_from` gives `None`.
+/// Part `number` of a file that is cut into parts of `size` bytes, numbered from 0. `None` where the file ends
+/// within it, and where `fetch_from` gives `None`.
 pub fn fetch_part<F: PositionedFile>(
     alloc: Global,
     file: &F,
@@ -56,7 +55,8 @@ pub fn fetch_part<F: PositionedFile>(
     if part.len() == size { Some(part) } else { None }
 }
 
-/// The text of parts of `size` bytes each; `None` where one is missing, and where memory was refused.
+/// The text of parts of `size` bytes each, part 0 first; `None` where one is missing, and where memory was
+/// refused.
 pub fn put_together(alloc: Global, parts: Vec<Option<Vec<u8>>>, size: usize) -> Option<Text>
     requires { AreFull size parts.items }
     ensures bytes { IfSome result (λ text. (bytes : List ℕ) → AreParts size bytes parts.items

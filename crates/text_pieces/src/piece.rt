@@ -3,8 +3,8 @@
 use std::alloc::{AllocError, Global};
 use std::marker::Model;
 
-/// The bytes of a piece. The front of its memory may hold bytes that complete the last line of the piece
-/// before it and belong to that; removing them here would move all the others.
+/// One piece of a text. The front of its memory may hold bytes that complete the last line of the piece before
+/// and belong to it; removing them here would move all the others.
 #[derive(Debug, Drop)]
 pub struct Piece {
     memory: Vec<u8>,
@@ -25,7 +25,7 @@ impl Piece {
     ghost use Rattle.std.specs.Prelude.{◌≡◌, ℕ, ◌+◌, ◌≤◌, ◌<◌, ◌++◌, length, take, drop, slice_index, vec_len, IfOk};
     ghost use Rattle.text_pieces.specs.Pieces.{IsLines};
 
-    /// The bytes from a place on.
+    /// The piece with the bytes of `memory` from byte `from` on.
     pub fn new(memory: Vec<u8>, from: usize) -> Piece
         requires { from ≤ vec_len memory }
         ensures { result ≡ drop from memory.items }
@@ -33,19 +33,19 @@ impl Piece {
         Piece { memory, from }
     }
 
-    /// The bytes.
+    /// The bytes of the piece.
     pub fn as_slice(&self) -> &[u8]
         ensures { result.now ≡ self.now }
     {
         &self.memory[self.from..]
     }
 
-    /// Completes its last line from `more`, which follows it in the text, and returns how many bytes it
-    /// took: none if it ends with LF, all of them if `more` has no LF.
+    /// Completes the piece's last line from `more`, which follows it in the text, and returns how many bytes it
+    /// took: none if the piece ends with LF, all of them if `more` has no LF.
     ///
     /// # Errors
     ///
-    /// `AllocError` where memory was refused.
+    /// `AllocError` where memory was refused; what the piece is then is not known.
     pub fn complete(&mut self, more: &[u8]) -> Result<usize, AllocError>
         ensures within { IfOk result (λ count. count ≤ length more.now) }
         ensures bytes { IfOk result (λ count. self.new ≡ self.old ++ take count more.now) }

@@ -7,16 +7,17 @@ use std::io;
 use std::io::Read;
 use std::marker::Sync;
 
-/// A file of which several threads can read parts at the same time.
+/// A file whose parts several threads can read at the same time, each from an offset in bytes.
 pub trait PositionedFile: Read + Sync {
     // The bytes of the file, where they are known.
     ghost bytes: { Self → Option (List ℕ) };
 
-    /// How many bytes there are, as far as the system tells: a hint, on which no result depends. `None`
-    /// where the file has no positioned reads, such as a pipe or a device.
+    /// The number of bytes, as far as the system tells: a hint, on which no result depends. `None` where the
+    /// file has no positioned reads, such as a pipe or a device.
     fn size_hint(&self) -> Option<u64>;
 
-    /// Reads from an offset on, without moving that of `Read`, and returns how many bytes that was: 0 at the end.
+    /// Reads from byte `offset` on into `buffer` and returns how many bytes that was: 0 at the end. The
+    /// position of `Read` does not move.
     ///
     /// # Errors
     ///

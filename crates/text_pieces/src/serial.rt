@@ -17,7 +17,7 @@ pub enum FetchFault {
     /// 1,000 times.
     #[error("1 Read")]
     Read(ErrorKind),
-    /// 2: memory ran out.
+    /// 2: memory was refused.
     #[error("2 OutOfMemory")]
     OutOfMemory,
 }
@@ -43,9 +43,13 @@ const FIRST_ROOM: usize = 2_097_152;
 // How often a reader may be interrupted.
 const MOST_INTERRUPTIONS: u32 = 1000;
 
-/// The reader's bytes up to its end, or its first `most + 1` bytes where it has more than `most`
-/// (so that the caller sees that it has). After an error, how much of the reader was read is
-/// unknown.
+/// The reader's bytes up to its end, or its first `most + 1` bytes where it has more than `most` (so that the
+/// caller sees that it has).
+///
+/// # Errors
+///
+/// `Read` if a read fails or more than 1,000 are interrupted; `OutOfMemory` if memory was refused. How much of
+/// the reader was read is unknown then.
 pub fn fetch<R: Read>(alloc: Global, reader: &mut R, most: u64) -> Result<Vec<u8>, FetchFault>
     requires { most ≤ 134217728 }
     ensures bytes { IfOk result (λ v. (bytes : List ℕ) → R.remaining reader.old ≡ Some bytes →

@@ -15,16 +15,17 @@ use std::thread::Threads;
 /// making the threads.
 const LEAST_SHARED: u64 = 262_144;
 
-/// What `fetch` returns, as a text in pieces, fetched by the given number of workers. Any number will do: 0
-/// counts as 1, and more than 16 count as 16. A short file is fetched by one.
+/// A file's bytes as a text in pieces, fetched by several workers: the same bytes as with `fetch`. Any number
+/// of workers will do: 0 counts as 1, and more than 16 count as 16. A short file is fetched by one.
 ///
-/// Each worker reads a part into memory of its own. Whatever goes wrong with a part, one thread then
-/// fetches the file from its beginning: nothing was taken from the reader until then, so the faults are
-/// those of `fetch`. If the file is longer than the system reported, the rest is read too, up to the limit.
+/// Each worker reads a part into memory of its own. Whatever goes wrong with a part, one thread then fetches
+/// the file from its beginning: nothing was taken from the reader until then, so the faults are those of
+/// `fetch`. If the file is longer than the system reported, the rest is read too, up to the limit.
 ///
 /// # Errors
 ///
-/// `Read` if a read fails or more than 1,000 are interrupted; `OutOfMemory` if memory was refused.
+/// `Read` if a read fails or more than 1,000 are interrupted; `OutOfMemory` if memory was refused. How much of
+/// the file was read is unknown then.
 pub fn fetch_shared<F: PositionedFile, R: Threads + Sync>(
     rt: &R,
     alloc: Global,

@@ -1,4 +1,4 @@
-//! A text in pieces.
+//! A text that is held in pieces.
 
 use crate::piece::Piece;
 use std::alloc::{AllocError, Global};
@@ -39,8 +39,8 @@ impl Text {
         }
     }
 
-    /// Adds bytes at the end. Those that complete the last line join its piece; the others become a piece
-    /// of their own.
+    /// Adds bytes at the end. Those that complete the last line join its piece; the others become a piece of
+    /// their own.
     ///
     /// # Errors
     ///
@@ -56,7 +56,7 @@ impl Text {
         Ok(())
     }
 
-    /// Whether it has at most `most` bytes.
+    /// Whether the text has at most `most` bytes.
     pub fn is_within(&self, most: usize) -> bool
         ensures { (result ≡ true) ↔ (length self.now ≤ most) }
     {
@@ -71,7 +71,7 @@ impl Text {
         self.last.as_slice().len() <= left
     }
 
-    /// The pieces in order, cut after LFs.
+    /// The pieces in order, cut after LFs; together they are the text.
     ///
     /// # Errors
     ///

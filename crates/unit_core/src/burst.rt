@@ -1,5 +1,5 @@
-//! Work outside the lock: a unit is lent, a burst of its instructions is made on the copy, and the
-//! unit takes over the burst.
+//! Work outside the lock: a unit is lent, a burst of its instructions is made on the copy, and the unit takes
+//! the burst over.
 
 ghost use Rattle.std.specs.Prelude.{◌≡◌, ℕ, ◌<◌, ◌≤◌, [], length, None, IfSome, IfOk, IfErr, OnOk, OnErr, IsTrue, ◌↔◌, is_some, false};
 ghost use Rattle.mips_instructions.specs.Words.{has};
@@ -16,10 +16,10 @@ use mips_plain::outcome::OutOfMemory;
 use std::alloc::Global;
 use std::marker::Model;
 
-/// The maximum number of instructions in a burst.
+/// The most instructions of a burst.
 pub const MOST_STEPS: u32 = 65_536;
 
-/// A unit as it is, of its log only the length, lent with its program and certificate to make a burst on.
+/// A copy of a unit, with only the length of its log, lent with its program and certificate to make a burst on.
 #[derive(Drop)]
 pub struct Lease<'a> {
     accepted: &'a Accepted,
@@ -38,8 +38,8 @@ impl<'a> Model for Lease<'a> {
     ghost invariant = { λ l. IsPlaced l.accepted.now (active_of (unlogged l.state)) };
 }
 
-/// A unit before and after some steps: instructions, each register-only or a load of read-only data. What they
-/// read is the log of the unit after them; of the log before them it has only the length.
+/// A unit before and after a burst of instructions, each register-only or a load of read-only data. What they
+/// read is the log of the unit after them; of the log before them a burst has only the length.
 #[derive(Drop)]
 pub struct Burst<'a> {
     accepted: &'a Accepted,
@@ -133,9 +133,9 @@ fn run_to_send(accepted: &Accepted, unit: &mut Unit, most: u32) -> Stretch
 }
 
 impl<'a> Burst<'a> {
-    /// Executes at most `most` instructions on a lent unit, 1..=65,536, each a register-only one or a
-    /// load of read-only data. It ends early only where the unit has stopped, waits for a register or for
-    /// becoming the head, or where growth of the reads was refused; `ended` says which.
+    /// Executes at most `most` instructions, up to 65,536, on a lent unit, each a register-only one or a load
+    /// of read-only data. It ends early only where the unit has stopped, waits for a register or for becoming
+    /// the head, or where growth of the reads was refused; `ended` says which.
     pub fn run(lease: Lease<'a>, most: u32) -> Burst<'a>
         requires { most ≤ 65536 }
         ensures { IsBurstOn lease.entry most result }
@@ -145,7 +145,7 @@ impl<'a> Burst<'a> {
         burst
     }
 
-    /// A burst without a step on a lent unit.
+    /// A burst without instructions on a lent unit.
     pub fn new(lease: Lease<'a>) -> Burst<'a>
         ensures accepted { result.accepted ≡ lease.entry.accepted }
         ensures before { result.before ≡ lease.entry.unit }
@@ -162,9 +162,9 @@ impl<'a> Burst<'a> {
         }
     }
 
-    /// Becomes a burst without a step on a unit as it is, of its log only the length. The caller ensures that
-    /// the unit is one of this program and certificate. It reuses the place of an earlier burst and the room
-    /// of its reads, so it takes no memory, and nothing is moved.
+    /// Becomes a burst without instructions on a unit as it is, with only the length of its log. The unit is
+    /// one of this program and certificate. The burst reuses the memory of an earlier one and of its reads, so
+    /// it takes none, and nothing is moved.
     #[inline]
     pub fn begin(&mut self, accepted: &'a Accepted, unit: &Unit)
         requires { IsPlaced accepted.now (active_of unit.now) }
@@ -181,8 +181,8 @@ impl<'a> Burst<'a> {
         self.ended = None;
     }
 
-    /// Like `run`, executes at most `most` instructions, 1..=65,536, but on the unit of a burst without a step
-    /// instead of a lent one.
+    /// Like `run`, executes at most `most` instructions, up to 65,536, but on the unit of a burst without
+    /// instructions instead of a lent one.
     pub fn go(&mut self, most: u32)
         requires few { most ≤ 65536 }
         requires none { self.old.steps ≡ 0 }
@@ -195,8 +195,8 @@ impl<'a> Burst<'a> {
         self.ended = made.ended;
     }
 
-    /// Like `go`, but it ends also right after an instruction that sends a register for the first time, so that
-    /// the successor gets it soon; then it has no reason.
+    /// Like `go`, but the burst ends also right after an instruction that sends a register for the first time,
+    /// so that the successor gets it soon; then `ended` is `None`.
     pub fn go_to_send(&mut self, most: u32)
         requires few { most ≤ 65536 }
         requires none { self.old.steps ≡ 0 }
@@ -217,7 +217,7 @@ impl<'a> Burst<'a> {
         self.accepted
     }
 
-    /// The unit as it was lent, of its log only the length.
+    /// The unit as it was lent, with only the length of its log.
     #[inline]
     pub fn before(&self) -> &UnitState
         ensures unit { unlogged result.now ≡ self.now.before }
@@ -226,7 +226,7 @@ impl<'a> Burst<'a> {
         &self.before
     }
 
-    /// How many instructions were executed, at most 65,536.
+    /// The number of instructions executed, at most 65,536.
     #[inline]
     pub fn steps(&self) -> u32
         ensures value { result ≡ self.now.steps }
@@ -235,8 +235,9 @@ impl<'a> Burst<'a> {
         self.steps
     }
 
-    /// Why it has fewer steps than were asked for: what refuses the unit after them the next one. `None` where
-    /// it has as many as were asked for, where it ended at a first send, and where none were asked for yet.
+    /// Why the burst has fewer instructions than were asked for: what refuses the unit after them the next one.
+    /// `None` where it has as many as were asked for, where it ended at a first send, and where none were asked
+    /// for yet.
     #[inline]
     pub fn ended(&self) -> Option<Wait>
         ensures value { result ≡ self.now.ended }
@@ -245,7 +246,7 @@ impl<'a> Burst<'a> {
         self.ended
     }
 
-    /// The unit after these instructions; its reads are theirs.
+    /// The unit after these instructions; its log has their reads alone.
     #[inline]
     pub fn after(&self) -> &Unit
         ensures { result.now ≡ self.now.after }
@@ -255,8 +256,8 @@ impl<'a> Burst<'a> {
 }
 
 impl Unit {
-    /// Lends the unit as it is, of its log only the length. The caller ensures that the unit is one of this
-    /// program and certificate. Takes no memory, and costs the same however long the log is.
+    /// Lends the unit as it is, with only the length of its log. The unit is one of this program and
+    /// certificate. Takes no memory, and costs the same however long the log is.
     pub fn lease<'a>(&self, accepted: &'a Accepted) -> Lease<'a>
         requires { IsPlaced accepted.now (active_of self.now) }
         ensures accepted { result.accepted ≡ accepted.now }
@@ -270,14 +271,15 @@ impl Unit {
         }
     }
 
-    /// Takes over a burst and returns its number of steps: their reads are appended to its log, and
-    /// what arrived since it was lent stays arrived. Returns 0, and changes nothing, exactly where the
-    /// burst has no step, or the unit is not as it was lent, apart from registers that arrived since. Of the
+    /// Takes over a burst and returns its number of instructions: their reads are appended to the log, and what
+    /// arrived since the unit was lent stays arrived. Returns 0, and changes nothing, exactly where the burst
+    /// has no instruction, or the unit is not as it was lent, apart from registers that arrived since. Of the
     /// log the length is compared: in one machine a serial number and a length tell a log.
     ///
     /// # Errors
     ///
-    /// `OutOfMemory` where the reads find no room; the burst is handed back and nothing is changed then.
+    /// `OutOfMemory` where memory was refused for the reads; the burst is handed back and nothing is changed
+    /// then.
     pub fn take<'a>(&mut self, mut burst: Burst<'a>) -> Result<u32, (Burst<'a>, OutOfMemory)>
         ensures taken { IfOk result (λ steps. 0 < steps → (steps ≡ burst.entry.steps)
             × HasMore (active_of burst.entry.before) burst.entry.reads (active_of self.old)
@@ -299,14 +301,13 @@ impl Unit {
         }
     }
 
-    /// Continues as the unit of a burst did: its reads are appended to the log, and what arrived stays
-    /// arrived. The burst is left without a step, to be made on the unit as it is now. The caller ensures that
-    /// the unit is as it was lent, apart from registers that arrived since. If there are many reads, they are
-    /// moved, not copied.
+    /// Continues as the unit of a burst did: its reads are appended to the log, and what arrived stays arrived.
+    /// The burst is left without instructions, to be made on the unit as it is now. The unit is as it was lent,
+    /// apart from registers that arrived since. If there are many reads, they are moved, not copied.
     ///
     /// # Errors
     ///
-    /// `OutOfMemory` where the reads find no room; nothing is changed then.
+    /// `OutOfMemory` where memory was refused for the reads; nothing is changed then.
     pub fn carry_on(&mut self, burst: &mut Burst<'_>) -> Result<(), OutOfMemory>
         ensures ok { OnOk result (active_of self.new ≡ carried_on (active_of burst.old.after) (active_of self.old)) }
         ensures emptied { OnOk result (burst.new.steps ≡ 0) }
@@ -328,7 +329,7 @@ impl Unit {
     ///
     /// # Errors
     ///
-    /// `OutOfMemory` where the reads find no room; nothing is changed then.
+    /// `OutOfMemory` where memory was refused for the reads; nothing is changed then.
     pub fn go_on_from(&mut self, burst: &mut Burst<'_>) -> Result<(), OutOfMemory>
         ensures ok { OnOk result (active_of self.new ≡ carried_on (active_of burst.old.after) (active_of self.old)) }
         ensures err { OnErr result ((self.new ≡ self.old) × (burst.new ≡ burst.old)) }

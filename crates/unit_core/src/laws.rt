@@ -10,8 +10,8 @@ ghost use Rattle.machine_model.specs.declared.event.Spot.TheVariants.{Inside};
 ghost use Rattle.unit_core.specs.Units.{IsPlaced};
 ghost use Rattle.unit_core.specs.SentRegisters.{KeepsSent, SentStays};
 
-/// What stays true of a unit's sent registers: where none of them is in the mask of the unit's place, that
-/// holds after each Exec too, whatever its operands and memory are, and each keeps its value.
+/// Law: where none of a unit's sent registers is in the mask of the unit's place, this holds after each Exec
+/// too, whatever its operands and memory are, and each keeps its value.
 pub fn sent_registers_kept()
     ensures { (c : Checked) → IsWellFormed c.program → IsAccepted c.program c.cert → (u : Active) → IsPlaced c u → KeepsSent c u
         → (index : ℕ) (m : Marked) (a b : ℕ) (memory : ℕ → ℕ) → u.place ≡ Inside index → slice_get c.program.code index ≡ Some m

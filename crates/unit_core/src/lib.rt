@@ -1,5 +1,6 @@
-//! The units of the multiscalar processor: one executes one task, instruction by instruction (Sohi,
-//! Breach, Vijaykumar, ISCA 1995, section 2).
+//! The units of the multiscalar processor: each executes one task, instruction by instruction.
+//! It waits for registers, sends others, and leaves memory to the head (Sohi, Breach, Vijaykumar, "Multiscalar
+//! Processors", ISCA 1995, section 2).
 #![tactic(auto)]
 
 pub mod burst;

@@ -14,7 +14,7 @@ const SHORT: usize = 1_000;
 /// The maximum number of reads in closed chunks: no vector has room for more.
 const MOST: usize = usize::MAX / 2;
 
-/// What instructions read, oldest first: some closed chunks, which stay as they are, and after them
+/// What a unit's instructions read, oldest first: some closed chunks, which stay as they are, and after them
 /// the current one, to which reads are pushed.
 #[derive(Debug, Drop)]
 pub struct ReadLog {
@@ -55,7 +55,7 @@ impl ReadLog {
         *self.current.allocator()
     }
 
-    /// Drops all its reads, but keeps the room of the current chunk.
+    /// Drops all reads, but keeps the memory of the current chunk.
     pub fn clear(&mut self)
         ensures { self.new.reads ≡ [] }
     {
@@ -64,7 +64,7 @@ impl ReadLog {
         self.current.clear();
     }
 
-    /// The number of its reads.
+    /// The number of reads.
     #[inline]
     pub fn len(&self) -> usize
         ensures { result ≡ length self.now.reads }
@@ -72,7 +72,7 @@ impl ReadLog {
         self.closed_len + self.current.len()
     }
 
-    /// Its reads as they lie in memory: the closed chunks in order, then the last one.
+    /// The reads as they lie in memory: the closed chunks in order, then the current one.
     pub fn chunks(&self) -> (&[Vec<Read>], &[Read])
         ensures { self.now.reads ≡ flat_map (λ c. c.items) result.0.now ++ result.1.now }
     {
@@ -83,7 +83,7 @@ impl ReadLog {
     ///
     /// # Errors
     ///
-    /// `AllocError` where the growth is refused; nothing is changed then.
+    /// `AllocError` where memory was refused; the reads are as they were.
     #[inline]
     pub fn reserve(&mut self, count: usize) -> Result<(), AllocError>
         ensures reads { self.new.reads ≡ self.old.reads }
@@ -101,12 +101,12 @@ impl ReadLog {
         self.current.push_reserved(read);
     }
 
-    /// Appends the reads of another log to its own and empties the other. Only short logs are copied:
-    /// the chunks of a long one are moved, and a log without reads is swapped with the other.
+    /// Appends the reads of another log and empties the other. Only short logs are copied: the chunks of a long
+    /// one are moved, and a log without reads is swapped with the other.
     ///
     /// # Errors
     ///
-    /// `OutOfMemory` where a growth is refused; nothing is changed then.
+    /// `OutOfMemory` where memory was refused; both logs have the reads that they had.
     pub fn append(&mut self, other: &mut ReadLog) -> Result<(), OutOfMemory>
         ensures reads { OnOk result (self.new.reads ≡ self.old.reads ++ other.old.reads) }
         ensures emptied { OnOk result (other.new.reads ≡ []) }

@@ -1,4 +1,4 @@
-//! What a unit holds, of its log only the length.
+//! The state of a unit, with only the length of its log.
 
 ghost use Rattle.std.specs.Prelude.{◌≡◌};
 ghost use Rattle.unit_core.specs.Units.{unlogged};
@@ -7,8 +7,8 @@ use machine_model::event::Spot;
 use register_ring::held::RegisterWords;
 use register_ring::port::Port;
 
-/// What a unit holds, of its log only the length: its task and serial number, its place, what arrived and what
-/// it sent, what it wrote itself, and how much it has read. A burst is made on a copy of it.
+/// The state of a unit, with only the length of its log: its task and serial number, its place, what arrived
+/// and what it sent, what it wrote itself, and how much it has read. A burst is made on a copy of it.
 #[derive(Clone, Copy, Debug)]
 pub struct UnitState {
     pub(crate) task: u32,
@@ -20,7 +20,7 @@ pub struct UnitState {
 }
 
 impl UnitState {
-    /// The number of its task.
+    /// The number, from 0, of the unit's task.
     #[inline]
     pub fn task(&self) -> u32
         ensures { result ≡ (unlogged self.now).task }
@@ -28,7 +28,7 @@ impl UnitState {
         self.task
     }
 
-    /// Its serial number.
+    /// The unit's serial number, which tells it from other units of the same task.
     #[inline]
     pub fn serial(&self) -> u32
         ensures { result ≡ (unlogged self.now).serial }

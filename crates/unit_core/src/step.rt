@@ -52,13 +52,18 @@ pub(crate) struct Operands {
     pub(crate) effect: Effect,
 }
 
-/// The instruction that a unit executes next: its index and address, and its operands.
+/// The instruction that a unit executes next, with its operands.
 #[derive(Clone, Copy)]
 pub struct Next<'a> {
+    /// Its code index.
     pub index: u32,
+    /// Its address in bytes.
     pub pc: u32,
+    /// The instruction with its marks.
     pub marked: &'a Marked,
+    /// The word of operand a, 0 where it has none.
     pub a: u32,
+    /// The word of operand b, 0 where it has none.
     pub b: u32,
 }
 
@@ -99,7 +104,8 @@ pub(crate) fn waits_for_operands(op: &Op) -> bool
     !matches!(*op, Op::Release(_))
 }
 
-/// The registers that an instruction with these destinations sends.
+/// The registers that an instruction with these destinations sends: its destinations if it has the forward bit,
+/// and those that a `release` names.
 #[inline]
 pub fn sends_of(marked: &Marked, dests: RegSet) -> RegSet
     requires { (r : ℕ) → has dests r ≡ dests_of marked.now.op r }
@@ -150,7 +156,7 @@ fn load_by_operation(op: &Op, a: u32, fixed: &[u8]) -> Result<Option<u32>, Wait>
     }
 }
 
-/// Where a unit stands after an instruction.
+/// The place of a unit after an instruction: before the next one of its task, or stopped.
 #[inline(always)]
 pub fn spot_after(next: &Next<'_>) -> Spot
     requires { next.now.index < 4096 }
@@ -284,7 +290,7 @@ pub(crate) fn write(local: &mut RegisterWords, next: &Next<'_>, dests: RegSet, l
     }
 }
 
-/// Writes what an instruction computes or has loaded to each register of a set.
+/// Writes what an instruction computes or has loaded to each register of `dests`, its destinations.
 pub fn write_each(local: &mut RegisterWords, next: &Next<'_>, dests: RegSet, loaded: Option<u32>)
     requires { (r : ℕ) → has dests r ≡ dests_of next.now.marked.now.op r }
     ensures { pairs local.new ≡ with_own (writes next.now.marked.now.op next.now.a next.now.b next.now.pc loaded) (pairs local.old) }
@@ -298,7 +304,8 @@ pub fn write_each(local: &mut RegisterWords, next: &Next<'_>, dests: RegSet, loa
     }
 }
 
-/// The value of a register: 0 for register 0, else the unit's own write, else what arrived.
+/// A unit's value of a register: 0 for register 0, else its own last write, else what arrived; `None` where it
+/// has none yet.
 #[inline(always)]
 pub fn value_of(local: &RegisterWords, port: &Port, register: Reg) -> Option<u32>
     ensures { result ≡ value_in (pairs local.now) (arrived_of port.now) register }
@@ -312,7 +319,7 @@ pub fn value_of(local: &RegisterWords, port: &Port, register: Reg) -> Option<u32
     }
 }
 
-/// Sends each register of a set with its value; one that was sent stays as it was.
+/// Sends each register of a set with its value; one that was sent before stays as it was.
 #[inline(never)]
 pub fn send_each(port: &mut Port, local: &RegisterWords, set: RegSet)
     ensures sent { sent_of port.new ≡ sent_with (has set) (value_in (pairs local.now) (arrived_of port.old)) (sent_of port.old) }

@@ -5,8 +5,8 @@ use mips_plain::outcome::OutOfMemory;
 use std::alloc::AllocError;
 use thiserror::Error;
 
-/// Why a unit does not execute its next instruction. The first that holds, in this order, is
-/// returned; nothing is changed.
+/// Why a unit does not execute its next instruction; where several hold, the one with the least number. Nothing
+/// is changed.
 #[derive(Clone, Copy, Debug, PartialEq, Eq, Error)]
 pub enum Wait {
     /// 1: it has stopped.
@@ -19,7 +19,7 @@ pub enum Wait {
     /// than a load of read-only data.
     #[error("3 NotHead")]
     NotHead,
-    /// 4: growth of the log or of the output was refused.
+    /// 4: memory was refused for the log or the output.
     #[error("4 OutOfMemory")]
     OutOfMemory,
 }
@@ -46,8 +46,8 @@ impl From<OutOfMemory> for Wait {
     }
 }
 
-/// Why a unit does not send a register at its end. The first that holds, in this order, is
-/// returned; nothing is changed.
+/// Why a unit does not send a register after its stop; where several hold, the one with the least number.
+/// Nothing is changed.
 #[derive(Clone, Copy, Debug, PartialEq, Eq, Error)]
 pub enum DrainFault {
     /// 1: the register is not in the create mask of the unit's task.

@@ -7,14 +7,14 @@ use mips_plain::outcome::OutOfMemory;
 use std::alloc::Global;
 use std::marker::Model;
 
-/// Memory, the output, and how the run stands.
+/// What the head alone changes: memory, the output, and the run's outcome.
 #[derive(Debug, Drop)]
 pub struct World {
     /// Data memory and read-only data.
     pub memory: Memory,
-    /// The words that were output, oldest first.
+    /// The words that `out` has appended, oldest first.
     pub output: Vec<u32>,
-    /// How the run stands.
+    /// Whether the run continues or how it ended.
     pub outcome: Standing,
 }
 
@@ -32,7 +32,8 @@ impl World {
     ghost use Rattle.unit_core.specs.ExecParts.{CarriesOut, CarriesOutLoad, IsAddress};
     ghost use Rattle.machine_model.specs.declared.event.Standing.TheVariants.{Running};
 
-    /// A world with this memory, in which nothing was output and the run has not ended. Takes no memory.
+    /// A world with this memory, an empty output and a run that has not ended. Takes no memory from the
+    /// allocator.
     pub fn new(alloc: Global, memory: Memory) -> World
         ensures contents { result.contents ≡ memory }
         ensures output { result.output ≡ [] }
@@ -52,14 +53,14 @@ impl World {
         &self.memory
     }
 
-    /// The words that were output, oldest first.
+    /// The words that `out` has appended, oldest first.
     pub fn output(&self) -> &[u32]
         ensures { result.now ≡ self.now.output }
     {
         &self.output
     }
 
-    /// How the run stands.
+    /// Whether the run continues or how it ended.
     #[inline]
     pub fn outcome(&self) -> Standing
         ensures { result ≡ self.now.outcome }
@@ -125,7 +126,7 @@ impl World {
         }
     }
 
-    /// Ends the run.
+    /// Ends the run in this way.
     pub fn end(&mut self, outcome: Standing)
         ensures { self.new ≡ record self.old { outcome = outcome } }
     {

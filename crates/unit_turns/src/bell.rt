@@ -1,4 +1,4 @@
-//! What a worker with nothing to do waits for.
+//! Bells, by which a worker with nothing to do is woken.
 
 use std::sync::atomic::{AtomicU64, Ordering};
 use std::sync::{Condvar, MutexGuard, Wait};
@@ -11,17 +11,17 @@ const LOOKS: u32 = 200;
 /// How often it does so before it sleeps.
 const ROUNDS: u32 = 50;
 
-/// What can be rung. Nothing is known of `is_rung` but that `ring` establishes it, so a contract that states it, of code
-/// that is proved for each implementation, says that this bell was rung.
+/// A bell that can be rung. Nothing is known of `is_rung` but that `ring` establishes it, so a contract that
+/// states it, of code that is proved for each implementation, says that this bell was rung.
 pub trait Ring {
     ghost is_rung: { Self → Type 0 };
 
-    /// Rings, for whoever waits.
+    /// Rings, for each worker that waits.
     fn ring(&self)
         ensures { is_rung self.now };
 }
 
-/// What a worker with nothing to do waits for.
+/// A bell for a worker with nothing to do: it counts its rings, and wakes a worker that sleeps.
 #[derive(Drop)]
 pub struct Bell {
     rings: AtomicU64,
@@ -37,12 +37,12 @@ impl Bell {
         }
     }
 
-    /// How often it has rung.
+    /// The number of times that the bell has rung.
     pub fn rings(&self) -> u64 {
         self.rings.load(Ordering::SeqCst)
     }
 
-    /// Looks for a while, without the lock, whether it has rung more than the given number of times.
+    /// Waits, but only for a while and without the lock, until the bell has rung more than `heard` times.
     pub fn listen(&self, heard: u64) {
         for _ in 0..ROUNDS {
             if self.rings_soon(heard) {
@@ -63,7 +63,7 @@ impl Bell {
         false
     }
 
-    /// Sleeps until it rings, or wakes earlier for no reason; the lock is free meanwhile.
+    /// Sleeps until the bell rings, or wakes earlier for no reason; the lock is free meanwhile.
     pub fn sleep<'l, T, R: Wait>(&self, rt: &R, guard: MutexGuard<'l, T>) -> MutexGuard<'l, T> {
         self.sleeper.wait(rt, guard)
     }

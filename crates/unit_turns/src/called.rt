@@ -25,7 +25,7 @@ impl Called {
     ghost use Rattle.std.specs.Prelude.{◌≡◌, ℕ, ◌<◌, true, false, IsTrue, ◌↔◌, replicate, slice_set, slice_get, Some};
     ghost use Rattle.unit_turns.specs.Bells.{RingsFor};
 
-    /// No worker.
+    /// No workers.
     pub fn none() -> Called
         ensures { result ≡ replicate 16 false }
     {
@@ -34,7 +34,7 @@ impl Called {
         }
     }
 
-    /// Adds a worker.
+    /// Adds the worker of this number, 0..=15.
     pub fn add(&mut self, worker: u32)
         requires { worker < 16 }
         ensures value { self.new ≡ slice_set self.old worker true }
@@ -44,14 +44,14 @@ impl Called {
         self.is_called[worker as usize] = true;
     }
 
-    /// Whether a worker is among them.
+    /// Whether the worker of this number is among them.
     pub fn has(&self, worker: u32) -> bool
         ensures { IsTrue result ↔ (slice_get self.now worker ≡ Some true) }
     {
         is_called_at(&self.is_called, worker as usize)
     }
 
-    /// Rings for each of them: the bell at the place of its number.
+    /// Rings for each of them: the bell at the index of its number.
     pub fn ring<B: Ring>(self, bells: &[B])
         ensures { RingsFor B.is_rung self bells.now }
     {

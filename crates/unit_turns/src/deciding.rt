@@ -22,13 +22,14 @@ use sequencer::machine::Machine;
 /// of the head: with more, the units ahead of the head pause.
 const MOST_AHEAD: u64 = 65_536;
 
-/// What the worker of a unit of the ring does next. The head does the event that it is ready for. A unit
-/// ahead of it takes a register, squashes the units after it, sends a register or executes, whichever is the
-/// first that the machine allows. The free unit after the tail takes the task that may follow, or asks for a
-/// choice. An instruction that needs nothing but registers and read-only data is executed in a burst, ahead
-/// of the head only while at most 65,536 + 2 h instructions besides h were executed, h being those of
-/// the retired tasks and of the head: so no wrong path uses up the history. All else waits. An event that is
-/// named is allowed and belongs to the unit; so does each that may be chosen. Takes no memory.
+/// What the worker of the unit with this number on the ring does next. The head does the event that it is ready
+/// for. A unit after it in the queue takes a register, squashes the units after it, sends a register or
+/// executes, whichever is the first that the machine allows. The free unit after the tail takes the task that
+/// may follow, or asks for a choice. An instruction that needs nothing but registers and read-only data is
+/// executed in a burst, ahead of the head only while at most 65,536 + 2 h instructions besides h were executed,
+/// h being the instructions of the retired tasks and of the head: so no wrong path uses up the history. All
+/// else waits. An event that is named is allowed and belongs to the unit; so does each that may be chosen.
+/// Takes no memory.
 pub fn turn(machine: &Machine<'_>, unit: u32) -> Turn
     ensures own { IsTurn machine.now unit result }
     ensures value { result ≡ turn_of machine.now unit }
@@ -46,7 +47,7 @@ pub fn turn(machine: &Machine<'_>, unit: u32) -> Turn
     }
 }
 
-/// What `turn` answers for the unit at position 0: the one to which the head event belongs.
+/// The answer of `turn` for the unit at position 0: the one to which the head event belongs.
 #[inline]
 pub fn turn_at_head(machine: &Machine<'_>, unit: u32) -> Turn
     requires { unit_for machine.now (Exec 0) ≡ unit }

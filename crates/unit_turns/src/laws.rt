@@ -17,7 +17,7 @@ ghost use Rattle.unit_turns.specs.declared.turn.Turn.TheVariants.{Wait};
 use machine_model::laws::events_count;
 use sequencer::machine::Machine;
 
-/// Some unit can act: while the run continues and the history has room, the unit at position 0 does not
+/// Law: some unit can act: while the run continues and the history has room, the unit at position 0 does not
 /// wait, whatever the other units do. It is the head, or on an empty queue the unit that takes the next task.
 pub fn law_goes_on(machine: &Machine<'_>)
     ensures { (state machine.now).outcome ≡ standing.Running → length machine.now.history < most_events → turn_of machine.now (unit_for machine.now (Exec 0)) ≡ Wait → ⊥ }
@@ -26,8 +26,8 @@ pub fn law_goes_on(machine: &Machine<'_>)
     let _ = machine.head_event();
 }
 
-/// What a unit waits for: while the run continues and the history has room, nothing is allowed of a unit that
-/// waits but a Drop, or ahead of the head its Exec, where it pauses. A register's number is below 34.
+/// Law: while the run continues and the history has room, nothing is allowed of a unit that waits but a Drop,
+/// or ahead of the head its Exec, where it pauses. A register's number is below 34.
 pub fn law_waits(machine: &Machine<'_>)
     ensures { (unit : ℕ) (e : Event) → (state machine.now).outcome ≡ standing.Running → turn_of machine.now unit ≡ Wait → NamesRegister e → IsOwn machine.now unit e → MayWait machine.now e }
 {
@@ -37,16 +37,16 @@ pub fn law_waits(machine: &Machine<'_>)
     let _ = machine.choice(0);
 }
 
-/// The head event belongs to the unit at position 0.
+/// Law: the head event belongs to the unit at position 0.
 pub fn law_head_unit(machine: &Machine<'_>)
     ensures { (e : Event) → head_event machine.now.accepted.program (state machine.now) ≡ Some e → unit_for machine.now e ≡ unit_for machine.now (Exec 0) }
 {
     let _ = machine.length();
 }
 
-/// What the first allowed of some events is: the first event, where nothing refuses it, else that of the
-/// others; of two lists that of the first one, else that of the other; of an event for each register that of
-/// the least register. What the machine allows, nothing refuses.
+/// Law: the first allowed of some events is the first event, where nothing refuses it, else the first of the
+/// others; of two lists the first list's, else the other's; of an event for each register the least register's.
+/// What the machine allows, nothing refuses.
 pub fn law_first_allowed()
     ensures takes { TakesAllowed }
     ensures skips { SkipsRefused }
@@ -64,7 +64,7 @@ pub(crate) fn law_own_event(machine: &Machine<'_>)
     machine.law_answers();
 }
 
-/// The queue is no longer than the ring.
+/// Law: the queue is no longer than the ring.
 pub fn law_ring(machine: &Machine<'_>)
     ensures { length (state machine.now).queue ≤ units_of machine.now }
 {

@@ -1,5 +1,5 @@
-//! What the worker of a unit does next: one function of the machine and the number of the unit. Also the runner that
-//! lets the units take turns in steps, and the bells by which workers wake each other.
+//! What the worker of a unit does next: one function of the machine and the number of the unit on the ring.
+//! Also the runner that lets the units take turns in steps, and the bells by which workers wake each other.
 #![tactic(auto)]
 
 pub mod bell;

@@ -2,14 +2,14 @@
 
 use sequencer::predict::Script;
 
-/// Which target is followed after a task that has not stopped.
+/// The predictor of a run in steps: which target is followed after a task that has not stopped.
 #[derive(Debug, Drop)]
 pub enum Predictor {
-    /// The first one.
+    /// The first target.
     First,
-    /// The last one.
+    /// The last target.
     Last,
-    /// The one at the position that a list gives, modulo the number of targets; the list is used
-    /// over and over.
+    /// The target at the position that a list gives, modulo the number of targets; the list is used over and
+    /// over.
     Script(Script),
 }

@@ -1,9 +1,9 @@
-//! What a run in steps leaves.
+//! The report of a run in steps.
 
 use sequencer::machine::Machine;
 use thiserror::Error;
 
-/// Why there is no report of a run.
+/// Why there is no report of a run; where several hold, the first.
 #[derive(Clone, Copy, Debug, PartialEq, Eq, Error)]
 pub enum StepsFault {
     /// 1: not 1 to 16 units.
@@ -17,7 +17,7 @@ pub enum StepsFault {
     OutOfMemory,
 }
 
-/// How a run ended.
+/// How a run in steps ended.
 #[derive(Clone, Copy, Debug, PartialEq, Eq)]
 pub enum StepsEnd {
     /// The machine ended: it halted, trapped or continued at an address that is not listed.
@@ -26,13 +26,13 @@ pub enum StepsEnd {
     OutOfBudget,
 }
 
-/// What a run in steps leaves.
+/// The machine that a run in steps leaves, how the run ended and how long it was.
 #[derive(Drop)]
 pub struct StepsReport<'a> {
     /// The machine after the last step.
     pub machine: Machine<'a>,
-    /// How the run ended.
+    /// Whether the run ended or the budget was used up.
     pub how: StepsEnd,
-    /// How many steps the run took. The budget may have cut the last one short.
+    /// The number of steps. The budget may have cut the last one short.
     pub steps: u32,
 }

@@ -18,13 +18,14 @@ use mark_checker::accept::Accepted;
 use sequencer::machine::Machine;
 use std::alloc::{AllocError, Global};
 
-/// Runs the accepted program on a machine with the given number of units, 1 to 16, in steps, until the run has ended or
-/// the history has `budget` events, 1 to 1,000,000. In a step each unit does at most one event. The same program,
-/// units, budget and predictor give the same events, output and number of steps.
+/// Runs the accepted program on a machine with 1 to 16 units, in steps, until the run has ended or the history
+/// has `budget` events, 1 to 1,000,000. In a step each unit does at most one event. The same program, units,
+/// budget and predictor give the same events, output and number of steps.
 ///
 /// # Errors
 ///
-/// `Units`, `Budget` and `OutOfMemory`, in this order. After any of these the predictor and the machine are gone.
+/// `Units` exactly where there are not 1 to 16 units, else `Budget` exactly where the budget is not 1 to
+/// 1,000,000, else `OutOfMemory` where memory was refused. The predictor and the machine are gone then.
 pub fn run_steps<'a>(
     alloc: Global,
     accepted: &'a Accepted,
@@ -50,12 +51,12 @@ pub fn run_steps<'a>(
     }
 }
 
-/// Runs the accepted program in steps, as `run_steps` does, on a machine of this many units, up to this many
+/// Runs the accepted program in steps, as `run_steps` does, on a machine of so many units, up to so many
 /// events.
 ///
 /// # Errors
 ///
-/// `AllocError` where memory was refused. Then the predictor and the machine are gone.
+/// `AllocError` where memory was refused; the predictor and the machine are gone then.
 pub fn run_steps_on<'a>(
     alloc: Global,
     accepted: &'a Accepted,

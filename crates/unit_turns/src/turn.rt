@@ -2,7 +2,7 @@
 
 use machine_model::event::Event;
 
-/// What a worker does next for one of its units, under the lock.
+/// The next act of a worker for one of its units, under the lock.
 #[derive(Clone, Copy, Debug, PartialEq, Eq)]
 pub enum Turn {
     /// Applies this event, which is allowed and belongs to the unit.
@@ -12,6 +12,6 @@ pub enum Turn {
     Choose,
     /// Makes a burst: the unit's next instruction needs nothing but its registers and read-only data.
     Burst,
-    /// Nothing, until the machine has changed.
+    /// Does nothing until the machine has changed.
     Wait,
 }

@@ -1,5 +1,5 @@
 -- Events applied one after the other, each allowed where it comes.
-use Rattle.std.proofs.Common.{◌≡◌, ℕ, ◌+◌, ◌<◌, ◌≤◌, List, [], ◌∷◌, ◌++◌, length, take, drop, get_or, refl, sym, ap, subst, ◌∙◌, arith, add-one, append-nil, length-append, drop-cons}
+use Rattle.std.proofs.Common.{◌≡◌, ℕ, ◌+◌, ◌<◌, ◌≤◌, List, [], ◌∷◌, ◌++◌, length, take, drop, get_or, refl, sym, ap, subst, ◌∙◌, arith, add-one, append-nil, drop-cons}
 use Rattle.std.proofs.Math.Seq.{take-add, take-append_seam}
 use Rattle.std.proofs.lemmas.List.{take_all, take-append-drop}
 use Rattle.std.proofs.lemmas.List.Sums.{fold-append}
@@ -11,7 +11,7 @@ use Rattle.machine_model.specs.Replay.{ReplaysFrom}
 use Rattle.machine_model.specs.Step.{Next}
 use Rattle.machine_model.specs.declared.event.Event.{Event}
 use Rattle.mark_checker.specs.Places.{Checked}
-use Rattle.sequencer.specs.Machines.{MachineView, Applies, SameRing, state, units_of}
+use Rattle.sequencer.specs.Machines.{MachineView, SameRing, state, units_of}
 use Rattle.unit_waits.specs.Waits.{after_all}
 
 -- what a replay leaves
@@ -92,14 +92,6 @@ pub one_allowed : NextIsAfter → (old m : MachineView) (all : List Event) (i : 
 one_allowed law old m all i e within there has whole =
     let h = next_allowed law old m all (e ∷ []) (drop (i + 1) all) i has (next_of all i e within there) whole in
     (h.1.0, h.1.1)
-
-pub one_applied : NextIsAfter → (old m m' : MachineView) (all : List Event) (i : ℕ) (e : Event) → i < length all → e ≡ get_or all i e → HasApplied old all i m
-    → Applies m e m' → SameRing m m' → HasApplied old all (i + 1) m'
-one_applied law old m m' all i e within there has applies ring =
-    more_applied old m m' all (e ∷ []) (drop (i + 1) all) i has (next_of all i e within there)
-    (law m.accepted.program (units_of m) (state m) (state m') e applies.next)
-    (ap (λ (es : List Event). length es) applies.history ∙ length-append m.history (e ∷ []))
-    ring
 
 -- ---- all of them
 

@@ -3,5 +3,4 @@ pub mod Walking
 pub mod Applying
 pub mod Stepping
 pub mod Counting
-pub mod Ranges
 pub mod Masks

@@ -60,9 +60,13 @@ fn add_all(counts: &mut Vec<Count>, waits: &[Waiting]) -> Result<(), AllocError>
     Ok(())
 }
 
-/// The waits in the steps of a history of `units` units, 1 to 16, at the start of an accepted program: those of one
-/// task, at one place and for one reason counted together, ordered by the first of each. Each event
-/// of the history is allowed where it comes, and there are at most 1,000,000. The error means that memory was refused.
+/// The waits in the steps of a history of `units` units, 1 to 16, at the start of an accepted program, counted: those of
+/// one task, at one place and for one reason together, ordered by the first of each. Each event of the history is allowed
+/// when it occurs, and there are at most 1,000,000.
+///
+/// # Errors
+///
+/// `AllocError` where memory was refused.
 pub fn count_waits(
     alloc: Global,
     accepted: &Accepted,

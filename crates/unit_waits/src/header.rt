@@ -7,7 +7,7 @@ use task_descriptor::program::Program;
 
 /// What the numbers mean.
 const LEGEND: &str = "$version multiscalar $end
-$comment one unit of time is one step; a value is that with which the step begins $end
+$comment one unit of time is one step, which step numbers from 1; a value is that with which the step begins $end
 $comment state: 0 free, 1 inside its task, 2 stopped $end
 $comment waits: 0 no, 1 needs a register that is not sent, 2 needs a register on its way, 3 needs to be the head, 4 has to pass a register on, 5 has finished $end
 $comment arrived, sent: bit r is register r, 32 is HI, 33 is LO $end
@@ -22,9 +22,16 @@ $var integer 32 2 C $end
 $var integer 32 3 H $end
 $var integer 32 4 words $end
 $var integer 32 5 word $end
+$var integer 32 step step $end
 ";
 
-/// Adds the header of a dump for a program on `units` units. The identifier of a signal is its number.
+/// How many signals the ring has that are numbered.
+pub(crate) const RING_SIGNALS: usize = 6;
+
+/// How many numbered signals a unit has, its task the first of them.
+pub(crate) const PER_UNIT: usize = 7;
+
+/// Adds the header of a dump for a program on `units` units. The identifier of a signal is its number, but for the step and the names of tasks.
 pub(crate) fn write_header(
     text: &mut String,
     program: &Program,
@@ -63,6 +70,7 @@ fn write_unit(text: &mut String, unit: u32) -> Result<(), AllocError>
     write_signal(text, "integer 32", first + 4, unit, "register")?;
     write_signal(text, "wire 34", first + 5, unit, "arrived")?;
     write_signal(text, "wire 34", first + 6, unit, "sent")?;
+    writeln!(text, "$var string 1 name{unit} unit{unit}_name $end")?;
     text.push_str("$upscope $end\n")
 }
 

@@ -1,4 +1,4 @@
-//! Where the units of a machine stand.
+//! The places of a machine's units: the instruction before which each is, or the exit after which it has stopped.
 
 ghost use Rattle.std.specs.Prelude.{◌≡◌};
 ghost use Rattle.processor_steps.specs.Processors.{ArePlaced};

@@ -3,21 +3,21 @@
 use machine_model::event::Spot;
 use mips_instructions::number::Reg;
 
-/// Who has to send a register.
+/// The unit that has to send a register.
 #[derive(Clone, Copy, Debug, PartialEq, Eq)]
 pub struct Owed {
     /// The number of the unit round the ring.
     pub unit: u32,
-    /// The number of its task.
+    /// The number of its task in the program, from 0.
     pub task: u32,
-    /// Whether it passes the register on, which then is on its way from unit to unit.
+    /// Whether it has sent the register, which then is on its way from unit to unit.
     pub is_sent: bool,
 }
 
 /// What holds a unit back.
 #[derive(Clone, Copy, Debug, PartialEq, Eq)]
 pub enum Reason {
-    /// Its next instruction needs this register, the least of those that have not arrived.
+    /// Its next instruction needs this register, the one with the least number of those that have not arrived.
     NeedsRegister(Reg, Owed),
     /// Its next instruction is one that the head alone executes.
     NeedsHead,
@@ -25,7 +25,7 @@ pub enum Reason {
     HasToPass(Reg, Owed),
     /// It has stopped and has sent all that its task may produce, and is not the head yet.
     HasFinished,
-    /// Nothing does. In a run in steps no unit waits for this reason.
+    /// Nothing holds it back. In a run in steps no unit waits for this reason.
     CouldGoOn,
 }
 
@@ -34,11 +34,11 @@ pub enum Reason {
 pub struct Waiting {
     /// The number of the step, from 1.
     pub step: u32,
-    /// The number of the unit round the ring.
+    /// The number of the unit round the ring, from 0.
     pub unit: u32,
-    /// The number of its task.
+    /// The number of its task in the program, from 0.
     pub task: u32,
-    /// Where it stands.
+    /// The instruction before which it is, or the exit after which it has stopped.
     pub place: Spot,
     /// What holds it back.
     pub reason: Reason,

@@ -36,10 +36,15 @@ pub(crate) fn machine_at_start<'a>(
     }
 }
 
-/// Who waits in the steps of a history of `units` units, 1 to 16, at the start of an accepted program, and why: each
-/// unit after the head that does nothing in a step, step after step, and within a step from the head back. Each event
-/// of the history is allowed where it comes, and there are at most 1,000,000. An event at position 0 ends a step;
-/// what comes after the last such event does not count. The error means that memory was refused.
+/// The waits in the steps of a history of `units` units, 1 to 16, at the start of an accepted program: each unit after the
+/// head that does nothing in a step, with the reason, step after step, and within a step from the head to the tail.
+///
+/// Each event of the history is allowed when it occurs, and there are at most 1,000,000. An event at position 0 ends a step;
+/// what comes after the last such event does not count.
+///
+/// # Errors
+///
+/// `AllocError` where memory was refused.
 pub fn waits(
     alloc: Global,
     accepted: &Accepted,

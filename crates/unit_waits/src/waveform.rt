@@ -21,10 +21,15 @@ use sequencer::machine::Machine;
 use std::alloc::{AllocError, Global};
 
 /// The waveform of a history of `units` units, 1 to 16, at the start of an accepted program, as a Value Change Dump
-/// (IEEE 1364-2005, section 18; this project chose the signals). One unit of time is one step. Time N gives what the
-/// signals show in step N, counted from 0, by the state with which the step begins, and the last one what they show by the
-/// state that the history leaves; a signal that shows what it showed before is left out. Each event of the history is
-/// allowed where it comes, and there are at most 1,000,000. An error means that memory was refused.
+/// (IEEE 1364-2005, section 18; this project chose the signals).
+///
+/// One unit of time is one step. Time N, from 0, has the values with which step N + 1 begins, and the last time those that
+/// the history leaves; a signal whose value does not change is left out. Each event of the history is allowed when it
+/// occurs, and there are at most 1,000,000.
+///
+/// # Errors
+///
+/// `AllocError` where memory was refused.
 pub fn waveform(
     alloc: Global,
     accepted: &Accepted,
@@ -97,6 +102,6 @@ fn show(
     ensures { IfOk result (λ shown. shown.items ≡ signals_of accepted.now.program units (state machine.now) events.now) }
 {
     let shown = signals(alloc, accepted, machine, units, events)?;
-    write_time(text, time, before, &shown)?;
+    write_time(text, accepted.program(), time, before, &shown)?;
     Ok(shown)
 }

@@ -19,7 +19,7 @@ played_so_far m answers = record { answers = answers; state = state m; count = l
 -- what the command line calls a form
 abbrev pub machine_emit : MachineForm → ReplayEmit
 machine_emit of_machine.Answers = emit.Answers
-machine_emit of_machine.Summary = emit.Summary
+machine_emit (of_machine.Summary format) = emit.Summary format
 machine_emit of_machine.Picture = emit.Picture
 machine_emit of_machine.Timeline = emit.Timeline
 machine_emit of_machine.State = emit.State

@@ -86,6 +86,7 @@ fn run_accepted(
         alloc,
         steps.emit,
         steps.units,
+        steps.budget,
         steps.predict,
         &ran,
         name,

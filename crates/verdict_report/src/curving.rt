@@ -12,12 +12,13 @@ ghost use Rattle.report_texts.specs.JudgedTexts.{judgement};
 use crate::curve_caption::write_caption;
 use crate::scheduled::predictor_of;
 use crate::telling::tell;
-use jobs::job::{CertificateSource, CurveEmit, Prediction, Texts};
+use jobs::job::{CertificateSource, CurveEmit, Prediction, TableFormat, Texts};
 use limits::ranges::{Budget, Units};
 use machine_model::event::Standing;
 use mark_checker::accept::Accepted;
 use report_texts::judging::{Judged, judge};
 use report_texts::report::JobReport;
+use speed_curve::csv::write_csv;
 use speed_curve::drawing::draw;
 use speed_curve::row::{Row, row_of};
 use speed_curve::table::write;
@@ -166,7 +167,8 @@ fn rows_text(
     rows: &[Row],
 ) -> Result<Vec<u8>, AllocError> {
     match emit {
-        CurveEmit::Table => write(alloc, rows),
+        CurveEmit::Table(TableFormat::Text) => write(alloc, rows),
+        CurveEmit::Table(TableFormat::Csv) => write_csv(alloc, rows),
         CurveEmit::Picture => {
             let mut caption = String::new(alloc);
             write_caption(&mut caption, title, budget.get(), predict)?;

@@ -1,18 +1,26 @@
 //! The text of a multiscalar machine's state.
-ghost use Rattle.std.specs.Prelude.{◌≡◌, ◌++◌, OnOk};
+ghost use Rattle.std.specs.Prelude.{◌≡◌, ◌≤◌, ◌++◌, OnOk};
 ghost use Rattle.std.specs.String.{string_bytes};
 ghost use Rattle.sequencer.specs.Machines.{state, units_of};
 ghost use Rattle.verdict_report.specs.MachineText.{machine_text, retired_text, standing_status, standing_text};
 
+use event_trace::notes::notes;
 use event_trace::source::EventSource;
 use event_trace::timeline_text::timeline;
+use jobs::job::TableFormat;
 use limits::ranges::Units;
 use machine_model::event::Standing;
+use mark_checker::accept::Accepted;
 use report_texts::plain_text::write_words;
+use run_picture::chart::MOST_SINGLE;
 use run_picture::drawing::draw_ended;
+use run_picture::events::single_events;
+use run_picture::shape::Wait;
 use sequencer::machine::Machine;
 use std::alloc::{AllocError, Global};
+use step_picture::chart::chart_of_steps;
 use task_descriptor::program::Program;
+use task_lives::csv::write_csv;
 use task_lives::laws::histories_fit;
 use task_lives::lives::lives_of_runs;
 
@@ -52,7 +60,7 @@ pub fn write_machine(text: &mut String, machine: &Machine<'_>) -> Result<(), All
     writeln!(text, "")
 }
 
-/// The summary of a machine's history: how often each task was assigned, and how that ended.
+/// The summary of a machine's history, laid out in this way: how often each task was assigned, and how that ended.
 ///
 /// # Errors
 ///
@@ -60,6 +68,7 @@ pub fn write_machine(text: &mut String, machine: &Machine<'_>) -> Result<(), All
 pub fn summary_of(
     alloc: Global,
     units: Units,
+    format: TableFormat,
     machine: &Machine<'_>,
     program: &Program,
 ) -> Result<Vec<u8>, AllocError>
@@ -68,7 +77,10 @@ pub fn summary_of(
 {
     histories_fit();
     let lives = lives_of_runs(alloc, machine.history(), units.get())?;
-    task_lives::summary::write(alloc, program, &lives)
+    match format {
+        TableFormat::Text => task_lives::summary::write(alloc, program, &lives),
+        TableFormat::Csv => write_csv(alloc, program, &lives),
+    }
 }
 
 /// The picture of the history of a machine of `units` units, which runs this program: it gives the program this name, says
@@ -81,27 +93,46 @@ pub fn picture_of(
     alloc: Global,
     units: Units,
     name: &str,
+    text: &[u8],
     said: &str,
     machine: &Machine<'_>,
-    program: &Program,
+    accepted: &Accepted,
 ) -> Result<Vec<u8>, AllocError>
-    requires over { machine.now.accepted.program ≡ program.now }
+    requires over { machine.now.accepted.program ≡ accepted.now.program }
     requires units { units_of machine.now ≡ units }
 {
     histories_fit();
+    let notes = notes_if_single(alloc, units, text, machine, accepted)?;
     let picture = draw_ended(
         alloc,
-        program,
+        accepted.program(),
         name,
         said,
         units.get(),
         Some(machine.outcome()),
+        &notes,
         machine.history(),
     )?;
     Ok(picture.into_bytes())
 }
 
-/// The timeline of the history of a machine of `units` units, which runs this program, as JSON.
+// What each event of a machine's history did, if all are drawn singly; else nothing.
+fn notes_if_single(
+    alloc: Global,
+    units: Units,
+    text: &[u8],
+    machine: &Machine<'_>,
+    accepted: &Accepted,
+) -> Result<Vec<String>, AllocError> {
+    let events = single_events(alloc, machine.history())?;
+    if events.len() > MOST_SINGLE as usize {
+        return Ok(Vec::new(alloc));
+    }
+    notes(alloc, accepted, units.get(), text, &events, 0)
+}
+
+/// The timeline of the history of a machine of `units` units, which runs the program of this name and text, as JSON, with these
+/// waits.
 ///
 /// # Errors
 ///
@@ -109,16 +140,44 @@ pub fn picture_of(
 pub fn timeline_of(
     alloc: Global,
     units: Units,
+    name: &str,
+    text: &[u8],
     source: EventSource,
+    waits: &[Wait],
     machine: &Machine<'_>,
-    program: &Program,
+    accepted: &Accepted,
 ) -> Result<Vec<u8>, AllocError>
-    requires over { machine.now.accepted.program ≡ program.now }
+    requires over { machine.now.accepted.program ≡ accepted.now.program }
     requires units { units_of machine.now ≡ units }
 {
     histories_fit();
-    let timeline = timeline(alloc, program, units.get(), source, machine.history())?;
+    let runs = machine.history();
+    let timeline = timeline(
+        alloc,
+        accepted,
+        name,
+        text,
+        units.get(),
+        source,
+        waits,
+        runs,
+    )?;
     Ok(timeline.into_bytes())
+}
+
+/// Why the units waited in the steps of the history of a machine of `units` units, if they are drawn singly; else nothing.
+pub fn single_waits(
+    alloc: Global,
+    units: Units,
+    machine: &Machine<'_>,
+    accepted: &Accepted,
+) -> Result<Vec<Wait>, AllocError>
+    requires over { machine.now.accepted ≡ accepted.now }
+    requires units { (units_of machine.now ≤ 16) × (units_of machine.now ≡ units) }
+{
+    let standing = machine.outcome();
+    let chart = chart_of_steps(alloc, accepted, units.get(), standing, machine.history())?;
+    Ok(chart.waits)
 }
 
 /// The exit status for a machine's run: 0 if it halted or has not ended, 1 if it trapped or is unlisted.

@@ -2,15 +2,15 @@
 ghost use Rattle.std.specs.Prelude.{◌≡◌};
 ghost use Rattle.verdict_report.specs.Playing.{emit_of};
 
-use jobs::job::ReplayEmit;
+use jobs::job::{ReplayEmit, TableFormat};
 
 /// What is written for the machine that the events leave.
 #[derive(Clone, Copy, Debug, PartialEq, Eq)]
 pub(crate) enum MachineForm {
     /// What it answered to each event, and how it stands.
     Answers,
-    /// How the tasks ended that it assigned.
-    Summary,
+    /// How the tasks ended that it assigned, as a table.
+    Summary(TableFormat),
     /// The events that it allowed, as a picture.
     Picture,
     /// The events that it allowed, as a timeline.
@@ -45,7 +45,7 @@ pub(crate) fn form_of(emit: ReplayEmit) -> ReplayForm
         ReplayEmit::Trace => ReplayForm::Told(ToldForm::Trace),
         ReplayEmit::Json => ReplayForm::Told(ToldForm::Lines),
         ReplayEmit::Answers => ReplayForm::OfMachine(MachineForm::Answers),
-        ReplayEmit::Summary => ReplayForm::OfMachine(MachineForm::Summary),
+        ReplayEmit::Summary(format) => ReplayForm::OfMachine(MachineForm::Summary(format)),
         ReplayEmit::Picture => ReplayForm::OfMachine(MachineForm::Picture),
         ReplayEmit::Timeline => ReplayForm::OfMachine(MachineForm::Timeline),
         ReplayEmit::State => ReplayForm::OfMachine(MachineForm::State),

@@ -159,6 +159,7 @@ fn trace_form(form: ToldForm, name: &str) -> TraceForm<'_> {
         ToldForm::Lines => TraceForm::Json {
             name,
             source: EventSource::Script,
+            run: None,
             is_out_of_budget: false,
         },
     }
@@ -234,10 +235,19 @@ fn bytes_of(
     let program = accepted.program();
     match form {
         MachineForm::Answers => answers_of(alloc, answers, machine),
-        MachineForm::Summary => summary_of(alloc, units, machine, program),
-        MachineForm::Picture => picture_of(alloc, units, name, "", machine, program),
+        MachineForm::Summary(format) => summary_of(alloc, units, format, machine, program),
+        MachineForm::Picture => picture_of(alloc, units, name, text, "", machine, accepted),
         MachineForm::Timeline => {
-            timeline_of(alloc, units, EventSource::Script, machine, program)
+            timeline_of(
+                alloc,
+                units,
+                name,
+                text,
+                EventSource::Script,
+                &[],
+                machine,
+                accepted,
+            )
         },
         MachineForm::State => state_of(alloc, units, text, accepted, machine),
     }

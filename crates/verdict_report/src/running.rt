@@ -7,15 +7,18 @@ ghost use Rattle.event_script.specs.EventScript.{script_of};
 ghost use Rattle.event_script.specs.ScriptText.{script_text};
 
 use crate::fault::ServeFault;
-use crate::machine_text::{picture_of, standing_status_of, summary_of, timeline_of, write_machine};
+use crate::machine_text::{
+    picture_of, single_waits, standing_status_of, summary_of, timeline_of, write_machine,
+};
 use crate::ran::{Extent, Ran};
 use crate::scheduled::run_scheduled;
 use event_script::writing::write;
+use event_trace::pipeline::pipeline;
 use event_trace::source::EventSource;
 use event_trace::streaming::trace;
-use event_trace::telling::TraceForm;
-use jobs::job::{CertificateSource, Prediction, RunEmit, Texts};
-use limits::ranges::Units;
+use event_trace::telling::{RunTold, TraceForm};
+use jobs::job::{CertificateSource, Prediction, RunEmit, StepRange, TableFormat, Texts};
+use limits::ranges::{Budget, Units};
 use mark_checker::accept::Accepted;
 use report_texts::judging::{Judged, judge};
 use report_texts::plain_text::write_words;
@@ -26,12 +29,13 @@ use std::alloc::{AllocError, Global};
 use std::sync::Wait;
 use std::thread::Threads;
 use step_picture::drawing::draw;
-use step_picture::predictor_text::write_predictor;
+use step_picture::predictor_text::{write_predictor, write_whole};
 use strict_replay::writing::write_valued;
 use task_descriptor::program::Program;
 use task_lives::laws::histories_fit;
 use threaded_runner::report::How;
 use unit_waits::waveform::waveform;
+use wait_table::csv::csv_table;
 use wait_table::text::table;
 
 /// The report of `run` on a program text, the name of the program and the text of its certificate. For each form that no
@@ -77,9 +81,13 @@ fn run_accepted<R: Threads + Wait + Sync>(
     ensures report { IfOk result (λ report. IsRunReport extent.schedule extent.units extent.budget predict.now emit accepted.now.program report) }
     ensures memory { OnErr result (result ≡ Err ServeFault.OutOfMemory) }
 {
-    let ran = run_scheduled(rt, alloc, extent, predict, accepted)?;
     let units = extent.units;
-    Ok(report_of_run(alloc, emit, units, predict, &ran, name, text, accepted)?)
+    let budget = extent.budget;
+    let ran = run_scheduled(rt, alloc, extent, predict, accepted)?;
+    let report = report_of_run(
+        alloc, emit, units, budget, predict, &ran, name, text, accepted,
+    )?;
+    Ok(report)
 }
 
 /// What is written for a run, and the status.
@@ -87,6 +95,7 @@ pub(crate) fn report_of_run(
     alloc: Global,
     emit: RunEmit,
     units: Units,
+    budget: Budget,
     predict: &Prediction,
     ran: &Ran<'_>,
     name: &str,
@@ -103,7 +112,11 @@ pub(crate) fn report_of_run(
     let bytes = match emit {
         RunEmit::Report => ending(alloc, ran)?,
         RunEmit::Script => write(alloc, ran.machine.history(), accepted.program())?,
-        _ => view_of(alloc, emit, units, predict, ran, name, text, accepted)?,
+        _ => {
+            view_of(
+                alloc, emit, units, budget, predict, ran, name, text, accepted,
+            )?
+        }
     };
     Ok(JobReport::new(bytes, ending_status_of(ran)))
 }
@@ -128,6 +141,7 @@ fn view_of(
     alloc: Global,
     emit: RunEmit,
     units: Units,
+    budget: Budget,
     predict: &Prediction,
     ran: &Ran<'_>,
     name: &str,
@@ -141,18 +155,49 @@ fn view_of(
     let machine = &ran.machine;
     let count = units.get();
     match emit {
-        RunEmit::Summary => summary(alloc, units, ran, program),
-        RunEmit::Picture => event_picture(alloc, units, name, predict, machine, program),
-        RunEmit::StepPicture => step_picture(alloc, units, name, predict, machine, accepted),
-        RunEmit::Timeline => timeline_of(alloc, units, source_of(ran), machine, program),
+        RunEmit::Summary(format) => summary(alloc, units, format, ran, program),
+        RunEmit::Picture => event_picture(alloc, units, name, text, predict, machine, accepted),
+        RunEmit::StepPicture(range) => {
+            step_picture(alloc, units, name, text, predict, range, machine, accepted)
+        }
+        RunEmit::Timeline => {
+            let waits = match ran.steps {
+                None => Vec::new(alloc),
+                Some(_) => single_waits(alloc, units, machine, accepted)?,
+            };
+            timeline_of(
+                alloc,
+                units,
+                name,
+                text,
+                source_of(ran),
+                &waits,
+                machine,
+                accepted,
+            )
+        }
         _ => {
             let events = single_events(alloc, machine.history())?;
             match emit {
                 RunEmit::ScriptWithValues => write_valued(alloc, accepted, count, &events),
-                RunEmit::Waits => Ok(table(alloc, accepted, count, text, &events)?.into_bytes()),
+                RunEmit::Waits(TableFormat::Text) => {
+                    Ok(table(alloc, accepted, count, text, &events)?.into_bytes())
+                }
+                RunEmit::Waits(TableFormat::Csv) => {
+                    Ok(csv_table(alloc, accepted, count, text, &events)?.into_bytes())
+                }
                 RunEmit::Waveform => Ok(waveform(alloc, accepted, count, &events)?.into_bytes()),
+                RunEmit::Pipeline => {
+                    Ok(pipeline(alloc, accepted, count, text, &events)?.into_bytes())
+                }
                 _ => {
-                    let form = trace_form(emit, name, ran);
+                    let mut predictor = String::new(alloc);
+                    write_whole(&mut predictor, predict)?;
+                    let run = RunTold {
+                        predictor: predictor.as_str(),
+                        budget: budget.get(),
+                    };
+                    let form = trace_form(emit, name, run, ran);
                     let (bytes, _) = trace(alloc, accepted, count, text, &events, form)?;
                     Ok(bytes)
                 }
@@ -161,18 +206,19 @@ fn view_of(
     }
 }
 
-// How the tasks ended, and for a run in steps how many they were, and how many instructions retired in them.
+// How the tasks ended, and in the table of a run in steps how many they were, and how many instructions retired in them.
 fn summary(
     alloc: Global,
     units: Units,
+    format: TableFormat,
     ran: &Ran<'_>,
     program: &Program,
 ) -> Result<Vec<u8>, AllocError>
     requires over { ran.now.machine.accepted.program ≡ program.now }
     requires units { units_of ran.now.machine ≡ units }
 {
-    let mut bytes = summary_of(alloc, units, &ran.machine, program)?;
-    if let Some(steps) = ran.steps {
+    let mut bytes = summary_of(alloc, units, format, &ran.machine, program)?;
+    if let (TableFormat::Text, Some(steps)) = (format, ran.steps) {
         let (committed, _) = ran.machine.counts();
         let line = format!(in alloc; "steps {steps}, retired instructions {committed}\n")?;
         bytes.extend_from_slice(line.as_bytes())?;
@@ -180,41 +226,45 @@ fn summary(
     Ok(bytes)
 }
 
-// How the events are told of a run of a program of this name.
-fn trace_form<'n>(emit: RunEmit, name: &'n str, ran: &Ran<'_>) -> TraceForm<'n> {
+// How the events are told of a run of a program of this name, which was made so.
+fn trace_form<'n>(emit: RunEmit, name: &'n str, run: RunTold<'n>, ran: &Ran<'_>) -> TraceForm<'n> {
     match emit {
         RunEmit::Json => TraceForm::Json {
             name,
             source: source_of(ran),
+            run: Some(run),
             is_out_of_budget: matches!(ran.how, How::OutOfBudget),
         },
         _ => TraceForm::Words,
     }
 }
 
-// The picture of the events of a run of a program of this name, with the predictor.
+// The picture of the events of a run of a program of this name and text, with the predictor.
 fn event_picture(
     alloc: Global,
     units: Units,
     name: &str,
+    text: &[u8],
     predict: &Prediction,
     machine: &Machine<'_>,
-    program: &Program,
+    accepted: &Accepted,
 ) -> Result<Vec<u8>, AllocError>
-    requires over { machine.now.accepted.program ≡ program.now }
+    requires over { machine.now.accepted ≡ accepted.now }
     requires units { units_of machine.now ≡ units }
 {
     let mut said = String::from_str(alloc, "predictor: ")?;
     write_predictor(&mut said, predict)?;
-    picture_of(alloc, units, name, said.as_str(), machine, program)
+    picture_of(alloc, units, name, text, said.as_str(), machine, accepted)
 }
 
-// The picture of a run in steps of a program of this name.
+// The picture of some steps of a run in steps of a program of this name and text.
 fn step_picture(
     alloc: Global,
     units: Units,
     name: &str,
+    text: &[u8],
     predict: &Prediction,
+    range: StepRange,
     machine: &Machine<'_>,
     accepted: &Accepted,
 ) -> Result<Vec<u8>, AllocError>
@@ -226,8 +276,10 @@ fn step_picture(
         alloc,
         accepted,
         name,
+        text,
         units.get(),
         predict,
+        range,
         machine.outcome(),
         machine.history(),
     )?;

@@ -60,15 +60,24 @@ fn write_counts(
         let (waits, first) = (count.waits, count.first);
         let name = task_name(program, first.task);
         write!(text, "{waits:>8}  {name}, ")?;
-        match first.place {
-            Spot::Inside(index) => write_place(text, places, index)?,
-            Spot::Stopped(_) => text.push_str("stopped")?,
-        }
+        write_spot(text, places, first.place)?;
         text.push_str(": ")?;
         write_reason(text, program, first.reason)?;
         text.push_str("\n")?;
     }
     Ok(())
+}
+
+/// Adds where a unit waits.
+pub(crate) fn write_spot(
+    text: &mut String,
+    places: &[Position],
+    spot: Spot,
+) -> Result<(), AllocError> {
+    match spot {
+        Spot::Inside(index) => write_place(text, places, index),
+        Spot::Stopped(_) => text.push_str("stopped"),
+    }
 }
 
 /// Adds what holds a unit back.

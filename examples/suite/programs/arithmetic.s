@@ -12,6 +12,7 @@ PAIRS:  .word 7, 3
         .word 0x80000000, 0xffffffff
         .word 0x7fffffff, 1
         .word 0x12345678, 36            # shifts by 4
+        .word 0x80000001, 0x7fffffff    # their difference and their product need more bits
 END:
 
 .text

@@ -3,7 +3,8 @@ use Rattle.std.proofs.Common.{ℕ, ◌*◌, List, [], ◌++◌, ◌∙◌, ap, a
 use Rattle.mips_plain.specs.MemoryMap.{byte_of, number_at}
 use Rattle.event_trace.specs.Ending.{changed}
 use Rattle.event_trace.specs.declared.ending.MemoryWord.{MemoryWord}
-use Rattle.event_trace.proofs.Parts.{range_more, for_each_word}
+use Rattle.run_picture.proofs.Parts.{range_more}
+use Rattle.event_trace.proofs.Parts.{for_each_word}
 use Rattle.event_trace.proofs.ending.changed_words.Goals as goal
 
 pub loop-number-preserved : goal.loop-number-preserved

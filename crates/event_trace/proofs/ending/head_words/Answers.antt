@@ -3,7 +3,8 @@ use Rattle.std.proofs.Common.{ℕ, List, [], ◌++◌, ◌∙◌, ap, arith}
 use Rattle.sequencer.specs.Machines.{state}
 use Rattle.event_trace.specs.Ending.{head_value, held}
 use Rattle.event_trace.specs.declared.ending.RegisterWord.{RegisterWord}
-use Rattle.event_trace.proofs.Parts.{range_more, for_each_register}
+use Rattle.run_picture.proofs.Parts.{range_more}
+use Rattle.event_trace.proofs.Parts.{for_each_register}
 use Rattle.event_trace.proofs.ending.head_words.Goals as goal
 
 pub loop-number-preserved : goal.loop-number-preserved

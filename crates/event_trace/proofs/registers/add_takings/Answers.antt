@@ -6,7 +6,8 @@ use Rattle.unit_core.specs.Units.{active_of}
 use Rattle.event_trace.specs.Changes.{takes}
 use Rattle.event_trace.specs.declared.change.Change.{Change}
 use Rattle.event_trace.specs.declared.change.Change.TheVariants.{Took}
-use Rattle.event_trace.proofs.Parts.{range_more, for_each_register}
+use Rattle.run_picture.proofs.Parts.{range_more}
+use Rattle.event_trace.proofs.Parts.{for_each_register}
 use Rattle.event_trace.proofs.registers.add_takings.Goals as goal
 
 pub loop-number-preserved : goal.loop-number-preserved

@@ -14,7 +14,7 @@ pub returns-in-Ok : goal.returns-in-Ok
 returns-in-Ok g c = record {
   read = result_map_both (λ read. read.texts) (λ unread. unread) c.read_texts.result;
   texts = c.read_texts.ensures.texts;
-  ends = rw (c.in-Ok.is, c.in-None.is) (rw (← c.in-Ok.ensures.name) c.deliver.ensures);
+  ends = rw (c.in-Ok.is, c.in-None.is) (rw (← c.in-Ok.ensures.name) c.serve_with.ensures);
 }
 
 pub returns : goal.returns

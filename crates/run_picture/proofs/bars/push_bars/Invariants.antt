@@ -5,4 +5,4 @@ use Rattle.run_picture.proofs.bars.push_bars.Given as goal
 
 abbrev pub invariant-loop-life : goal.invariant-loop-life
 invariant-loop-life l =
-    meanings l.shapes.items ≡ meanings l.initial.shapes.items ++ map (life_told l.axis.counted l.halted) (take l.life-index l.lives)
+    meanings l.shapes.items ≡ meanings l.initial.shapes.items ++ map (life_told l.axis.counted l.head l.standing) (take l.life-index l.lives)

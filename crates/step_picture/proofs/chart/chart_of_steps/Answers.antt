@@ -18,5 +18,6 @@ returns-clause-room c =
       units = c.requires.some;
       columns = omega (arith, same, bound, few);
       events = few;
-      lives = c.in_ok-lives-2.ensures.few;
+      retired = omega arith;
+      lives = c.in_ok-lives-2.ensures.few.0;
     }

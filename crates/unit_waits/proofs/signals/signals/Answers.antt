@@ -2,7 +2,7 @@
 use Rattle.std.proofs.Common.{List, ◌++◌, ap, ◌∙◌}
 use Rattle.sequencer.specs.Machines.{state}
 use Rattle.unit_waits.specs.Signals.{Shown, ring_signals, unit_signals}
-use Rattle.unit_waits.proofs.Ranges.{range_more}
+use Rattle.run_picture.proofs.Parts.{range_more}
 use Rattle.unit_waits.proofs.signals.signals.Goals as goal
 
 pub loop-unit-preserved : goal.loop-unit-preserved
