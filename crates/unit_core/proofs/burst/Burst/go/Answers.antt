@@ -1,6 +1,6 @@
 -- A burst without a step has the unit before also after it, so what is made on the one is made on the
 -- other.
-use Rattle.std.specs.Prelude.{◌≡◌, ℕ, ◌≤◌}
+use Rattle.std.specs.Prelude.{◌≡◌, ◌≤◌}
 use Rattle.std.proofs.Common.{◌∙◌, ap, arith, subst}
 use Rattle.unit_core.specs.Units.{UnitView, active_of, unlogged}
 use Rattle.task_descriptor.specs.Listing.{Listing}
