@@ -13,11 +13,16 @@ use Rattle.machine_model.specs.declared.event.Event.{Event}
 use Rattle.machine_model.specs.declared.event.Event.TheVariants.{Assign, Exec, Transfer, Drain, Squash, Retire, Fault, Drop}
 use Rattle.processor_steps.specs.Processors.{by_units, executed_by}
 
-pub by_set : (us : List Active) (k : ℕ) (u v : Active) → slice_get us k ≡ Some u → by_units (slice_set us k v) + length u.log ≡ by_units us + length v.log
+by_set : (us : List Active) (k : ℕ) (u v : Active) → slice_get us k ≡ Some u → by_units (slice_set us k v) + length u.log ≡ by_units us + length v.log
 by_set us k u v e =
     let there : k < length us = slice_get_within us k u e in
     ap (λ (x : Active). by_units (slice_set us k v) + length x.log) (sym (get_or_from_slice_get us k u u e))
     ∙ sum_by-set (λ (x : Active). length x.log) us k v u there
+
+-- a log is no longer than all of them
+pub log_within : (us : List Active) (k : ℕ) (u : Active) → slice_get us k ≡ Some u → length u.log ≤ by_units us
+log_within us k u e =
+    let cut = by_set us k u (record u { log = [] }) e in omega arith
 
 by_same : (us : List Active) (k : ℕ) (u v : Active) → slice_get us k ≡ Some u → v.log ≡ u.log → by_units (slice_set us k v) ≡ by_units us
 by_same us k u v e same =

@@ -8,8 +8,8 @@ use Rattle.task_descriptor.specs.Listing.{Listing}
 use Rattle.machine_model.specs.Machine.{Active, State, opening}
 use Rattle.machine_model.specs.Step.{Next}
 use Rattle.machine_model.specs.Replay.{ReplaysFrom, Replays}
-use Rattle.processor_steps.specs.Processors.{by_units, executed_by}
-use Rattle.processor_steps.proofs.Growing.{assigns_grow, by_set, executes}
+use Rattle.processor_steps.specs.Processors.{executed_by}
+use Rattle.processor_steps.proofs.Growing.{assigns_grow, executes}
 use Rattle.machine_model.specs.Laws.{ReplayCut, EventsCount}
 use Rattle.machine_model.specs.HeadEvent.{active_after}
 use Rattle.machine_model.specs.declared.event.Event.{Event}
@@ -38,11 +38,6 @@ replay_executes p units events s h =
 pub replay_assigns : (p : Listing) (units : ℕ) (events : List Event) (s : State) → Replays p units events s → s.assigns ≤ length events
 replay_assigns p units events s h =
     let g = grown p units (λ (x : State). x.assigns) (λ s s' e n. assigns_grow p units s s' e n) events (opening p) s h in omega arith
-
--- a log is no longer than all of them
-pub log_within : (us : List Active) (k : ℕ) (u : Active) → slice_get us k ≡ Some u → length u.log ≤ by_units us
-log_within us k u e =
-    let cut = by_set us k u (record u { log = [] }) e in omega arith
 
 -- a queue has at most as many units as there are
 
