@@ -1,9 +1,8 @@
 -- A machine stays one over each event that is allowed.
-use Rattle.std.specs.Prelude.{◌≡◌, ℕ, ◌+◌, ◌<◌, ◌≤◌, Ok}
+use Rattle.std.specs.Prelude.{◌≡◌, ℕ, ◌+◌, Ok}
 use Rattle.std.proofs.Common.{arith}
-use Rattle.machine_model.specs.Answer.{most_events}
 use Rattle.machine_model.specs.declared.event.Event.{Event}
-use Rattle.processor_steps.specs.Processors.{ProcessorView, Steps, executed_by, state_of}
+use Rattle.processor_steps.specs.Processors.{ProcessorView, Steps, state_of}
 use Rattle.processor_steps.proofs.Growing.{assigns_grow, executes}
 use Rattle.processor_steps.proofs.TriedSteps.{has_room}
 use Rattle.open_machine.specs.Machines.{IsOpen, OpenView, state, units_of}
