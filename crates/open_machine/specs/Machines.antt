@@ -1,10 +1,11 @@
 -- The open machine as contracts see it: any well-formed program, what the events changed, and how many there
 -- were.
-use Rattle.std.specs.Prelude.{◌≡◌, ℕ, ◌+◌, ◌≤◌, ◌⊎◌, IsTrue, Result, Ok, Err}
+use Rattle.std.specs.Prelude.{◌≡◌, ℕ, ◌+◌, ◌≤◌, ◌⊎◌, IsTrue, length, Result, Ok, Err}
 use Rattle.task_descriptor.specs.Listing.{Listing}
 use Rattle.machine_model.specs.Machine.{State}
 use Rattle.machine_model.specs.Step.{Next}
 use Rattle.machine_model.specs.Answer.{answer, after, most_events}
+use Rattle.machine_model.specs.Claims.{committed}
 use Rattle.machine_model.specs.declared.event.Event.{Event}
 use Rattle.machine_model.specs.declared.event.Refused.{Refused}
 use Rattle.machine_model.specs.declared.event.Refused.TheVariants as refused
@@ -39,8 +40,10 @@ pub record Applies (old : OpenView) (e : Event) (new : OpenView) : Type 0 where
   pub leaves : state new ≡ after old.program (state old) e
   pub count : new.count ≡ old.count + 1
 
--- what every machine keeps: there were no more Assigns, nor instructions, than events
+-- what every machine keeps: there were no more Assigns, nor instructions, than events, and each instruction of a
+-- retired task has left one read
 pub record IsOpen (m : OpenView) : Type 0 where
   pub room : m.count ≤ most_events
   pub assigns : (state m).assigns ≤ m.count
   pub executed : executed_by (state m) ≤ m.count
+  pub reads : length (state m).reads ≡ committed (state m).commits

@@ -30,9 +30,10 @@ impl<'a> Model for OpenMachine<'a> {
 }
 
 impl<'a> OpenMachine<'a> {
-    ghost use Rattle.std.specs.Prelude.{◌≡◌, ◌≤◌, ◌↔◌, length, slice_get, IfOk, OnOk, OnErr, IsTrue};
+    ghost use Rattle.std.specs.Prelude.{◌≡◌, ◌+◌, ◌≤◌, ◌↔◌, length, slice_get, IfOk, OnOk, OnErr, IsTrue};
     ghost use Rattle.std.specs.Option.{option_copied, option_map};
     ghost use Rattle.machine_model.specs.Machine.{opening};
+    ghost use Rattle.machine_model.specs.Claims.{by_head};
     ghost use Rattle.unit_core.specs.Units.{active_of};
     ghost use Rattle.machine_model.specs.declared.event.Standing.TheVariants as standing;
     ghost use Rattle.open_machine.specs.Machines.{state, units_of, IsAnswered, Applies};
@@ -140,6 +141,25 @@ impl<'a> OpenMachine<'a> {
         ensures { result.now.reads ≡ (state self.now).reads }
     {
         self.processor.reads()
+    }
+
+    /// How many instructions the retired tasks and the head have executed.
+    pub fn executed(&self) -> usize
+        ensures { result ≡ length (state self.now).reads + by_head (state self.now).queue }
+    {
+        let retired = self.processor.reads();
+        let by_head = self.executed_by_head();
+        retired.len() + by_head
+    }
+
+    /// How many instructions the head has executed; 0 where there is no head.
+    fn executed_by_head(&self) -> usize
+        ensures { result ≡ by_head (state self.now).queue }
+    {
+        match self.unit(0) {
+            Some(head) => head.reads().len(),
+            None => 0,
+        }
     }
 
     /// One commit for each retired task, oldest first.
