@@ -1,11 +1,10 @@
 -- What follows of a state from its being a replay: by induction on the events, each event by its record.
-use Rattle.std.proofs.Common.{◌≡◌, ℕ, suc, ◌+◌, ◌<◌, ◌≤◌, List, [], ◌∷◌, ◌++◌, length, Some, sym, ap, subst, arith}
-use Rattle.std.specs.Prelude.{slice_get}
+use Rattle.std.proofs.Common.{◌≡◌, ℕ, suc, ◌+◌, ◌<◌, ◌≤◌, List, [], ◌∷◌, ◌++◌, length, sym, ap, subst, arith}
 use Rattle.std.specs.List.{All}
 use Rattle.std.proofs.lemmas.List.Elements.{All-nil, All-cons}
 use Rattle.std.proofs.lemmas.Option.{slice_get_within}
 use Rattle.task_descriptor.specs.Listing.{Listing}
-use Rattle.machine_model.specs.Machine.{Active, State, opening}
+use Rattle.machine_model.specs.Machine.{State, opening}
 use Rattle.machine_model.specs.Step.{Next}
 use Rattle.machine_model.specs.Replay.{ReplaysFrom, Replays}
 use Rattle.processor_steps.specs.Processors.{executed_by}
