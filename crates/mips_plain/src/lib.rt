@@ -3,8 +3,11 @@
 #![tactic(auto)]
 
 pub(crate) mod decoded;
+pub(crate) mod fields;
+pub(crate) mod fusing;
 pub mod memory;
 pub mod outcome;
+pub(crate) mod pairs;
 pub mod plain;
 pub(crate) mod processor;
 mod trap_text;
