@@ -186,9 +186,9 @@ fn seen(alloc: Global, machine: &OpenMachine<'_>) -> Result<Vec<Read>, OutOfMemo
     ensures { IfOk result (λ reads. reads.items ≡ seen_in (state machine.now)) }
 {
     let mut reads = Vec::new(alloc);
-    reads.extend_from_slice(machine.reads())?;
+    machine.reads().copy_to(&mut reads)?;
     if let Some(head) = machine.unit(0) {
-        reads.extend_from_slice(head.reads())?;
+        head.reads().copy_to(&mut reads)?;
     }
     Ok(reads)
 }

@@ -124,7 +124,7 @@ fn tell_of_run(
     let _ = units;
     let text = match emit {
         DemonstrateEmit::Events => shown(alloc, places, program, found)?,
-        DemonstrateEmit::Picture => drawn(alloc, program, found)?,
+        DemonstrateEmit::Picture => drawn(alloc, places, program, found)?,
     };
     Ok(JobReport::new(text.into_bytes(), 1))
 }

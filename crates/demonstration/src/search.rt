@@ -338,11 +338,7 @@ fn is_read(machine: &OpenMachine<'_>, harm: Harm) -> bool {
 fn executed(machine: &OpenMachine<'_>) -> usize
     ensures { result ≡ length (seen (state machine.now)) }
 {
-    let by_head = match machine.unit(0) {
-        Some(head) => head.reads().len(),
-        None => 0,
-    };
-    machine.reads().len().saturating_add(by_head)
+    machine.executed()
 }
 
 /// A machine with one unit after the first of these events after which the head has a wrong word.

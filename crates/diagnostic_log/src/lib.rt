@@ -6,7 +6,6 @@
 mod artifact;
 mod columns;
 pub mod json_lines;
-mod origin;
 mod paths;
 mod results;
 mod rules;

@@ -2,12 +2,12 @@
 
 use crate::artifact::{Artifacts, named_artifact, write_artifact};
 use crate::columns::Columns;
-use crate::origin::{Origin, origin_of};
 use crate::paths::told;
 use diagnostics::code::Code;
 use diagnostics::diagnostic::{Diagnostic, Help, Note, Severity, Source, Span};
 use diagnostics::files::Files;
 use json_text::{JsonText, Written};
+use program_tokens::origin::{Origin, origin_of};
 use std::alloc::Global;
 
 /// How severe a diagnostic is, in the word of the formats.

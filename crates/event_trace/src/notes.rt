@@ -11,6 +11,7 @@ use crate::walk::Walk;
 use annotated_asm::position::Position;
 use machine_model::event::Event;
 use mark_checker::accept::Accepted;
+use program_tokens::origin::{Origin, origin_of};
 use std::alloc::{AllocError, Global};
 
 /// A program text, and where it has its instructions and its lines.
@@ -67,9 +68,33 @@ impl<'s> Source<'s> {
         Ok(())
     }
 
-    /// Writes the line of the instruction of this index. An error means that memory was refused.
+    // The line of C that the comment behind the instruction of this index names, if the file's name can be shown as it is.
+    fn origin(&self, index: u32) -> Option<Origin<'s>> {
+        let rest = self.from_instruction(index)?;
+        let end = rest
+            .iter()
+            .position(|byte| *byte == b'\n')
+            .unwrap_or(rest.len());
+        let origin = origin_of(rest.get(..end)?)?;
+        let is_plain = origin
+            .file
+            .as_bytes()
+            .iter()
+            .all(|byte| byte.is_ascii_graphic());
+        if is_plain { Some(origin) } else { None }
+    }
+
+    /// Writes the line of the instruction of this index, and the line of C that it comes from, if a comment names it.
+    ///
+    /// # Errors
+    ///
+    /// `AllocError` where memory was refused; a part may have been added.
     pub fn write_line(&self, text: &mut String, index: u32) -> Result<(), AllocError> {
-        write_place(text, &self.places, index)
+        write_place(text, &self.places, index)?;
+        match self.origin(index) {
+            Some(Origin { file, line }) => write!(text, ", {file}:{line}"),
+            None => Ok(()),
+        }
     }
 
     /// Writes what an event changed: an instruction with its line and its effects, or the value of a register that arrived or

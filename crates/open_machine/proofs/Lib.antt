@@ -1,4 +1,1 @@
-mod Imports
-pub mod OpenLemmas
-pub mod Growing
 pub mod Applied

@@ -1,3 +1,1 @@
-pub mod Instructions
-pub mod Executions
 pub mod Machines

@@ -1,13 +1,14 @@
 //! The machine: units over any well-formed program, changed by events alone.
 
-use crate::processor::Processor;
-use crate::unit::OpenUnit;
 use machine_model::event::{Commit, Event, Refused, Standing};
-use machine_model::laws::answer_is_next;
-use mips_plain::outcome::{OutOfMemory, Read};
+use machine_model::laws::next_is_after;
+use mips_plain::outcome::OutOfMemory;
+use processor_steps::processor::Processor;
 use std::alloc::Global;
 use std::marker::Model;
 use task_descriptor::program::Program;
+use unit_core::read_log::ReadLog;
+use unit_core::unit::Unit;
 
 /// A multiscalar machine over a well-formed program, whether its marks are sound or not.
 #[derive(Drop)]
@@ -29,9 +30,10 @@ impl<'a> Model for OpenMachine<'a> {
 }
 
 impl<'a> OpenMachine<'a> {
-    ghost use Rattle.std.specs.Prelude.{◌≡◌, ◌≤◌, ◌↔◌, length, slice_get, IfOk, OnOk, OnErr, IsTrue};
+    ghost use Rattle.std.specs.Prelude.{◌≡◌, ◌+◌, ◌≤◌, ◌↔◌, length, slice_get, IfOk, OnOk, OnErr, IsTrue};
     ghost use Rattle.std.specs.Option.{option_copied, option_map};
     ghost use Rattle.machine_model.specs.Machine.{opening};
+    ghost use Rattle.machine_model.specs.Claims.{by_head};
     ghost use Rattle.unit_core.specs.Units.{active_of};
     ghost use Rattle.machine_model.specs.declared.event.Standing.TheVariants as standing;
     ghost use Rattle.open_machine.specs.Machines.{state, units_of, IsAnswered, Applies};
@@ -73,9 +75,7 @@ impl<'a> OpenMachine<'a> {
         ensures err { OnErr result (self.new ≡ self.old) }
         ensures kept { (self.new.program ≡ self.old.program) × (units_of self.new ≡ units_of self.old) }
     {
-        answer_is_next();
-        // Reading a program's start gives that it is well formed, which the law requires.
-        let _ = self.program.start();
+        next_is_after();
         if !self.is_running() {
             return Err(Refused::Ended);
         }
@@ -89,7 +89,7 @@ impl<'a> OpenMachine<'a> {
     pub fn is_running(&self) -> bool
         ensures { IsTrue result ↔ ((state self.now).outcome ≡ standing.Running) }
     {
-        matches!(self.processor.outcome(), Standing::Running)
+        self.processor.world().is_running()
     }
 
     /// The program that the machine runs.
@@ -123,7 +123,7 @@ impl<'a> OpenMachine<'a> {
     }
 
     /// The unit at a position, counted from the head, which is 0; `None` past the tail.
-    pub fn unit(&self, position: u32) -> Option<&OpenUnit>
+    pub fn unit(&self, position: u32) -> Option<&Unit>
         ensures { option_map active_of (option_copied result) ≡ slice_get (state self.now).queue position }
     {
         self.processor.unit(position)
@@ -133,14 +133,33 @@ impl<'a> OpenMachine<'a> {
     pub fn outcome(&self) -> Standing
         ensures { result ≡ (state self.now).outcome }
     {
-        self.processor.outcome()
+        self.processor.world().outcome()
     }
 
     /// What the instructions of the retired tasks read, oldest first.
-    pub fn reads(&self) -> &[Read]
-        ensures { result.now ≡ (state self.now).reads }
+    pub fn reads(&self) -> &ReadLog
+        ensures { result.now.reads ≡ (state self.now).reads }
     {
         self.processor.reads()
+    }
+
+    /// How many instructions the retired tasks and the head have executed.
+    pub fn executed(&self) -> usize
+        ensures { result ≡ length (state self.now).reads + by_head (state self.now).queue }
+    {
+        let retired = self.processor.reads();
+        let by_head = self.executed_by_head();
+        retired.len() + by_head
+    }
+
+    /// How many instructions the head has executed; 0 where there is no head.
+    fn executed_by_head(&self) -> usize
+        ensures { result ≡ by_head (state self.now).queue }
+    {
+        match self.unit(0) {
+            Some(head) => head.reads().len(),
+            None => 0,
+        }
     }
 
     /// One commit for each retired task, oldest first.
@@ -154,6 +173,6 @@ impl<'a> OpenMachine<'a> {
     pub fn next(&self) -> u32
         ensures { result ≡ (state self.now).next }
     {
-        self.processor.next
+        self.processor.next()
     }
 }

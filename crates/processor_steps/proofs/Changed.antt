@@ -8,7 +8,6 @@ use Rattle.std.proofs.Math.Path.{fun_ext}
 use Rattle.mips_instructions.specs.Words.{has}
 use Rattle.mips_plain.specs.declared.outcome.Read.{Read}
 use Rattle.task_descriptor.specs.Listing.{Listing}
-use Rattle.mark_checker.specs.Places.{Checked}
 use Rattle.machine_model.specs.Machine.{Active, State, Words, task_at}
 use Rattle.machine_model.specs.Step.{is_reserved, started, filled, handed_over, retire_leaves}
 use Rattle.machine_model.specs.Unit.{exit_of}
@@ -34,19 +33,19 @@ front_more v v0 q k same is =
 
 -- a unit that begins: a register is reserved where an active task may produce it
 
-abbrev unit_with : Checked → (t serial : ℕ) → (arrived sent : Words) → Active
-unit_with a t serial arrived sent = record (begun a t serial (record {
+abbrev unit_with : Listing → (t serial : ℕ) → (arrived sent : Words) → Active
+unit_with p t serial arrived sent = record (begun p t serial (record {
   arrived = record { set = 0; words = [] };
   sent = record { set = 0; words = [] };
 })) { arrived = arrived; sent = sent }
 
-pub begun_started : (a : Checked) (s : State) (words : List ℕ) (accum t : ℕ) (port : Ports) → ((r : ℕ) → has accum r ≡ is_reserved a.program s.queue r) → s.regs ≡ (λ r. slice_index words r) → arrived_of port ≡ arrived_fresh words accum → sent_of port ≡ no_pairs → begun a t s.assigns port ≡ started a.program s t
-begun_started a s words accum t port reserved regs arrived sent =
-    let same : arrived_fresh words accum ≡ (λ r. if is_reserved a.program s.queue r then None else Some (s.regs r)) =
+pub begun_started : (p : Listing) (s : State) (words : List ℕ) (accum t : ℕ) (port : Ports) → ((r : ℕ) → has accum r ≡ is_reserved p s.queue r) → s.regs ≡ (λ r. slice_index words r) → arrived_of port ≡ arrived_fresh words accum → sent_of port ≡ no_pairs → begun p t s.assigns port ≡ started p s t
+begun_started p s words accum t port reserved regs arrived sent =
+    let same : arrived_fresh words accum ≡ (λ r. if is_reserved p s.queue r then None else Some (s.regs r)) =
     fun_ext (λ r. ap (λ (b : Bool). cond b None (Some (slice_index words r))) (reserved r)
-    ∙ ap (λ (f : ℕ → ℕ). cond (is_reserved a.program s.queue r) None (Some (f r))) (sym regs)) in
-    ap (λ (x : Words). unit_with a t s.assigns x (sent_of port)) (arrived ∙ same)
-    ∙ ap (λ (x : Words). unit_with a t s.assigns (λ r. if is_reserved a.program s.queue r then None else Some (s.regs r)) x) sent
+    ∙ ap (λ (f : ℕ → ℕ). cond (is_reserved p s.queue r) None (Some (f r))) (sym regs)) in
+    ap (λ (x : Words). unit_with p t s.assigns x (sent_of port)) (arrived ∙ same)
+    ∙ ap (λ (x : Words). unit_with p t s.assigns (λ r. if is_reserved p s.queue r then None else Some (s.regs r)) x) sent
 
 -- the words that a unit sent, handed over one register after another
 
@@ -84,11 +83,11 @@ module _ (create : ℕ → Bool) (sent : ℕ → Option ℕ) (first : List ℕ) 
     | inr behind ↦ rest r behind ∙ not_created r (none r behind)
   ]
 
-pub assigned : (a : Checked) (v : ProcessorView) (q : QueueView) (t accum n : ℕ) (port : Ports) (u : UnitView) → q ≡ record { units = v.queue.units ++ u ∷ []; capacity = v.queue.capacity } → active_of u ≡ begun a t v.assigns port → ((r : ℕ) → has accum r ≡ is_reserved a.program (actives v.queue) r) → arrived_of port ≡ arrived_fresh v.registers accum → sent_of port ≡ no_pairs → n ≡ v.assigns + 1 → state_of (record v { queue = q; assigns = n }) ≡ after a.program (state_of v) (Assign t)
-assigned a v q t accum n port u pushed is reserved arrived sent more =
+pub assigned : (p : Listing) (v : ProcessorView) (q : QueueView) (t accum n : ℕ) (port : Ports) (u : UnitView) → q ≡ record { units = v.queue.units ++ u ∷ []; capacity = v.queue.capacity } → active_of u ≡ begun p t v.assigns port → ((r : ℕ) → has accum r ≡ is_reserved p (actives v.queue) r) → arrived_of port ≡ arrived_fresh v.registers accum → sent_of port ≡ no_pairs → n ≡ v.assigns + 1 → state_of (record v { queue = q; assigns = n }) ≡ after p (state_of v) (Assign t)
+assigned p v q t accum n port u pushed is reserved arrived sent more =
     let queue =
     ap (λ (x : QueueView). actives x) pushed ∙ map-append active_of v.queue.units (u ∷ [])
-    ∙ ap (λ (x : Active). actives v.queue ++ x ∷ []) (is ∙ begun_started a (state_of v) v.registers accum t port reserved refl arrived sent) in
+    ∙ ap (λ (x : Active). actives v.queue ++ x ∷ []) (is ∙ begun_started p (state_of v) v.registers accum t port reserved refl arrived sent) in
     let assigns = more ∙ add-one v.assigns in
     λ j. record (state_of v) { queue = queue j; assigns = assigns j }
 

@@ -5,3 +5,4 @@ pub mod Executions
 pub mod TriedSteps
 pub mod Changed
 pub mod Positions
+pub mod Growing

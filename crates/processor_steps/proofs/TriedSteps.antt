@@ -1,5 +1,5 @@
 -- A call that takes no memory is a step of the machine where the run goes on.
-use Rattle.std.proofs.Common.{◌≡◌, ℕ, inl, Option, Some, None, Result, Ok, Err, refl, sym, ap, ◌∙◌, subst}
+use Rattle.std.proofs.Common.{◌≡◌, ℕ, ◌<◌, Bool, true, false, inl, Option, Some, None, Result, Ok, Err, refl, sym, ap, ◌∙◌, subst, ltb-true}
 use Rattle.std.specs.Prelude.{nat_lt}
 use Rattle.std.specs.Option.{option_or}
 use Rattle.task_descriptor.specs.Listing.{Listing}
@@ -44,3 +44,14 @@ pub ok_where_running : (o : Standing) (r : Option Refused) → o ≡ Running →
 ok_where_running o r runs none =
     ap (λ (x : Standing). ok_unless (unless (is_running x) refused.Ended (option_or r (unless (nat_lt 0 most_events) refused.Full None)))) runs
     ∙ ap (λ (x : Option Refused). ok_unless (option_or x (unless (nat_lt 0 most_events) refused.Full None))) none
+
+-- there was room for an event that is answered Ok
+
+room_left : (o : Option Refused) (b : Bool) → option_or o (unless b refused.Full None) ≡ None → b ≡ true
+room_left None true e = refl
+room_left None false e = absurd (cc)
+room_left (Some r) b e = absurd (cc)
+
+pub has_room : (p : Listing) (old : ProcessorView) (n : ℕ) (e : Event) (done : Unit {0}) (new : ProcessorView) → Steps p old n e (Ok done) new → n < most_events
+has_room p old n e done new steps =
+    ltb-true n most_events (room_left (refusal p old.queue.capacity (state_of old) e) (nat_lt n most_events) steps.allowed)

@@ -1,10 +1,9 @@
 -- The processor as contracts see it: lists for its arrays and vectors, and one function from them to the
 -- state that the machine step uses.
-use Rattle.std.specs.Prelude.{◌≡◌, ℕ, ◌+◌, ◌⊎◌, List, map, length, slice_index, slice_get, nat_eq, position, Bool, true, false, Option, Some, None, Result, OnOk, OnErr, IfErr}
+use Rattle.std.specs.Prelude.{◌≡◌, ℕ, ◌+◌, ◌⊎◌, List, map, length, slice_index, nat_eq, position, Bool, true, false, Option, Some, None, Result, OnOk, OnErr, IfErr}
 use Rattle.std.specs.List.{sum_by}
 use Rattle.mips_plain.specs.declared.outcome.Read.{Read}
 use Rattle.task_descriptor.specs.Listing.{Listing}
-use Rattle.mark_checker.specs.Places.{Checked}
 use Rattle.machine_model.specs.Machine.{Active, State}
 use Rattle.machine_model.specs.Step.{Next}
 use Rattle.machine_model.specs.Answer.{later_refusal}
@@ -14,7 +13,7 @@ use Rattle.machine_model.specs.declared.event.Event.{Event}
 use Rattle.machine_model.specs.declared.event.Event.TheVariants.{Exec, Retire}
 use Rattle.machine_model.specs.declared.event.Refused.{Refused}
 use Rattle.machine_model.specs.declared.event.Refused.TheVariants as refused
-use Rattle.unit_core.specs.Units.{UnitView, active_of, IsPlaced}
+use Rattle.unit_core.specs.Units.{UnitView, active_of}
 use Rattle.unit_core.specs.Worlds.{WorldView, memory_of}
 
 -- the units from the head to the tail, and how many there may be
@@ -52,10 +51,6 @@ state_of v = record {
 pub record Keeps (old new : ProcessorView) : Type 0 where
   pub capacity : new.queue.capacity ≡ old.queue.capacity
   pub fixed : new.world.contents.fixed ≡ old.world.contents.fixed
-
--- each active task stands at a valid place
-abbrev pub ArePlaced : Checked → List Active → Type 0
-ArePlaced a us = (k : ℕ) (u : Active) → slice_get us k ≡ Some u → IsPlaced a u
 
 -- the position of the unit with a serial number, the first from the head
 abbrev pub position_with : List Active → (serial : ℕ) → Option ℕ

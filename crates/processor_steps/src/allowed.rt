@@ -15,14 +15,14 @@ ghost use Rattle.machine_model.specs.declared.event.Refused.TheVariants as refus
 ghost use Rattle.processor_steps.specs.Processors.{state_of};
 ghost use Rattle.unit_core.specs.Units.{active_of};
 
-use crate::listing::{begins, created, is_listed, may_follow};
+use crate::listing::{begins, is_listed, may_follow};
 use crate::processor::Processor;
 use limits::ranges::MOST_EVENTS;
 use machine_model::event::{Refused, Spot};
 use mips_instructions::number::Reg;
 use register_ring::members::next_member;
 use task_descriptor::program::Program;
-use unit_core::unit::Unit;
+use unit_core::unit::{Unit, created};
 
 /// The address at which a unit has stopped.
 #[inline]

@@ -7,14 +7,12 @@ ghost use Rattle.machine_model.specs.Machine.{Active, pass};
 ghost use Rattle.machine_model.specs.Unit.{exit_of};
 ghost use Rattle.machine_model.specs.Answer.{refusal, after, with_queue};
 ghost use Rattle.machine_model.specs.declared.event.Event.TheVariants as event;
-ghost use Rattle.processor_steps.specs.Processors.{state_of, actives, Keeps, ArePlaced};
+ghost use Rattle.processor_steps.specs.Processors.{state_of, actives, Keeps};
 ghost use Rattle.unit_core.specs.Units.{active_of};
 ghost use Rattle.unit_core.specs.Bursts.{carried_on};
 
-use crate::listing::created;
 use crate::processor::Processor;
 use machine_model::event::{Commit, Standing};
-use mark_checker::accept::Accepted;
 use mips_instructions::number::Reg;
 use mips_plain::outcome::OutOfMemory;
 use std::alloc::Global;
@@ -22,22 +20,22 @@ use std::mem;
 use task_descriptor::program::Program;
 use unit_core::burst::Burst;
 use unit_core::read_log::ReadLog;
-use unit_core::unit::Unit;
+use unit_core::unit::{Unit, created};
 
 impl Processor {
     /// A unit begins a task after the tail.
-    pub(crate) fn assign(&mut self, alloc: Global, accepted: &Accepted, task: u32)
-        requires there { task < length accepted.now.program.tasks }
+    pub(crate) fn assign(&mut self, alloc: Global, program: &Program, task: u32)
+        requires there { task < length program.now.tasks }
         requires free { length self.old.queue.units < self.old.queue.capacity }
         requires room { self.old.assigns + 1 < 2 ^ 32 }
-        ensures state { state_of self.new ≡ after accepted.now.program (state_of self.old) (event.Assign task) }
+        ensures state { state_of self.new ≡ after program.now (state_of self.old) (event.Assign task) }
         ensures kept { Keeps self.old self.new }
     {
-        let reserved = self.queue.reserved(accepted.program());
+        let reserved = self.queue.reserved(program);
         let log = mem::replace(&mut self.spare, ReadLog::new(alloc));
         self.queue.push(Unit::with_room(
             log,
-            accepted,
+            program,
             task,
             self.assigns,
             &self.registers,
@@ -78,13 +76,12 @@ impl Processor {
 
     /// The unit at a position, which has stopped, sends a register.
     #[inline]
-    pub(crate) fn send_word(&mut self, accepted: &Accepted, position: u32, register: Reg)
-        requires allowed { refusal accepted.now.program self.old.queue.capacity (state_of self.old) (event.Drain position register) ≡ None }
-        requires placed { ArePlaced accepted.now (state_of self.old).queue }
-        ensures state { state_of self.new ≡ after accepted.now.program (state_of self.old) (event.Drain position register) }
+    pub(crate) fn send_word(&mut self, program: &Program, position: u32, register: Reg)
+        requires { refusal program.now self.old.queue.capacity (state_of self.old) (event.Drain position register) ≡ None }
+        ensures state { state_of self.new ≡ after program.now (state_of self.old) (event.Drain position register) }
         ensures kept { Keeps self.old self.new }
     {
-        self.queue.send(position as usize, accepted, register);
+        self.queue.send(position as usize, program, register);
     }
 
     /// Removes all units after a position.

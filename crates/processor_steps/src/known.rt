@@ -8,14 +8,14 @@ ghost use Rattle.machine_model.specs.declared.event.Event.{Event};
 ghost use Rattle.machine_model.specs.declared.event.Standing.TheVariants as standing;
 
 use machine_model::laws::answer_is_next;
-use mark_checker::accept::Accepted;
+use task_descriptor::program::Program;
 
 /// While the run continues and nothing refuses an event, the machine step allows it; the call does
 /// nothing.
-pub(crate) fn known(accepted: &Accepted)
-    ensures { (units : ℕ) (s : State) (e : Event) → s.outcome ≡ standing.Running → refusal accepted.now.program units s e ≡ None → Next accepted.now.program units s e (after accepted.now.program s e) }
+pub(crate) fn known(program: &Program)
+    ensures { (units : ℕ) (s : State) (e : Event) → s.outcome ≡ standing.Running → refusal program.now units s e ≡ None → Next program.now units s e (after program.now s e) }
 {
     // Reading a program's start gives that it is well formed, which the law requires.
-    let _ = accepted.program().start();
+    let _ = program.start();
     answer_is_next();
 }

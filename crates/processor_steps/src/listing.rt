@@ -8,7 +8,7 @@ ghost use Rattle.machine_model.specs.Step.{is_listed as is_listed_at, follows_at
 ghost use Rattle.machine_model.specs.HeadEvent.{task_beginning as task_beginning_at};
 
 use machine_model::event::Spot;
-use mips_instructions::number::{Place, RegSet};
+use mips_instructions::number::Place;
 use mips_instructions::places::CODE_START;
 use task_descriptor::descriptor::Descriptor;
 use task_descriptor::program::Program;
@@ -22,17 +22,6 @@ pub(crate) fn begins(program: &Program, task: u32) -> u32
     match program.tasks().get(task as usize) {
         Some(descriptor) => program.address(descriptor.entry),
         None => CODE_START,
-    }
-}
-
-/// The registers for which a task may produce values; none for a number beyond the tasks.
-#[inline]
-pub(crate) fn created(program: &Program, task: u32) -> RegSet
-    ensures { result ≡ (task_at program.now task).create }
-{
-    match program.tasks().get(task as usize) {
-        Some(descriptor) => descriptor.create,
-        None => RegSet::empty(),
     }
 }
 

@@ -128,6 +128,14 @@ impl Processor {
         &self.world
     }
 
+    /// The address, in bytes, at which the next task after the retired ones begins.
+    #[inline]
+    pub fn next(&self) -> u32
+        ensures { result ≡ self.now.next }
+    {
+        self.next
+    }
+
     /// What the instructions of the retired tasks read, oldest first.
     #[inline]
     pub fn reads(&self) -> &ReadLog

@@ -1,10 +1,8 @@
 //! The queue of units from the head to the tail: a ring as long as there are units (Sohi, Breach,
 //! Vijaykumar, ISCA 1995, section 2: a circular queue of units with a head and a tail).
 
-use crate::listing::created;
 use circular_buffer::HeapCircularBuffer;
 use machine_model::event::Refused;
-use mark_checker::accept::Accepted;
 use mips_instructions::number::{Reg, RegSet};
 use mips_plain::outcome::OutOfMemory;
 use register_ring::members::next_member;
@@ -13,7 +11,7 @@ use std::marker::Model;
 use task_descriptor::program::Program;
 use unit_core::burst::Burst;
 use unit_core::read_log::ReadLog;
-use unit_core::unit::Unit;
+use unit_core::unit::{Unit, created};
 use unit_core::wait::Wait;
 use unit_core::world::World;
 
@@ -45,7 +43,7 @@ impl Queue {
     ghost use Rattle.machine_model.specs.Step.{is_reserved, filled};
     ghost use Rattle.unit_core.specs.Units.{active_of};
     ghost use Rattle.unit_core.specs.Bursts.{carried_on};
-    ghost use Rattle.processor_steps.specs.Processors.{actives, ArePlaced, position_with as position_with_serial};
+    ghost use Rattle.processor_steps.specs.Processors.{actives, position_with as position_with_serial};
     ghost use Rattle.processor_steps.specs.CallParts.{HeadStep, AheadStep, IsRefusedBy};
     ghost use Rattle.machine_model.specs.declared.event.Refused.TheVariants as refused;
     ghost use Rattle.machine_model.specs.declared.event.Standing.TheVariants as standing;
@@ -166,16 +164,15 @@ impl Queue {
 
     /// The unit at a position sends a register, where it may.
     #[inline]
-    pub(crate) fn send(&mut self, position: usize, accepted: &Accepted, register: Reg)
-        requires { ArePlaced accepted.now (actives self.old) }
-        ensures active { (u : Active) → slice_get (actives self.old) position ≡ Some u → drain_refusal accepted.now.program u register ≡ None
+    pub(crate) fn send(&mut self, position: usize, program: &Program, register: Reg)
+        ensures active { (u : Active) → slice_get (actives self.old) position ≡ Some u → drain_refusal program.now u register ≡ None
             → actives self.new ≡ slice_set (actives self.old) position (after_drain u register (operand u register)) }
         ensures capacity { self.new.capacity ≡ self.old.capacity }
     {
         let Some(unit) = self.ring.get_mut(position) else {
             return;
         };
-        let _ = unit.drain(accepted, register);
+        let _ = unit.drain(program, register);
     }
 
     /// Each register that has not arrived at the head arrives there, with its word from these.
@@ -191,22 +188,17 @@ impl Queue {
 
     /// The head executes one instruction.
     #[inline(always)]
-    pub(crate) fn exec_head(
-        &mut self,
-        accepted: &Accepted,
-        world: &mut World,
-    ) -> Result<(), Refused>
-        requires placed { ArePlaced accepted.now (actives self.old) }
-        requires runs { world.old.outcome ≡ standing.Running }
-        ensures ok { OnOk result (HeadStep accepted.now.program (actives self.old) (actives self.new) world.old world.new) }
-        ensures refused { IfErr result (λ why. IsRefusedBy why (for_some (slice_get (actives self.old) 0) refused.NoSuch (refusal_of accepted.now.program true))) }
+    pub(crate) fn exec_head(&mut self, program: &Program, world: &mut World) -> Result<(), Refused>
+        requires { world.old.outcome ≡ standing.Running }
+        ensures ok { OnOk result (HeadStep program.now (actives self.old) (actives self.new) world.old world.new) }
+        ensures refused { IfErr result (λ why. IsRefusedBy why (for_some (slice_get (actives self.old) 0) refused.NoSuch (refusal_of program.now true))) }
         ensures err { OnErr result ((self.new ≡ self.old) × (world.new ≡ world.old)) }
         ensures capacity { self.new.capacity ≡ self.old.capacity }
     {
         let Some(head) = self.ring.get_mut(0) else {
             return Err(Refused::NoSuch);
         };
-        match head.exec(accepted, world) {
+        match head.exec(program, world) {
             Ok(()) => return Ok(()),
             Err(wait) => return Err(refused_by(wait)),
         }
@@ -214,18 +206,17 @@ impl Queue {
 
     /// The unit at a position after the head executes one instruction.
     #[inline(always)]
-    pub(crate) fn exec_ahead(&mut self, position: usize, accepted: &Accepted) -> Result<(), Refused>
-        requires behind { 0 < position }
-        requires placed { ArePlaced accepted.now (actives self.old) }
-        ensures ok { OnOk result (AheadStep accepted.now.program position (actives self.old) (actives self.new)) }
-        ensures refused { IfErr result (λ why. IsRefusedBy why (for_some (slice_get (actives self.old) position) refused.NoSuch (refusal_of accepted.now.program false))) }
+    pub(crate) fn exec_ahead(&mut self, position: usize, program: &Program) -> Result<(), Refused>
+        requires { 0 < position }
+        ensures ok { OnOk result (AheadStep program.now position (actives self.old) (actives self.new)) }
+        ensures refused { IfErr result (λ why. IsRefusedBy why (for_some (slice_get (actives self.old) position) refused.NoSuch (refusal_of program.now false))) }
         ensures err { OnErr result (self.new ≡ self.old) }
         ensures capacity { self.new.capacity ≡ self.old.capacity }
     {
         let Some(unit) = self.ring.get_mut(position) else {
             return Err(Refused::NoSuch);
         };
-        match unit.exec_ahead(accepted) {
+        match unit.exec_ahead(program) {
             Ok(()) => return Ok(()),
             Err(wait) => return Err(refused_by(wait)),
         }
@@ -271,14 +262,13 @@ impl Queue {
     }
 
     /// What refuses an instruction of the unit at a position, lack of memory aside.
-    pub(crate) fn exec_refusal(&self, position: usize, accepted: &Accepted) -> Option<Refused>
-        requires { ArePlaced accepted.now (actives self.now) }
-        ensures { result ≡ for_some (slice_get (actives self.now) position) refused.NoSuch (refusal_of accepted.now.program (nat_eq position 0)) }
+    pub(crate) fn exec_refusal(&self, position: usize, program: &Program) -> Option<Refused>
+        ensures { result ≡ for_some (slice_get (actives self.now) position) refused.NoSuch (refusal_of program.now (nat_eq position 0)) }
     {
         let Some(unit) = self.ring.get(position) else {
             return Some(Refused::NoSuch);
         };
-        match unit.wait(accepted, position == 0) {
+        match unit.wait(program, position == 0) {
             Some(wait) => Some(refused_by(wait)),
             None => None,
         }

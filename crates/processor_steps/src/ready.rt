@@ -9,16 +9,14 @@ ghost use Rattle.machine_model.specs.Answer.{refusal};
 ghost use Rattle.machine_model.specs.declared.event.Event.TheVariants as event;
 ghost use Rattle.unit_core.specs.Units.{active_of};
 ghost use Rattle.processor_steps.specs.LeastRegisters.{IsLeast};
-ghost use Rattle.processor_steps.specs.Processors.{state_of, ArePlaced};
+ghost use Rattle.processor_steps.specs.Processors.{state_of};
 
-use crate::listing::created;
 use crate::processor::Processor;
 use machine_model::event::Spot;
-use mark_checker::accept::Accepted;
 use mips_instructions::number::{Reg, RegSet};
 use register_ring::members::next_member;
 use task_descriptor::program::Program;
-use unit_core::unit::Unit;
+use unit_core::unit::{Unit, created};
 
 impl Processor {
     /// The place of the unit at a position, counted from the head; `None` past the tail.
@@ -33,15 +31,13 @@ impl Processor {
     }
 
     /// Whether the unit at a position lacks nothing for its next instruction, and the instruction needs only
-    /// the unit's registers and read-only data, so that it may be part of a burst. The units are of this
-    /// program and certificate.
+    /// the unit's registers and read-only data, so that it may be part of a burst.
     #[inline]
-    pub fn can_run_ahead(&self, accepted: &Accepted, position: u32) -> bool
-        requires { ArePlaced accepted.now (state_of self.now).queue }
-        ensures { IsTrue result ↔ ((u : Active) × (slice_get (state_of self.now).queue position ≡ Some u) × (exec_refusal accepted.now.program false u ≡ None)) }
+    pub fn can_run_ahead(&self, program: &Program, position: u32) -> bool
+        ensures { IsTrue result ↔ ((u : Active) × (slice_get (state_of self.now).queue position ≡ Some u) × (exec_refusal program.now false u ≡ None)) }
     {
         match self.unit(position) {
-            Some(unit) => unit.wait(accepted, false).is_none(),
+            Some(unit) => unit.wait(program, false).is_none(),
             None => false,
         }
     }

@@ -6,7 +6,7 @@ ghost use Rattle.machine_model.specs.Answer.{refusal};
 ghost use Rattle.machine_model.specs.declared.event.Refused.TheVariants as refused;
 ghost use Rattle.machine_model.specs.declared.event.Event.TheVariants as events;
 ghost use Rattle.machine_model.specs.declared.event.Standing.TheVariants as standing;
-ghost use Rattle.processor_steps.specs.Processors.{state_of, ArePlaced, Steps, executed_by};
+ghost use Rattle.processor_steps.specs.Processors.{state_of, Steps, executed_by};
 ghost use Rattle.processor_steps.specs.CallParts.{Does};
 
 use crate::allowed::room_behind;
@@ -15,7 +15,6 @@ use crate::processor::Processor;
 use limits::ranges::MOST_EVENTS;
 use machine_model::event::{Event, Refused};
 use machine_model::laws::bursts_are_events;
-use mark_checker::accept::Accepted;
 use mips_instructions::number::Reg;
 use mips_plain::outcome::OutOfMemory;
 use std::alloc::Global;
@@ -27,16 +26,16 @@ impl Processor {
     pub(crate) fn try_assign(
         &mut self,
         alloc: Global,
-        accepted: &Accepted,
+        program: &Program,
         count: usize,
         task: u32,
     ) -> Result<(), Refused>
         requires { self.old.assigns + 1 < 2 ^ 32 }
-        ensures { Does accepted.now.program self.old count (events.Assign task) result self.new }
+        ensures { Does program.now self.old count (events.Assign task) result self.new }
     {
-        self.may_assign(accepted.program(), task)?;
+        self.may_assign(program, task)?;
         room_behind(count)?;
-        self.assign(alloc, accepted, task);
+        self.assign(alloc, program, task);
         Ok(())
     }
 
@@ -61,17 +60,16 @@ impl Processor {
     #[inline]
     pub(crate) fn try_drain(
         &mut self,
-        accepted: &Accepted,
+        program: &Program,
         count: usize,
         position: u32,
         register: Reg,
     ) -> Result<(), Refused>
-        requires { ArePlaced accepted.now (state_of self.old).queue }
-        ensures { Does accepted.now.program self.old count (events.Drain position register) result self.new }
+        ensures { Does program.now self.old count (events.Drain position register) result self.new }
     {
-        self.may_send(accepted.program(), position, register)?;
+        self.may_send(program, position, register)?;
         room_behind(count)?;
-        self.send_word(accepted, position, register);
+        self.send_word(program, position, register);
         Ok(())
     }
 
@@ -124,15 +122,14 @@ impl Processor {
     /// The first refusal that holds, `Full` the last of them, else `OutOfMemory` where memory was refused;
     /// nothing is changed then.
     #[inline(always)]
-    pub fn exec_head(&mut self, accepted: &Accepted, count: usize) -> Result<(), Refused>
+    pub fn exec_head(&mut self, program: &Program, count: usize) -> Result<(), Refused>
         requires runs { self.old.world.outcome ≡ standing.Running }
-        requires placed { ArePlaced accepted.now (state_of self.old).queue }
-        ensures { Steps accepted.now.program self.old count (events.Exec 0) result self.new }
+        ensures { Steps program.now self.old count (events.Exec 0) result self.new }
     {
         if count >= MOST_EVENTS {
-            return Err(self.exec_when_full(accepted, 0));
+            return Err(self.exec_when_full(program, 0));
         }
-        self.queue.exec_head(accepted, &mut self.world)
+        self.queue.exec_head(program, &mut self.world)
     }
 
     /// Like `exec_head`, but for the unit at a position after the head, 1 or more.
@@ -143,42 +140,39 @@ impl Processor {
     #[inline(always)]
     pub fn exec_ahead(
         &mut self,
-        accepted: &Accepted,
+        program: &Program,
         count: usize,
         position: u32,
     ) -> Result<(), Refused>
         requires behind { 0 < position }
         requires runs { self.old.world.outcome ≡ standing.Running }
-        requires placed { ArePlaced accepted.now (state_of self.old).queue }
-        ensures { Steps accepted.now.program self.old count (events.Exec position) result self.new }
+        ensures { Steps program.now self.old count (events.Exec position) result self.new }
     {
         bursts_are_events();
         if count >= MOST_EVENTS {
-            return Err(self.exec_when_full(accepted, position));
+            return Err(self.exec_when_full(program, position));
         }
-        self.queue.exec_ahead(position as usize, accepted)
+        self.queue.exec_ahead(position as usize, program)
     }
 
     /// Like `exec_head`, but for the unit at any position.
     #[inline(never)]
-    fn exec(&mut self, accepted: &Accepted, count: usize, position: u32) -> Result<(), Refused>
+    fn exec(&mut self, program: &Program, count: usize, position: u32) -> Result<(), Refused>
         requires runs { self.old.world.outcome ≡ standing.Running }
-        requires placed { ArePlaced accepted.now (state_of self.old).queue }
-        ensures { Steps accepted.now.program self.old count (events.Exec position) result self.new }
+        ensures { Steps program.now self.old count (events.Exec position) result self.new }
     {
         if position == 0 {
-            self.exec_head(accepted, count)
+            self.exec_head(program, count)
         } else {
-            self.exec_ahead(accepted, count, position)
+            self.exec_ahead(program, count, position)
         }
     }
 
     /// What refuses an Exec where the history is full.
-    fn exec_when_full(&self, accepted: &Accepted, position: u32) -> Refused
-        requires { ArePlaced accepted.now (state_of self.now).queue }
-        ensures { Some result ≡ option_or (refusal accepted.now.program self.now.queue.capacity (state_of self.now) (events.Exec position)) (Some refused.Full) }
+    fn exec_when_full(&self, program: &Program, position: u32) -> Refused
+        ensures { Some result ≡ option_or (refusal program.now self.now.queue.capacity (state_of self.now) (events.Exec position)) (Some refused.Full) }
     {
-        match self.queue.exec_refusal(position as usize, accepted) {
+        match self.queue.exec_refusal(position as usize, program) {
             Some(refused) => refused,
             None => Refused::Full,
         }
@@ -186,15 +180,15 @@ impl Processor {
 
     /// Retire, after `count` events.
     #[inline(always)]
-    pub(crate) fn try_retire(&mut self, accepted: &Accepted, count: usize) -> Result<(), Refused>
+    pub(crate) fn try_retire(&mut self, program: &Program, count: usize) -> Result<(), Refused>
         requires runs { self.old.world.outcome ≡ standing.Running }
         requires executed { executed_by (state_of self.old) < 2 ^ 32 }
-        ensures { Steps accepted.now.program self.old count events.Retire result self.new }
+        ensures { Steps program.now self.old count events.Retire result self.new }
     {
-        known(accepted);
-        let exit = self.exit_to_retire_at(accepted.program())?;
+        known(program);
+        let exit = self.exit_to_retire_at(program)?;
         room_behind(count)?;
-        match self.retire(accepted.program(), exit) {
+        match self.retire(program, exit) {
             Ok(()) => Ok(()),
             Err(OutOfMemory) => Err(Refused::OutOfMemory),
         }
@@ -211,43 +205,39 @@ impl Processor {
     pub fn step(
         &mut self,
         alloc: Global,
-        accepted: &Accepted,
+        program: &Program,
         count: usize,
         event: &Event,
     ) -> Result<(), Refused>
         requires runs { self.old.world.outcome ≡ standing.Running }
-        requires placed { ArePlaced accepted.now (state_of self.old).queue }
         requires assigned { self.old.assigns + 1 < 2 ^ 32 }
         requires executed { executed_by (state_of self.old) < 2 ^ 32 }
-        ensures { Steps accepted.now.program self.old count event.now result self.new }
+        ensures { Steps program.now self.old count event.now result self.new }
     {
-        known(accepted);
-        let program = accepted.program();
+        known(program);
         match *event {
-            Event::Assign(task) => self.try_assign(alloc, accepted, count, task),
-            Event::Exec(position) => self.exec(accepted, count, position),
+            Event::Assign(task) => self.try_assign(alloc, program, count, task),
+            Event::Exec(position) => self.exec(program, count, position),
             Event::Transfer(position, register) => self.try_transfer(
                 program, count, position, register,
             ),
-            Event::Drain(position, register) => self.try_drain(accepted, count, position, register),
+            Event::Drain(position, register) => self.try_drain(program, count, position, register),
             Event::Squash(position) => self.try_squash(program, count, position),
-            Event::Retire => self.try_retire(accepted, count),
+            Event::Retire => self.try_retire(program, count),
             Event::Fault => self.try_fault(program, count),
             Event::Drop(position) => self.try_drop(program, count, position),
         }
     }
 
     /// Whether an event is refused by nothing but, perhaps, the run's end or a full history.
-    pub fn is_allowed(&self, accepted: &Accepted, event: Event) -> bool
-        requires { ArePlaced accepted.now (state_of self.now).queue }
-        ensures { IsTrue result ↔ (refusal accepted.now.program self.now.queue.capacity (state_of self.now) event ≡ None) }
+    pub fn is_allowed(&self, program: &Program, event: Event) -> bool
+        ensures { IsTrue result ↔ (refusal program.now self.now.queue.capacity (state_of self.now) event ≡ None) }
     {
-        let program = accepted.program();
         match event {
             Event::Assign(task) => self.may_assign(program, task).is_ok(),
             Event::Exec(position) => self
                 .queue
-                .exec_refusal(position as usize, accepted)
+                .exec_refusal(position as usize, program)
                 .is_none(),
             Event::Transfer(position, register) => self
                 .word_to_take(program, position, register)

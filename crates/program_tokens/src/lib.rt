@@ -4,6 +4,7 @@
 mod kind;
 pub mod line;
 mod number;
+pub mod origin;
 mod register;
 pub mod span;
 pub mod token;

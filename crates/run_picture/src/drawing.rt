@@ -20,30 +20,10 @@ use task_descriptor::program::Program;
 use task_lives::tally::Tally;
 
 /// The picture of the history of a run of a program of this name, which may be empty, on `units` units, at least one: an
-/// SVG file with no script and no font of its own. It does not say how the run ended. The history has at most 1,000,000
-/// events, and no event of it is at a position where there is no unit; this holds for every history of a machine
-/// (`task_lives::laws::histories_fit`).
-///
-/// # Errors
-///
-/// `AllocError` where memory was refused.
-pub fn draw(
-    alloc: Global,
-    program: &Program,
-    name: &str,
-    units: u32,
-    runs: &[EventRun],
-) -> Result<String, AllocError>
-    requires some { 0 < units }
-    requires room { length (events_of runs.now) ≤ most_events }
-    requires fit { AllFit 0 (events_of runs.now) }
-{
-    draw_ended(alloc, program, name, "", units, None, &[], runs)
-}
-
-/// The picture of a history, as `draw` makes it, which also says how the run is after the history, if that is known, and
-/// shows how the task ended with which it did. `said` is SVG text, which may be empty and is put to the right of the legend.
-/// `notes` say what each event did; there may be none.
+/// SVG file with no script and no font of its own. It says how the run is after the history, if that is known, and shows
+/// how the task ended with which it did. `said` is SVG text, which may be empty and is put to the right of the legend.
+/// `notes` say what each event did; there may be none. The history has at most 1,000,000 events, and no event of it is at
+/// a position where there is no unit; this holds for every history of a machine (`task_lives::laws::histories_fit`).
 ///
 /// # Errors
 ///

@@ -9,7 +9,7 @@ text{fill:#1f2933;font-size:14px;pointer-events:none}line{pointer-events:none}
 .paper,.idle{fill:#fff}.idle{stroke:#cbd2d9}.lane{fill:#f4f6f9}.grid{stroke:#dde3e9}.axis{stroke:#7b8794;stroke-width:1.5}
 .retired,.halted{fill:#cfe8d5;stroke:#2f6b4a}.squashed{fill:url(#hatched);stroke:#b0402a}.dropped{fill:url(#dotted);stroke:#7d5f10}
 .unfinished{fill:#d8e4f5;stroke:#34588f;stroke-dasharray:5 3}.retired,.squashed,.dropped,.unfinished{stroke-width:1.5}.halted,.trapped{stroke-width:4}.trapped{fill:#fae3dc;stroke:#b0402a}.leads{fill:#34588f}
-.share{stroke-width:0}.share,.wait{shape-rendering:crispEdges}.needs{fill:#d9822b}.turn{fill:url(#upright)}.pass{fill:url(#level)}.squash{fill:#b0402a;stroke:#fff}
+.share{stroke-width:0}.share,.wait{shape-rendering:crispEdges}.needs{fill:#d9822b}.turn{fill:url(#leaning)}.pass{fill:url(#level)}.squash{fill:#b0402a;stroke:#fff}
 .instruction{stroke:#1f2933;stroke-width:1.6}.transfer{stroke:#52606d;stroke-width:1.3;marker-end:url(#head)}.fine{stroke-width:.6}.transfer.fine{marker-end:url(#small)}.instruction,.transfer,.hit{pointer-events:stroke}.hit{stroke:transparent;stroke-width:7}.head,.register{fill:#52606d}.register{font-size:12px}
 .rose{fill:#fae3dc}.red{stroke:#e09a86}.sand{fill:#f6edd0}.ochre{fill:#a98a35}.mist{fill:#e4e9ee}.slate{stroke:#52606d}.lilac{fill:#eadcf8}.violet{stroke:#7a4fb0}
 @media (prefers-color-scheme:dark){
@@ -22,7 +22,7 @@ text{fill:#e4e9ee}.quiet,.caption,.number{fill:#9aa7b4}.task{stroke:#1c2229}.pap
 <defs>
 <pattern id='hatched' width='7' height='7' patternUnits='userSpaceOnUse' patternTransform='rotate(45)'><path class='rose' d='M0 0H7V7H0Z'/><path class='red' d='M0 0V7' stroke-width='2.6'/></pattern>
 <pattern id='dotted' width='7' height='7' patternUnits='userSpaceOnUse'><path class='sand' d='M0 0H7V7H0Z'/><circle class='ochre' cx='2' cy='2' r='1.2'/><circle class='ochre' cx='5.5' cy='5.5' r='1.2'/></pattern>
-<pattern id='upright' width='5' height='5' patternUnits='userSpaceOnUse'><path class='mist' d='M0 0H5V5H0Z'/><path class='slate' d='M1 0V5' stroke-width='2'/></pattern>
+<pattern id='leaning' width='5' height='5' patternUnits='userSpaceOnUse' patternTransform='rotate(-45)'><path class='mist' d='M0 0H5V5H0Z'/><path class='slate' d='M1 0V5' stroke-width='2'/></pattern>
 <pattern id='level' width='5' height='5' patternUnits='userSpaceOnUse'><path class='lilac' d='M0 0H5V5H0Z'/><path class='violet' d='M0 1H5' stroke-width='2'/></pattern>
 <marker id='head' viewBox='0 0 8 8' refX='7' refY='4' markerWidth='7' markerHeight='7' markerUnits='userSpaceOnUse' orient='auto'><path class='head' d='M0 .8 7.4 4 0 7.2z'/></marker>
 <marker id='small' viewBox='0 0 8 8' refX='7' refY='4' markerWidth='4' markerHeight='4' markerUnits='userSpaceOnUse' orient='auto'><path class='head' d='M0 .8 7.4 4 0 7.2z'/></marker>
@@ -38,15 +38,15 @@ text{fill:#e4e9ee}.quiet,.caption,.number{fill:#9aa7b4}.task{stroke:#1c2229}.pap
 pub const SINGLE_LEGEND: &str =
     "<rect class='unfinished' x='430' y='94' width='28' height='16'/><text x='466' y='107'>unfinished</text>
 <rect class='halted' x='564' y='94' width='28' height='16'/><text x='600' y='107'>halted</text>
-<rect class='trapped' x='662' y='94' width='28' height='16'/><text x='698' y='107'>trapped</text>
-<rect class='leads' x='770' y='101' width='28' height='3'/><text x='806' y='107'>head</text>
-<path class='squash' d='M858 96h14l-7 11z'/><text x='880' y='107'>squash begins</text>
+<rect class='trapped' x='662' y='94' width='28' height='16'/><text x='698' y='107'>trapped, unlisted</text>
+<rect class='leads' x='838' y='101' width='28' height='3'/><text x='874' y='107'>head</text>
+<path class='squash' d='M926 96h14l-7 11z'/><text x='948' y='107'>squash</text>
 ";
 
 /// What the marks of events look like that have room.
 pub const MARKS_LEGEND: &str =
-    "<path class='instruction' d='M990 97v10M996 97v10M1002 97v10'/><text x='1012' y='107'>instruction</text>
-<rect class='retired' x='1100' y='94' width='16' height='16'/><path class='transfer' d='M1108 97V110'/><text x='1124' y='107'>sent at the exit</text>
+    "<path class='instruction' d='M1018 97v10M1024 97v10M1030 97v10'/><text x='1040' y='107'>instruction</text>
+<rect class='retired' x='1132' y='94' width='16' height='16'/><path class='transfer' d='M1140 97V110'/><text x='1156' y='107'>sent at exit</text>
 ";
 
 /// What an arrow between units is, in a picture of events.

@@ -67,7 +67,7 @@ pub fn write_how_it_stands(text: &mut String, standing: Standing) -> Result<(), 
         Standing::Trapped(trap) => write!(text, "trapped: {trap}"),
         Standing::Unlisted(address) => write!(
             text,
-            "is unlisted: the head's task goes to 0x{address:x}, which it does not list"
+            "is unlisted: the head goes to 0x{address:x}, none of its targets"
         ),
     }
 }

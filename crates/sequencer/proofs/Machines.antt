@@ -1,24 +1,13 @@
 -- A machine stays the replay of its history: at its start, and after one more event.
-use Rattle.std.proofs.Common.{◌≡◌, ℕ, ◌+◌, ◌<◌, ◌≤◌, Bool, true, false, List, [], ◌∷◌, ◌++◌, length, Option, Some, None, Ok, refl, sym, ap, ◌∙◌, subst, arith, length-append, ltb-true}
-use Rattle.std.specs.Prelude.{nat_lt}
-use Rattle.std.specs.Option.{option_or}
+use Rattle.std.proofs.Common.{◌≡◌, ℕ, ◌+◌, ◌<◌, ◌≤◌, List, [], ◌∷◌, ◌++◌, length, Ok, refl, sym, ap, ◌∙◌, subst, arith, length-append}
 use Rattle.mips_plain.specs.MemoryMap.{byte_of}
 use Rattle.machine_model.specs.Machine.{State}
 use Rattle.machine_model.specs.Replay.{ReplaysFrom, Replays}
-use Rattle.machine_model.specs.Refusals.{unless}
 use Rattle.machine_model.specs.Answer.{most_events}
 use Rattle.machine_model.specs.declared.event.Event.{Event}
-use Rattle.machine_model.specs.declared.event.Refused.{Refused}
-use Rattle.machine_model.specs.declared.event.Refused.TheVariants as refused
 use Rattle.processor_steps.specs.Processors.{ProcessorView, Keeps, Steps, state_of}
+use Rattle.processor_steps.proofs.TriedSteps.{has_room}
 use Rattle.sequencer.specs.Machines.{MachineView, IsMachine, state, units_of}
-
--- room that the test found
-
-room_left : (o : Option Refused) (b : Bool) → option_or o (unless b refused.Full None) ≡ None → b ≡ true
-room_left None true e = refl
-room_left None false e = absurd (cc)
-room_left (Some r) b e = absurd (cc)
 
 -- more events
 
@@ -40,7 +29,7 @@ pub applied : (m : MachineView) (e : Event) (done : Unit {0}) (p' : ProcessorVie
     → ((units : ℕ) (first second : List Event) (s s' : State) → Replays m.accepted.program units first s → ReplaysFrom m.accepted.program units s second s' → Replays m.accepted.program units (first ++ second) s')
     → IsMachine (record m { processor = p'; history = m.history ++ e ∷ [] })
 applied m e done p' h steps more =
-    let room : length m.history < most_events = ltb-true (length m.history) most_events (room_left _ (nat_lt (length m.history) most_events) steps.allowed) in
+    let room : length m.history < most_events = has_room m.accepted.program m.processor (length m.history) e done p' steps in
     goes_on m (e ∷ []) p' h (state_of p', steps.next, refl) steps.kept (omega arith) more
 
 -- the same from the law of a machine v, for the parts m that a call has of it

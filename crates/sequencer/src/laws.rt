@@ -9,18 +9,14 @@ ghost use Rattle.machine_model.specs.Answer.{refusal, after};
 ghost use Rattle.machine_model.specs.Claims.{count_h};
 ghost use Rattle.machine_model.specs.HeadEvent.{growth};
 ghost use Rattle.machine_model.specs.declared.event.Event.{Event};
-ghost use Rattle.processor_steps.specs.Processors.{ArePlaced, executed_by};
+ghost use Rattle.processor_steps.specs.Processors.{executed_by};
 ghost use Rattle.sequencer.specs.Rings.{AreDistinct, EventFits};
 
-use crate::accepted_laws::replayed_places_masked;
-use machine_model::laws::{
-    answer_is_next, events_count, events_grow, next_is_after, places_are_valid, replays_join,
-};
+use machine_model::laws::{answer_is_next, events_count, events_grow, next_is_after, replays_join};
 use mark_checker::accept::Accepted;
 
 /// Each clause is a law of the replays of an accepted program; the call does nothing.
 pub(crate) fn accepted_replays(accepted: &Accepted)
-    ensures placed { (units : ℕ) (events : List Event) (s : State) → Replays accepted.now.program units events s → ArePlaced accepted.now s.queue }
     ensures is_after { (units : ℕ) (s s' : State) (e : Event) → Next accepted.now.program units s e s' → s' ≡ after accepted.now.program s e }
     ensures allowed { (units : ℕ) (s s' : State) (e : Event) → Next accepted.now.program units s e s' → refusal accepted.now.program units s e ≡ None }
     ensures grows { (units : ℕ) (s s' : State) (e : Event) → Next accepted.now.program units s e s' → count_h s' ≡ count_h s + growth s e }
@@ -33,8 +29,6 @@ pub(crate) fn accepted_replays(accepted: &Accepted)
 {
     // Reading a program's start gives that it is well formed, which the laws require.
     let _ = accepted.program().start();
-    replayed_places_masked(accepted);
-    places_are_valid();
     answer_is_next();
     next_is_after();
     replays_join();

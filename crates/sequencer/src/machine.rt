@@ -61,7 +61,7 @@ impl<'a> Machine<'a> {
     ghost use Rattle.machine_model.specs.Replay.{Replays, ReplaysFrom};
     ghost use Rattle.machine_model.specs.Claims.{Claims, EndsLike, count_c, count_h};
     ghost use Rattle.mips_plain.specs.MemoryMap.{byte_of};
-    ghost use Rattle.processor_steps.specs.Processors.{ProcessorView, Keeps, Steps, ArePlaced, executed_by, state_of};
+    ghost use Rattle.processor_steps.specs.Processors.{ProcessorView, Keeps, Steps, executed_by, state_of};
     ghost use Rattle.sequencer.specs.Machines.{IsMachine, state, units_of, answer_to, IsAnswered, Applies, SameRing, Tries};
     ghost use Rattle.sequencer.specs.Choices.{choices_of, choice_of, MayFollow};
     ghost use Rattle.sequencer.specs.Finish.{RunsByHead, IsHeadRefused};
@@ -162,7 +162,7 @@ impl<'a> Machine<'a> {
     {
         self.law_replay();
         let count = self.length();
-        self.processor.exec_head(self.accepted, count)?;
+        self.processor.exec_head(self.accepted.program(), count)?;
         self.history.push(Event::Exec(0));
         Ok(())
     }
@@ -176,7 +176,8 @@ impl<'a> Machine<'a> {
     {
         self.law_replay();
         let count = self.length();
-        self.processor.exec_ahead(self.accepted, count, position)?;
+        self.processor
+            .exec_ahead(self.accepted.program(), count, position)?;
         self.history.push(Event::Exec(position));
         Ok(())
     }
@@ -227,7 +228,8 @@ impl<'a> Machine<'a> {
         self.law_replay();
         let alloc = self.alloc;
         let count = self.length();
-        self.processor.step(alloc, self.accepted, count, &event)?;
+        self.processor
+            .step(alloc, self.accepted.program(), count, &event)?;
         self.history.push(event);
         Ok(())
     }
@@ -345,7 +347,6 @@ impl<'a> Machine<'a> {
 
     /// What follows from the machine being the replay of its history; the call does nothing.
     pub(crate) fn law_replay(&self)
-        ensures placed { ArePlaced self.now.accepted (state self.now).queue }
         ensures assigned { (state self.now).assigns ≤ length self.now.history }
         ensures executed { executed_by (state self.now) ≤ length self.now.history }
         ensures room { length self.now.history ≤ most_events }
@@ -383,10 +384,9 @@ impl<'a> Machine<'a> {
 
     /// Whether nothing but the run's end and the history's room can refuse an event.
     fn allows(&self, event: Event) -> bool
-        requires { ArePlaced self.now.accepted (state self.now).queue }
         ensures { IsTrue result ↔ (refusal self.now.accepted.program (units_of self.now) (state self.now) event ≡ None) }
     {
-        self.processor.is_allowed(self.accepted, event)
+        self.processor.is_allowed(self.accepted.program(), event)
     }
 
     /// The event that the head is ready for, while the run continues.

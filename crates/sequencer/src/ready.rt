@@ -42,8 +42,8 @@ impl<'a> Machine<'a> {
         ensures alone { IsTrue result ↔ ((u : Active) × (slice_get (state self.now).queue position ≡ Some u) × (exec_refusal self.now.accepted.program false u ≡ None)) }
         ensures allowed { IsTrue result → refusal self.now.accepted.program (units_of self.now) (state self.now) (Exec position) ≡ None }
     {
-        self.law_replay();
-        self.processor.can_run_ahead(self.accepted, position)
+        self.processor
+            .can_run_ahead(self.accepted.program(), position)
     }
 
     /// The least register that the unit at a position may take from the unit before it; `None` exactly where it

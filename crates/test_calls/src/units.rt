@@ -7,7 +7,6 @@ use mips_instructions::number::{Reg, RegSet};
 use mips_plain::memory::Memory;
 use register_ring::port::{AlreadyThere, Port};
 use std::alloc::Global;
-use std::marker::Model;
 use std::process::Abort;
 use test_programs::certificates::{COUNT_CERTIFICATE, RELEASE_CERTIFICATE};
 use test_programs::programs::{COUNT, RELEASE_CREATES_MORE};
@@ -30,17 +29,6 @@ struct Trial<'a> {
     world: World,
 }
 
-// That the unit is one of the program, which its calls require.
-impl<'a> Model for Trial<'a> {
-    ghost use Rattle.unit_core.specs.Units.{UnitView, active_of, IsPlaced};
-
-    ghost Value = { UnitView };
-
-    ghost view = { λ t. t.unit };
-
-    ghost invariant = { λ t. IsPlaced t.accepted.now (active_of t.unit) };
-}
-
 impl<'a> Trial<'a> {
     /// A unit before task A, with these registers.
     fn new(rt: &impl Abort, alloc: Global, accepted: &'a Accepted, port: Port) -> Trial<'a> {
@@ -49,7 +37,7 @@ impl<'a> Trial<'a> {
         let memory = memory.expect(rt, "room for a memory");
         Trial {
             accepted,
-            unit: Unit::new(alloc, accepted, 0, 0, port),
+            unit: Unit::new(alloc, accepted.program(), 0, 0, port),
             world: World::new(alloc, memory),
         }
     }
@@ -57,16 +45,18 @@ impl<'a> Trial<'a> {
     /// The answer to one instruction of the head, in a run that has not ended.
     fn step(&mut self, rt: &impl Abort) -> Option<Wait> {
         assert!(rt; self.world.is_running());
-        self.unit.exec(self.accepted, &mut self.world).err()
+        self.unit
+            .exec(self.accepted.program(), &mut self.world)
+            .err()
     }
 
     /// The answer to one instruction of a unit that is not the head.
     fn step_ahead(&mut self) -> Option<Wait> {
-        self.unit.exec_ahead(self.accepted).err()
+        self.unit.exec_ahead(self.accepted.program()).err()
     }
 
     fn drain(&mut self, register: Reg) -> Option<DrainFault> {
-        self.unit.drain(self.accepted, register).err()
+        self.unit.drain(self.accepted.program(), register).err()
     }
 
     /// A burst of at most 64 steps.

@@ -7,7 +7,6 @@ use mark_checker::accept::Accepted;
 use mips_instructions::number::RegSet;
 use mips_plain::memory::Memory;
 use register_ring::port::Port;
-use std::marker::Model;
 use unit_core::burst::Burst;
 use unit_core::unit::Unit;
 use unit_core::wait::Wait;
@@ -24,17 +23,6 @@ struct Trial<'a> {
     world: World,
 }
 
-// That the unit is one of the program, which its calls require.
-impl<'a> Model for Trial<'a> {
-    ghost use Rattle.unit_core.specs.Units.{UnitView, active_of, IsPlaced};
-
-    ghost Value = { UnitView };
-
-    ghost view = { λ t. t.unit };
-
-    ghost invariant = { λ t. IsPlaced t.accepted.now (active_of t.unit) };
-}
-
 impl<'a> Trial<'a> {
     /// A unit before a task, with registers of 0, and the memory that the program begins with.
     fn new(given: &Given<'_>, accepted: &'a Accepted, task: u32) -> Option<Trial<'a>> {
@@ -46,7 +34,7 @@ impl<'a> Trial<'a> {
         let port = Port::fresh(&[0; 34], RegSet::empty());
         Some(Trial {
             accepted,
-            unit: Unit::new(given.alloc(), accepted, task, 0, port),
+            unit: Unit::new(given.alloc(), program, task, 0, port),
             world: World::new(given.alloc(), memory),
         })
     }
@@ -57,9 +45,9 @@ impl<'a> Trial<'a> {
             return None;
         }
         if is_head {
-            Some(self.unit.exec(self.accepted, &mut self.world))
+            Some(self.unit.exec(self.accepted.program(), &mut self.world))
         } else {
-            Some(self.unit.exec_ahead(self.accepted))
+            Some(self.unit.exec_ahead(self.accepted.program()))
         }
     }
 

@@ -15,7 +15,6 @@ use Rattle.machine_model.specs.Unit.{with_log, gone_on, executed}
 use Rattle.machine_model.specs.Burst.{no_memory, StepsAlone, Burst}
 use Rattle.unit_core.specs.Units.{UnitView, active_of}
 use Rattle.unit_core.specs.UnitStep.{IsRefusedFor}
-use Rattle.unit_core.specs.Units.{IsPlaced}
 use Rattle.unit_core.specs.Bursts.{BurstView, IsMade, Makes, HasSentTheSame, SendsLast, EndsFor, EndsAtSend}
 use Rattle.unit_core.specs.declared.wait.Wait.{Wait}
 
@@ -114,10 +113,9 @@ begun_as b v made none is log =
     ∙ begins_as p b.before b.after (subst (λ (n : ℕ). Makes p b.before n b.after) none made.made) log
 
 pub made_from : (b : BurstView) (v w : UnitView) (n : ℕ) (ended : Option Wait) → IsMade b → b.steps ≡ 0 → v ≡ b.after → n ≤ 65536 → Makes b.accepted.program v n w
-    → IfSome ended (IsRefusedFor b.accepted.program false (active_of w)) → IsPlaced b.accepted (active_of w) → IsMade (record b { steps = n; after = w; ended = ended })
-made_from b v w n ended made none is few steps reason placed = record {
+    → IfSome ended (IsRefusedFor b.accepted.program false (active_of w)) → IsMade (record b { steps = n; after = w; ended = ended })
+made_from b v w n ended made none is few steps reason = record {
   few = few;
   made = made_on b.accepted.program b.before v w n (begun_as b v made none is) steps;
   reason = reason;
-  placed = placed;
 }

@@ -6,7 +6,7 @@ use Rattle.mark_checker.specs.Places.{Checked}
 use Rattle.machine_model.specs.Machine.{Active}
 use Rattle.machine_model.specs.Unit.{with_log}
 use Rattle.machine_model.specs.Burst.{Burst, AllIn, with_arrived}
-use Rattle.unit_core.specs.Units.{UnitView, active_of, IsPlaced}
+use Rattle.unit_core.specs.Units.{UnitView, active_of}
 use Rattle.unit_core.specs.UnitStep.{IsRefusedFor}
 use Rattle.unit_core.specs.declared.wait.Wait.{Wait}
 
@@ -62,7 +62,6 @@ pub record IsMade (b : BurstView) : Type 0 where
   pub few : b.steps ≤ 65536
   pub made : Makes b.accepted.program b.before b.steps b.after
   pub reason : IfSome b.ended (IsRefusedFor b.accepted.program false (active_of b.after))
-  pub placed : IsPlaced b.accepted (active_of b.after)
 
 -- a burst that was made on this lease, of at most so many steps
 pub record IsMadeOn (lease : LeaseView) (most : ℕ) (b : BurstView) : Type 0 where

@@ -3,7 +3,7 @@
 
 ghost use Rattle.std.specs.Prelude.{◌≡◌, ℕ, ◌<◌, ◌≤◌, [], length, None, IfSome, IfOk, IfErr, OnOk, OnErr, IsTrue, ◌↔◌, is_some, false};
 ghost use Rattle.mips_instructions.specs.Words.{has};
-ghost use Rattle.unit_core.specs.Units.{active_of, unlogged, IsPlaced};
+ghost use Rattle.unit_core.specs.Units.{active_of, unlogged};
 ghost use Rattle.unit_core.specs.UnitStep.{IsRefusedFor};
 ghost use Rattle.unit_core.specs.Bursts.{EndsAtSend, EndsFor, HasMore, IsBurstOn, IsBurstToSend, IsMade, Makes, SendsLast, carried_on, lent};
 
@@ -15,6 +15,7 @@ use mips_instructions::number::RegSet;
 use mips_plain::outcome::OutOfMemory;
 use std::alloc::Global;
 use std::marker::Model;
+use task_descriptor::program::Program;
 
 /// The most instructions of a burst.
 pub const MOST_STEPS: u32 = 65_536;
@@ -29,13 +30,11 @@ pub struct Lease<'a> {
 
 impl<'a> Model for Lease<'a> {
     ghost use Rattle.unit_core.specs.Bursts.{LeaseView};
-    ghost use Rattle.unit_core.specs.Units.{active_of, unlogged, IsPlaced};
+    ghost use Rattle.unit_core.specs.Units.{unlogged};
 
     ghost Value = { LeaseView };
 
     ghost view = { λ l. record { accepted = l.accepted.now; unit = unlogged l.state; reads = l.state.reads } };
-
-    ghost invariant = { λ l. IsPlaced l.accepted.now (active_of (unlogged l.state)) };
 }
 
 /// A unit before and after a burst of instructions, each register-only or a load of read-only data. What they
@@ -71,16 +70,14 @@ struct Stretch {
 }
 
 /// Executes instructions ahead until one is refused, at most `most`.
-fn run_ahead(accepted: &Accepted, unit: &mut Unit, most: u32) -> Stretch
-    requires placed { IsPlaced accepted.now (active_of unit.old) }
-    requires no_log { unit.old.log ≡ [] }
+fn run_ahead(program: &Program, unit: &mut Unit, most: u32) -> Stretch
+    requires { unit.old.log ≡ [] }
     ensures few { result.steps ≤ most }
-    ensures made { Makes accepted.now.program unit.old result.steps unit.new }
-    ensures ends { EndsFor accepted.now.program (active_of unit.new) most result.steps result.ended }
-    ensures placed { IsPlaced accepted.now (active_of unit.new) }
+    ensures made { Makes program.now unit.old result.steps unit.new }
+    ensures ends { EndsFor program.now (active_of unit.new) most result.steps result.ended }
 {
     for steps in 0..most {
-        if let Err(why) = unit.exec_ahead(accepted) {
+        if let Err(why) = unit.exec_ahead(program) {
             return Stretch {
                 steps,
                 ended: Some(why),
@@ -102,18 +99,16 @@ fn has_sent(unit: &Unit, set: RegSet) -> bool
 }
 
 /// Executes instructions ahead until one is refused or sends a register for the first time, at most `most`.
-fn run_to_send(accepted: &Accepted, unit: &mut Unit, most: u32) -> Stretch
-    requires placed { IsPlaced accepted.now (active_of unit.old) }
-    requires no_log { unit.old.log ≡ [] }
+fn run_to_send(program: &Program, unit: &mut Unit, most: u32) -> Stretch
+    requires { unit.old.log ≡ [] }
     ensures few { result.steps ≤ most }
-    ensures made { Makes accepted.now.program unit.old result.steps unit.new }
-    ensures sends_last { SendsLast accepted.now.program unit.old result.steps }
-    ensures ends { EndsAtSend accepted.now.program (active_of unit.old) (active_of unit.new) most result.steps result.ended }
-    ensures placed { IsPlaced accepted.now (active_of unit.new) }
+    ensures made { Makes program.now unit.old result.steps unit.new }
+    ensures sends_last { SendsLast program.now unit.old result.steps }
+    ensures ends { EndsAtSend program.now (active_of unit.old) (active_of unit.new) most result.steps result.ended }
 {
     let sent = unit.sent_set();
     for steps in 0..most {
-        if let Err(why) = unit.exec_ahead(accepted) {
+        if let Err(why) = unit.exec_ahead(program) {
             return Stretch {
                 steps,
                 ended: Some(why),
@@ -162,12 +157,10 @@ impl<'a> Burst<'a> {
         }
     }
 
-    /// Becomes a burst without instructions on a unit as it is, with only the length of its log. The unit is
-    /// one of this program and certificate. The burst reuses the memory of an earlier one and of its reads, so
-    /// it takes none, and nothing is moved.
+    /// Becomes a burst without instructions on a unit as it is, with only the length of its log. The burst
+    /// reuses the memory of an earlier one and of its reads, so it takes none, and nothing is moved.
     #[inline]
     pub fn begin(&mut self, accepted: &'a Accepted, unit: &Unit)
-        requires { IsPlaced accepted.now (active_of unit.now) }
         ensures accepted { self.new.accepted ≡ accepted.now }
         ensures before { self.new.before ≡ record unit.now { log = [] } }
         ensures reads { self.new.reads ≡ length unit.now.log }
@@ -190,7 +183,7 @@ impl<'a> Burst<'a> {
     {
         // If this growth is refused, each step asks for its own room.
         let _ = self.after.reserve_reads(most.min(RESERVED_READS) as usize);
-        let made = run_ahead(self.accepted, &mut self.after, most);
+        let made = run_ahead(self.accepted.program(), &mut self.after, most);
         self.steps = made.steps;
         self.ended = made.ended;
     }
@@ -204,7 +197,7 @@ impl<'a> Burst<'a> {
     {
         // If this growth is refused, each step asks for its own room.
         let _ = self.after.reserve_reads(most.min(RESERVED_READS) as usize);
-        let made = run_to_send(self.accepted, &mut self.after, most);
+        let made = run_to_send(self.accepted.program(), &mut self.after, most);
         self.steps = made.steps;
         self.ended = made.ended;
     }
@@ -256,10 +249,9 @@ impl<'a> Burst<'a> {
 }
 
 impl Unit {
-    /// Lends the unit as it is, with only the length of its log. The unit is one of this program and
-    /// certificate. Takes no memory, and costs the same however long the log is.
+    /// Lends the unit as it is, with only the length of its log. Takes no memory, and costs the same however
+    /// long the log is.
     pub fn lease<'a>(&self, accepted: &'a Accepted) -> Lease<'a>
-        requires { IsPlaced accepted.now (active_of self.now) }
         ensures accepted { result.accepted ≡ accepted.now }
         ensures unit { result.unit ≡ record self.now { log = [] } }
         ensures reads { result.reads ≡ length self.now.log }
@@ -287,7 +279,6 @@ impl Unit {
         ensures stale { IfOk result (λ steps. steps ≡ 0 → self.new ≡ self.old) }
         ensures fresh { HasMore (active_of burst.entry.before) burst.entry.reads (active_of self.old) → IfOk result (λ steps. steps ≡ burst.entry.steps) }
         ensures made { IsMade burst.entry }
-        ensures placed { IfOk result (λ steps. 0 < steps → IsPlaced burst.entry.accepted (active_of self.new)) }
         ensures refused { IfErr result (λ back. (back.0 ≡ burst.entry) × (self.new ≡ self.old) × (0 < burst.entry.steps)
             × HasMore (active_of burst.entry.before) burst.entry.reads (active_of self.old)) }
     {

@@ -8,7 +8,7 @@ mod execution;
 pub mod laws;
 pub mod read_log;
 pub mod state;
-pub mod step;
+mod step;
 pub mod unit;
 pub mod wait;
 pub mod world;

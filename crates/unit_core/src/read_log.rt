@@ -79,6 +79,19 @@ impl ReadLog {
         (&self.closed, &self.current)
     }
 
+    /// Appends copies of its reads to others.
+    ///
+    /// # Errors
+    ///
+    /// `OutOfMemory` where memory was refused; the others may have some of them then.
+    pub fn copy_to(&self, reads: &mut Vec<Read>) -> Result<(), OutOfMemory>
+        ensures { OnOk result (reads.new.items ≡ reads.old.items ++ self.now.reads) }
+    {
+        copy_all(&self.closed, reads)?;
+        reads.extend_from_slice(&self.current)?;
+        Ok(())
+    }
+
     /// Makes room for `count` more reads.
     ///
     /// # Errors
@@ -189,6 +202,16 @@ fn close(closed: &mut Vec<Vec<Read>>, current: &mut Vec<Read>)
     }
     let empty = Vec::new(*current.allocator());
     closed.push_reserved(mem::replace(current, empty));
+}
+
+/// Appends copies of the reads of chunks to others.
+fn copy_all(chunks: &[Vec<Read>], reads: &mut Vec<Read>) -> Result<(), OutOfMemory>
+    ensures { OnOk result (reads.new.items ≡ reads.old.items ++ flat_map (λ c. c.items) chunks.now) }
+{
+    for chunk in chunks {
+        reads.extend_from_slice(chunk)?;
+    }
+    Ok(())
 }
 
 /// Moves chunks to the end of the closed ones.

@@ -54,17 +54,17 @@ pub(crate) struct Operands {
 
 /// The instruction that a unit executes next, with its operands.
 #[derive(Clone, Copy)]
-pub struct Next<'a> {
+pub(crate) struct Next<'a> {
     /// Its code index.
-    pub index: u32,
+    pub(crate) index: u32,
     /// Its address in bytes.
-    pub pc: u32,
+    pub(crate) pc: u32,
     /// The instruction with its marks.
-    pub marked: &'a Marked,
+    pub(crate) marked: &'a Marked,
     /// The word of operand a, 0 where it has none.
-    pub a: u32,
+    pub(crate) a: u32,
     /// The word of operand b, 0 where it has none.
-    pub b: u32,
+    pub(crate) b: u32,
 }
 
 impl<'a> Next<'a> {
@@ -107,7 +107,7 @@ pub(crate) fn waits_for_operands(op: &Op) -> bool
 /// The registers that an instruction with these destinations sends: its destinations if it has the forward bit,
 /// and those that a `release` names.
 #[inline]
-pub fn sends_of(marked: &Marked, dests: RegSet) -> RegSet
+pub(crate) fn sends_of(marked: &Marked, dests: RegSet) -> RegSet
     requires { (r : ℕ) → has dests r ≡ dests_of marked.now.op r }
     ensures { (r : ℕ) → has result r ≡ sends marked.now r }
 {
@@ -158,7 +158,7 @@ fn load_by_operation(op: &Op, a: u32, fixed: &[u8]) -> Result<Option<u32>, Wait>
 
 /// The place of a unit after an instruction: before the next one of its task, or stopped.
 #[inline(always)]
-pub fn spot_after(next: &Next<'_>) -> Spot
+pub(crate) fn spot_after(next: &Next<'_>) -> Spot
     requires { next.now.index < 4096 }
     ensures { result ≡ place_after (leaves next.now.marked.now.stop (taken next.now.marked.now.op next.now.a next.now.b)) (edge next.now.marked.now.op next.now.index (taken next.now.marked.now.op next.now.a next.now.b)) (turn next.now.marked.now.op next.now.a next.now.b next.now.pc) }
 {
@@ -291,7 +291,12 @@ pub(crate) fn write(local: &mut RegisterWords, next: &Next<'_>, dests: RegSet, l
 }
 
 /// Writes what an instruction computes or has loaded to each register of `dests`, its destinations.
-pub fn write_each(local: &mut RegisterWords, next: &Next<'_>, dests: RegSet, loaded: Option<u32>)
+pub(crate) fn write_each(
+    local: &mut RegisterWords,
+    next: &Next<'_>,
+    dests: RegSet,
+    loaded: Option<u32>,
+)
     requires { (r : ℕ) → has dests r ≡ dests_of next.now.marked.now.op r }
     ensures { pairs local.new ≡ with_own (writes next.now.marked.now.op next.now.a next.now.b next.now.pc loaded) (pairs local.old) }
 {
@@ -307,7 +312,7 @@ pub fn write_each(local: &mut RegisterWords, next: &Next<'_>, dests: RegSet, loa
 /// A unit's value of a register: 0 for register 0, else its own last write, else what arrived; `None` where it
 /// has none yet.
 #[inline(always)]
-pub fn value_of(local: &RegisterWords, port: &Port, register: Reg) -> Option<u32>
+pub(crate) fn value_of(local: &RegisterWords, port: &Port, register: Reg) -> Option<u32>
     ensures { result ≡ value_in (pairs local.now) (arrived_of port.now) register }
 {
     if register.get() == 0 {
@@ -321,7 +326,7 @@ pub fn value_of(local: &RegisterWords, port: &Port, register: Reg) -> Option<u32
 
 /// Sends each register of a set with its value; one that was sent before stays as it was.
 #[inline(never)]
-pub fn send_each(port: &mut Port, local: &RegisterWords, set: RegSet)
+pub(crate) fn send_each(port: &mut Port, local: &RegisterWords, set: RegSet)
     ensures sent { sent_of port.new ≡ sent_with (has set) (value_in (pairs local.now) (arrived_of port.old)) (sent_of port.old) }
     ensures arrived { arrived_of port.new ≡ arrived_of port.old }
 {

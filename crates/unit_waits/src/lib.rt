@@ -12,7 +12,6 @@ pub mod count;
 pub mod counts;
 mod header;
 mod one_step;
-mod placed;
 mod reasons;
 mod ring;
 mod signals;

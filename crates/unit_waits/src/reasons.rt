@@ -1,22 +1,20 @@
 //! What holds back a unit after the head.
 
 ghost use Rattle.std.specs.Prelude.{◌≡◌, ◌<◌, Some, slice_get, is_none, is_some};
-ghost use Rattle.machine_model.specs.Machine.{creates, pass, task_at};
+ghost use Rattle.machine_model.specs.Machine.{creates, pass};
 ghost use Rattle.machine_model.specs.Refusals.{least};
-ghost use Rattle.processor_steps.specs.Processors.{ArePlaced};
 ghost use Rattle.sequencer.specs.Machines.{state, units_of};
 ghost use Rattle.unit_core.specs.Units.{active_of};
 ghost use Rattle.unit_core.specs.UnitStep.{refused_by};
 ghost use Rattle.unit_waits.specs.Reasons.{may_produce as may_produce_of, owed_at as owed_at_of, owed_to as owed_to_of, position_owing as position_owing_of, reason_by as reason_by_of, reason_of, reason_to_stay as reason_to_stay_of, unit_at as unit_at_of, unsent as unsent_of};
 
-use crate::placed::law_placed;
 use crate::waiting::{Owed, Reason};
 use mark_checker::accept::Accepted;
-use mips_instructions::number::{Reg, RegSet};
+use mips_instructions::number::Reg;
 use register_ring::members::next_member;
 use sequencer::machine::Machine;
 use task_descriptor::program::Program;
-use unit_core::unit::Unit;
+use unit_core::unit::{Unit, created};
 use unit_core::wait::Wait;
 
 /// The number round the ring of the unit at a position.
@@ -25,16 +23,6 @@ pub(crate) fn unit_at(machine: &Machine<'_>, units: u32, position: u32) -> u32
     ensures { result ≡ unit_at_of units (state machine.now) position }
 {
     ((machine.commits().len() + position as usize) % units as usize) as u32
-}
-
-/// The registers for which a task may produce values; none for a number beyond the tasks.
-fn created(program: &Program, task: u32) -> RegSet
-    ensures { result ≡ (task_at program.now task).create }
-{
-    match program.tasks().get(task as usize) {
-        Some(descriptor) => descriptor.create,
-        None => RegSet::empty(),
-    }
 }
 
 /// Whether the task of the unit at a position may produce a register.
@@ -175,8 +163,7 @@ pub(crate) fn reason(
     requires at { slice_get (state machine.now).queue position ≡ Some (active_of unit.now) }
     ensures { result ≡ reason_of accepted.now.program units (state machine.now) position (active_of unit.now) }
 {
-    law_placed(accepted, machine);
-    match unit.wait(accepted, false) {
+    match unit.wait(accepted.program(), false) {
         None => Reason::CouldGoOn,
         Some(why) => reason_by(accepted.program(), machine, units, position, unit, &why),
     }

@@ -8,14 +8,6 @@ use Rattle.sequencer.proofs.Serials.{serials_distinct}
 use Rattle.sequencer.proofs.Verdicts.{none_refused}
 use Rattle.sequencer.proofs.laws.accepted_replays.Goals as goal
 
-pub returns-clause-placed : goal.returns-clause-placed
-returns-clause-placed c = λ units events s replay k u at.
-    let p = c.args.accepted.now.program in
-    let formed : IsWellFormed p = subst IsWellFormed c.program.ensures.value c.start.ensures.well_formed in
-    let valid = c.places_are_valid.ensures p units events s formed c.program.ensures.sound replay k u at in
-    let masked = c.replayed_places_masked.ensures units events s replay k u at in
-    record { is_task = valid.is_task; inside = λ i e. valid.is_instruction i e; masked = λ i e. (masked i e).1 }
-
 pub returns-clause-is_after : goal.returns-clause-is_after
 returns-clause-is_after c = λ units s s' e next. c.next_is_after.ensures c.args.accepted.now.program units s s' e next
 

@@ -1,10 +1,6 @@
-use Rattle.unit_core.specs.Units.{active_of, IsPlaced}
 use Rattle.unit_core.specs.Bursts.{Makes}
 use Rattle.unit_core.proofs.burst.run_ahead.Given as goal
 
 -- the unit is this many steps on
 abbrev pub invariant-loop-steps : goal.invariant-loop-steps
-invariant-loop-steps l = record {
-  made : Makes l.accepted.program l.initial.unit l.steps l.unit;
-  placed : IsPlaced l.accepted (active_of l.unit);
-}
+invariant-loop-steps l = Makes l.program l.initial.unit l.steps l.unit

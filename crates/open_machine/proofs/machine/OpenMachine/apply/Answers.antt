@@ -1,5 +1,5 @@
-use Rattle.open_machine.proofs.Imports.{refl, OpenView}
-use Rattle.std.proofs.Common.{◌+◌}
+use Rattle.std.proofs.Common.{◌+◌, refl}
+use Rattle.open_machine.specs.Machines.{OpenView}
 use Rattle.open_machine.proofs.Applied.{stays_open}
 use Rattle.open_machine.proofs.machine.OpenMachine.apply.Goals as goal
 

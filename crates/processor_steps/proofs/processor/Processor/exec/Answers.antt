@@ -5,5 +5,5 @@ use Rattle.processor_steps.proofs.processor.Processor.exec.Goals as goal
 
 pub returns-then-position-eq0 : goal.returns-then-position-eq0
 returns-then-position-eq0 c =
-    subst (λ (k : ℕ). Steps c.args.accepted.now.program c.args.self.now c.args.count (Exec k) c.exec_head.result c.exec_head.new.self) (sym c.if-position-eq0.true)
+    subst (λ (k : ℕ). Steps c.args.program.now c.args.self.now c.args.count (Exec k) c.exec_head.result c.exec_head.new.self) (sym c.if-position-eq0.true)
     c.exec_head.ensures

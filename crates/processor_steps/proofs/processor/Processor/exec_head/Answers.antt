@@ -1,20 +1,17 @@
-use Rattle.std.proofs.Common.{◌≡◌, ◌<◌, refl, sym, ap, ◌∙◌, subst, arith}
+use Rattle.std.proofs.Common.{◌≡◌, ◌<◌, refl, ap, ◌∙◌, subst, arith}
 use Rattle.machine_model.specs.Answer.{most_events}
 use Rattle.machine_model.specs.declared.event.Event.TheVariants.{Exec}
 use Rattle.machine_model.specs.declared.event.Standing.TheVariants.{Running}
-use Rattle.processor_steps.specs.Processors.{ProcessorView, actives, ArePlaced, Steps}
+use Rattle.processor_steps.specs.Processors.{ProcessorView, Steps}
 use Rattle.processor_steps.proofs.Executions.{LeavesRest, head_tried, on_err}
 use Rattle.processor_steps.proofs.processor.Processor.exec_head.Goals as goal
-
-pub exec_head-requires-clause-placed : goal.exec_head-requires-clause-placed
-exec_head-requires-clause-placed c = subst (λ (v : ProcessorView). ArePlaced c.args.accepted.now (actives v.queue)) (sym c.self.view_is) c.requires.placed
 
 pub returns : goal.returns
 returns c =
     let i = c.self.inside in
     let v : ProcessorView = record { queue = i.queue; registers = i.registers; world = i.world; next = i.next; reads = i.reads.reads; commits = i.commits.items; assigns = i.assigns } in
     let new : ProcessorView = record v { queue = c.exec_head.new.self; world = c.exec_head.new.world } in
-    let p = c.args.accepted.now.program in
+    let p = c.args.program.now in
     let room : c.args.count < most_events = omega arith in
     let runs : v.world.outcome ≡ Running = ap (λ (x : ProcessorView). x.world.outcome) c.self.view_is ∙ c.requires.runs in
     let rest : LeavesRest v new = record { registers = refl; next = refl; reads = refl; commits = refl; assigns = refl; capacity = c.exec_head.ensures.capacity } in

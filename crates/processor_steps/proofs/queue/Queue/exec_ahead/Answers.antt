@@ -6,12 +6,6 @@ use Rattle.processor_steps.proofs.Queues.{is_there, changed, set_back}
 use Rattle.processor_steps.proofs.Outcomes.{refused_at}
 use Rattle.processor_steps.proofs.queue.Queue.exec_ahead.Goals as goal
 
-pub exec_ahead-requires : goal.exec_ahead-requires
-exec_ahead-requires c =
-    let x = c.in-Some.unit.now in
-    c.requires.placed c.args.position (active_of x)
-    (is_there c.self.inside.ring.items c.args.self.now c.args.position x (ap (λ (q : QueueView). actives q) c.self.view_is) c.in-Some.ensures.value)
-
 pub returns-in-Ok-clause-ok : goal.returns-in-Ok-clause-ok
 returns-in-Ok-clause-ok c =
     let items = c.self.inside.ring.items in
@@ -31,7 +25,7 @@ pub returns-in-Err-clause-refused : goal.returns-in-Err-clause-refused
 returns-in-Err-clause-refused c =
     let x = c.in-Some.unit.now in
     let there = is_there c.self.inside.ring.items c.args.self.now c.args.position x (ap (λ (q : QueueView). actives q) c.self.view_is) c.in-Some.ensures.value in
-    refused_at c.args.accepted.now.program false (actives c.args.self.now) c.args.position (active_of x) c.in-Err.wait c.refused_by.result there c.refused_by.ensures c.in-Err.ensures.refused
+    refused_at c.args.program.now false (actives c.args.self.now) c.args.position (active_of x) c.in-Err.wait c.refused_by.result there c.refused_by.ensures c.in-Err.ensures.refused
 
 pub returns-in-Err-clause-err : goal.returns-in-Err-clause-err
 returns-in-Err-clause-err c =

@@ -3,25 +3,19 @@ use Rattle.machine_model.specs.Machine.{Active}
 use Rattle.machine_model.specs.Unit.{drain_refusal, after_drain, operand}
 use Rattle.unit_core.specs.Units.{active_of}
 use Rattle.processor_steps.specs.Processors.{QueueView, actives}
-use Rattle.processor_steps.proofs.Queues.{unit_is, is_there, changed}
+use Rattle.processor_steps.proofs.Queues.{unit_is, changed}
 use Rattle.processor_steps.proofs.Outcomes.{sent_ok}
 use Rattle.processor_steps.proofs.queue.Queue.send.Goals as goal
-
-pub drain-requires : goal.drain-requires
-drain-requires c =
-    let x = c.in-Some.unit.now in
-    c.requires c.args.position (active_of x)
-    (is_there c.self.inside.ring.items c.args.self.now c.args.position x (ap (λ (q : QueueView). actives q) c.self.view_is) c.in-Some.ensures.value)
 
 pub returns-clause-active : goal.returns-clause-active
 returns-clause-active c = λ u at may.
     let items = c.self.inside.ring.items in
     let same = ap (λ (q : QueueView). actives q) c.self.view_is in
     let x = c.in-Some.unit.now in
-    let p = c.args.accepted.now.program in
+    let p = c.args.program.now in
     let r = c.args.register in
     let is : active_of x ≡ u = unit_is items c.args.self.now c.args.position x u same c.in-Some.ensures.value at in
-    let done = sent_ok c.drain.result p (active_of x) (active_of c.drain.new.self) r _ c.drain.ensures.answer (ap (λ (v : Active). drain_refusal p v r) is ∙ may) in
+    let done = sent_ok c.drain.result p (active_of x) (active_of c.drain.new.self) r _ c.drain.ensures (ap (λ (v : Active). drain_refusal p v r) is ∙ may) in
     changed items c.args.self.now c.args.position c.drain.new.self (after_drain u r (operand u r)) same
     (done.is
     ∙ ap (λ (o : Option ℕ). after_drain (active_of x) r (unwrap_or o 0)) (sym done.has_word)

@@ -1,16 +1,15 @@
 -- The processor took the event, and the history has it after the others.
-use Rattle.std.proofs.Common.{sym, subst}
+use Rattle.std.proofs.Common.{Ok, subst}
+use Rattle.task_descriptor.specs.Listing.{Listing}
 use Rattle.machine_model.specs.declared.event.Event.TheVariants.{Exec}
-use Rattle.processor_steps.specs.Processors.{ArePlaced}
-use Rattle.sequencer.specs.Machines.{MachineView, state}
+use Rattle.processor_steps.specs.Processors.{Steps}
+use Rattle.sequencer.specs.Machines.{MachineView}
 use Rattle.sequencer.proofs.Machines.{pushed}
 use Rattle.sequencer.proofs.machine.Machine.apply_at_head.Goals as goal
-
-pub exec_head-requires-clause-placed : goal.exec_head-requires-clause-placed
-exec_head-requires-clause-placed c = subst (λ (m : MachineView). ArePlaced m.accepted (state m).queue) (sym c.self.view_is) c.law_replay.ensures.placed
 
 pub invariant_of-self-2 : goal.invariant_of-self-2
 invariant_of-self-2 c =
     let i = c.self.inside in
     let m : MachineView = record { accepted = i.accepted.now; processor = i.processor; history = i.history } in
-    pushed c.args.self.now m c.length-count.result (Exec 0) c.exec_head.new.self c.push.new.self c.self.view_is c.law_replay.ensures.applied c.length-count.ensures c.in_ok-exec_head.ensures c.push.ensures
+    let steps = subst (λ (p : Listing). Steps p i.processor c.length-count.result (Exec 0) (Ok tt) c.exec_head.new.self) c.program.ensures.value c.in_ok-exec_head.ensures in
+    pushed c.args.self.now m c.length-count.result (Exec 0) c.exec_head.new.self c.push.new.self c.self.view_is c.law_replay.ensures.applied c.length-count.ensures steps c.push.ensures

@@ -5,7 +5,7 @@ use Rattle.mips_plain.specs.declared.outcome.Read.{Read}
 use Rattle.unit_core.specs.Units.{active_of}
 use Rattle.processor_steps.specs.Processors.{by_units}
 use Rattle.sequencer.specs.Machines.{MachineView, state}
-use Rattle.sequencer.proofs.Runs.{log_within}
+use Rattle.processor_steps.proofs.Growing.{log_within}
 use Rattle.sequencer.proofs.machine.Machine.counts.Goals as goal
 
 pub overflow_add-result : goal.overflow_add-result

@@ -6,7 +6,7 @@ use Rattle.machine_model.specs.Replay.{ReplaysFrom}
 use Rattle.machine_model.specs.Answer.{refusal, most_events}
 use Rattle.machine_model.specs.Claims.{count_h}
 use Rattle.machine_model.specs.HeadEvent.{growth}
-use Rattle.processor_steps.specs.Processors.{ProcessorView, Keeps, Steps, ArePlaced, state_of}
+use Rattle.processor_steps.specs.Processors.{ProcessorView, Keeps, Steps, state_of}
 use Rattle.sequencer.specs.Machines.{MachineView, IsMachine, state, units_of}
 use Rattle.std.specs.List.{All}
 use Rattle.sequencer.specs.Rings.{AreDistinct, EventFits}
@@ -31,12 +31,6 @@ returns-clause-grows c =
     let i = c.self.inside in
     subst (λ (x : MachineView). (e : Event) (s : State) → Next x.accepted.program (units_of x) (state x) e s → count_h s ≡ count_h (state x) + growth (state x) e) c.self.view_is
     (λ e s next. c.accepted_replays.ensures.grows i.processor.queue.capacity (state_of i.processor) s e next)
-
-pub returns-clause-placed : goal.returns-clause-placed
-returns-clause-placed c =
-    let i = c.self.inside in
-    subst (λ (x : MachineView). ArePlaced x.accepted (state x).queue) c.self.view_is
-    (c.accepted_replays.ensures.placed i.processor.queue.capacity i.history (state_of i.processor) c.self.invariant.replay)
 
 pub returns-clause-goes_on : goal.returns-clause-goes_on
 returns-clause-goes_on c =
