@@ -325,7 +325,7 @@ pub(crate) static ARGUMENTS: [ArgumentRow; 46] = [
         "seq print annotate explain check replay run curve demonstrate",
         "program",
         Kind::File("PROGRAM"),
-        "The program text",
+        "The program",
     ),
     (
         "explain",
@@ -538,7 +538,7 @@ kanata (each instruction of each task, for the pipeline viewer Konata)",
         "replay",
         "strict",
         Kind::Flag,
-        "Judges a script that says what its events must have done",
+        "Judges a script that lists what its events must have done",
     ),
     (
         "replay",
@@ -600,13 +600,13 @@ without sums)
         "run",
         "with-values",
         Kind::Flag,
-        "With --emit script: each event also says what it did, for replay --strict",
+        "With --emit script: each event also lists what it did, for replay --strict",
     ),
     (
         "curve",
         "progress",
         Kind::Flag,
-        "Says on standard error when each run is done",
+        "Reports each finished run on standard error",
     ),
     (
         "seq print annotate explain check replay run curve demonstrate",
@@ -630,6 +630,6 @@ without sums)
         "annotate",
         "report",
         Kind::Flag,
-        "Says on standard error what is left to correct by hand",
+        "Reports on standard error what is left to correct by hand",
     ),
 ];

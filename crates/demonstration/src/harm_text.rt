@@ -28,7 +28,7 @@ pub(crate) fn write_harm(
         }
         Harm::CutOff(cut) => {
             write_exit(text, program, places, cut.from)?;
-            write!(text, ": task {task} goes on to ")?;
+            write!(text, ": task {task} continues to ")?;
             write_exit(text, program, places, cut.at)?;
             text.push_str(
                 ", which is none of its targets, and the run ends; the sequential program continues there",

@@ -101,7 +101,7 @@ fn nothing_found(
     let event_s = plural(steps);
     writeln!(
         text,
-        "no run found on up to {units} unit{unit_s}, of up to {steps} event{event_s}; explain says which marks are wrong"
+        "no run found on up to {units} unit{unit_s}, of up to {steps} event{event_s}; explain reports which marks are wrong"
     )?;
     write_first_finding(alloc, &mut text, program, places)?;
     Ok(JobReport::new(text.into_bytes(), 3))

@@ -162,7 +162,7 @@ fn write_change(
         Change::Sent { register, word } => write_value(text, "sends ", register, word),
         Change::PutOut { word } => write!(text, "puts out {word}"),
         Change::MovedTo { index } => {
-            text.push_str("goes on at ")?;
+            text.push_str("continues at ")?;
             write_place(text, places, index)
         }
         Change::StoppedAt { address } => {

@@ -42,7 +42,7 @@ const JUMP: &str = "move !s to line {line}, where the task leaves by jr; or {res
 const AT_HALT: &str = "remove !s: the task then ends at the halt on line {line}; or {rest}";
 
 const NEEDLESS: &str =
-    "remove {word}: the task then goes on, and ends only at targets or a halt; or {rest}";
+    "remove {word}: the task then continues, and ends only at targets or a halt; or {rest}";
 
 /// Where an edge of an instruction leads, whatever its stop.
 fn way(subject: &Subject, index: u32, taken: bool) -> Option<u32> {

@@ -359,7 +359,7 @@ fn row_of(rule: Rule, is_idle: bool, has_fix: bool) -> (Code, Row) {
             return (Code::EntryWithoutMask, advice(says, ANEW));
         }
         Rule::NextWithoutMask => {
-            let says = "task {name} goes on from index {index} to an instruction without a mask";
+            let says = "task {name} continues from index {index} to an instruction without a mask";
             return (Code::NextWithoutMask, advice(says, ANEW));
         }
         Rule::LacksDestination => Code::LacksDestination,

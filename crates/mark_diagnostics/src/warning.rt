@@ -99,12 +99,12 @@ const MAY_LEAD_TO: &str =
 const AFTER_CALL: &str =
     "let a task begin here, as a target of {coming}: the call on line {line} may come back to it";
 
-const ONWARD: &str = "let a task go on to it";
+const ONWARD: &str = "let a task continue to it";
 
-const ONWARD_OR_OUT: &str = "let a task go on to it, or remove it";
+const ONWARD_OR_OUT: &str = "let a task continue to it, or remove it";
 
 const ONWARD_OR_ALL_OUT: &str =
-    "let a task go on to it; or remove it, up to the next instruction that a task reaches, if no label there is used";
+    "let a task continue to it; or remove it, up to the next instruction that a task reaches, if no label there is used";
 
 const NEVER_RUNS: Row = Row {
     says: "task {task} never runs: no other task has it as a target, and the program starts at {start}",
@@ -155,7 +155,7 @@ const NOT_TAKEN: Row = Row {
 };
 
 const GOES_INTO: &str =
-    "task {task} goes on into task {into} without a stop; was {word} meant here?";
+    "task {task} continues into task {into} without a stop; was {word} meant here?";
 
 /// What a mark is an instance of.
 fn code_of_mark(mark: &CostlyMark) -> Code

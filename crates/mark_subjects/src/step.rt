@@ -79,7 +79,7 @@ pub fn stop_note(subject: &Subject, task: u32, step: Option<(u32, u32)>) -> Made
     let word = end_word(subject, from);
     let into = subject.task(into);
     let message =
-        words!(in subject.alloc(); "task {name} goes on into task {into} here, without a stop; was {word} meant?")?;
+        words!(in subject.alloc(); "task {name} continues into task {into} here, without a stop; was {word} meant?")?;
     let note = note_at(subject, from, message);
     notes.push(note)?;
     Ok(notes)
@@ -151,7 +151,7 @@ fn end_put(subject: &Subject, task: u32, index: u32, into: u32) -> Made<(Words, 
         "task"
     };
     let message =
-        words!(in alloc; "{stop}{and_targets}, where task {name} goes on into {kind} {other}")?;
+        words!(in alloc; "{stop}{and_targets}, where task {name} continues into {kind} {other}")?;
     Ok((message, changes))
 }
 

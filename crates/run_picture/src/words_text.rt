@@ -37,7 +37,7 @@ pub(crate) fn write_words(
         LabelText::Task(task, letters) => write_letters(text, name_of(tasks, task), letters),
         LabelText::Register(register) => write!(text, "${register}"),
         LabelText::Single(Counted::Events) => text.push_str(
-            "An arrow that leaves the last unit goes on at unit 0: the units form a ring.",
+            "An arrow that leaves the last unit continues at unit 0: the units form a ring.",
         ),
         LabelText::Single(Counted::Steps) => text.push_str(
             "In a step each unit does one event, unless it waits for a reason that is shaded, or has no task. Steps are no time of a processor.",
