@@ -54,7 +54,7 @@ def arguments() -> argparse.Namespace:
     parser = Parser(prog="c2ms.py", description=__doc__, formatter_class=argparse.RawDescriptionHelpFormatter)
     add = parser.add_argument
     add("files", nargs="+", help="C (.c), assembler text with preprocessor (.S) or without (.s)")
-    add("-o", dest="output", metavar="TEXT", help="where the program text goes, whole or not at all; without -o and --run, or as -, to standard output")
+    add("-o", dest="output", metavar="TEXT", help="where the program goes, whole or not at all; without -o and --run, or as -, to standard output")
     add("-O", dest="level", choices=["0", "1", "2", "3", "s", "g"], default="1", help="the compiler's optimization (1)")
     add("-I", dest="folders", metavar="FOLDER", action="append", default=[], help="where headers are")
     add("-D", dest="macros", metavar="NAME[=VALUE]", action="append", default=[], help="defines a macro")
@@ -70,12 +70,12 @@ def arguments() -> argparse.Namespace:
     add("--seed", type=int, default=1, metavar="N", help="what that search begins its choices with (1)")
     add("--plain", action="store_true", help="only create masks, forward bits and stops; targets in the order of the code")
     add("--units", type=int, default=4, metavar="N", help="for how many units the cut is chosen, and how many --run has, 1 to 16 (4)")
-    add("--run", action="store_true", help="checks the text and runs it")
+    add("--run", action="store_true", help="checks the program and runs it")
     add("--stack", type=int, default=1024, metavar="BYTES", help="what the stack has to have at least (1024)")
     add("--gcc", default="mipsel-linux-gnu-gcc", metavar="COMMAND", help="the compiler (mipsel-linux-gnu-gcc)")
     command = "the command multiscalar; else $MULTISCALAR, else the one built in these sources, else that on PATH"
     add("--multiscalar", metavar="COMMAND", help=command)
-    add("--quiet", action="store_true", help="says nothing of what was chosen")
+    add("--quiet", action="store_true", help="does not report what was chosen")
     return parser.parse_args(with_options_named(sys.argv[1:]))
 
 

@@ -92,11 +92,11 @@ class Chosen:
         return min(self.choices, key=lambda it: it.last.key if it.last else (0, 0))
 
     def measured(self) -> str:
-        """The best of each policy, and how many texts there were in all."""
+        """The best of each policy, and how many versions were measured."""
         best: dict[str, Choice] = {}
         for it in sorted(self.choices, key=lambda it: it.last.key if it.last else (0, 0)):
             best.setdefault(it.way.policy, it)
-        return "; ".join(f"{it.way.policy} {it.steps()}" for it in best.values()) + f"; {len(self.choices)} texts in all"
+        return "; ".join(f"{it.way.policy} {it.steps()}" for it in best.values()) + f"; {len(self.choices)} versions measured"
 
     def speed_up(self) -> float | None:
         """How many times as fast the best is as the best cut on one unit."""
@@ -189,7 +189,7 @@ def written(shape: Shape, way: Way, tool: Tool, head: list[str], is_plain: bool,
 def judge(choice: Choice, tool: Tool) -> Choice:
     is_right, said = tool.verdict(choice.text)
     if not is_right:
-        raise ToolFailed(f"the text that was made ({choice.way}) is not accepted, which is a fault of c2ms.py:\n{said[:1000]}")
+        raise ToolFailed(f"the program made by ({choice.way}) is not accepted: a fault in c2ms.py:\n{said[:1000]}")
     return choice
 
 

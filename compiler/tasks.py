@@ -9,9 +9,9 @@ from linking import START, Program
 from refusal import Place, refuse
 
 MOST_TARGETS, MOST_TASKS = 16, 1024
-POLICIES = ("calls", "outer", "loops", "blocks", "rounds", "turns", "inner")
-# Those that also begin a task where a loop is left: what comes after it must not keep the rounds from sending.
-WITH_EXITS = ("rounds", "turns", "inner")
+POLICIES = ("calls", "outer", "loops", "blocks", "outer-exits", "loops-exits", "inner")
+# Those that also begin a task where a loop is left: what comes after it must not keep the iterations from sending.
+WITH_EXITS = ("outer-exits", "loops-exits", "inner")
 
 
 @dataclass
@@ -152,8 +152,8 @@ def heads(flow: Flow, policy: str) -> set[int]:
 
 
 def is_cut(policy: str, head: int, body: set[int], loops: list[tuple[int, set[int]]]) -> bool:
-    """Whether a policy makes tasks of the rounds of this loop."""
-    if policy in ("outer", "rounds"):
+    """Whether a policy makes tasks of the iterations of this loop."""
+    if policy in ("outer", "outer-exits"):
         return not any(head in other and head != above for above, other in loops)
     if policy == "inner":
         return not any(above in body and above != head for above, _ in loops)

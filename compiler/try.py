@@ -53,8 +53,8 @@ WAYS = [
     Way("loops", "own", "early", "moved"),
     Way("loops", "joined", "late", "copied"),
     Way("blocks", "own", "early", "copied and moved"),
-    Way("rounds", "own", "late", "moved"),
-    Way("turns", "joined", "early", "copied"),
+    Way("outer-exits", "own", "late", "moved"),
+    Way("loops-exits", "joined", "early", "copied"),
 ]
 UNITS = (1, 4, 16)
 # Sizes that often fit 4,096 instructions; three kinds, in turn.

@@ -164,7 +164,7 @@ def sentence(program, text, warning):
         return last_sentence(program, text, number)
     if kind == "step":
         i, into = step(program, number)
-        return f"task {name} goes on into task {program.tasks[into][0]} without a stop; was {missing_stop(program, i)} meant here?"
+        return f"task {name} continues into task {program.tasks[into][0]} without a stop; was {missing_stop(program, i)} meant here?"
     unled = ",".join(place_of(program, text, program.tasks[number][3][k]) for k in untaken(program, number)) if kind == "untaken" else ""
     return {
         "runs": f"task {name} never runs: no other task has it as a target, and the program starts at {place_of(program, text, program.start)}.",

@@ -27,7 +27,7 @@ from model import CODE0, Fault, Machine, Plain, Refuse, assemble, certify, dests
 
 EVENTS = 4000
 READS = re.compile(r"line (\d+): task (\w+) reads (\d+) in \$(\d+); the sequential program has (\d+), (.+)")
-ENDS = re.compile(r"line (\d+): task (\w+) goes on to (?:line (\d+)|0x([0-9a-f]+)), which is none of its targets, and the run ends; "
+ENDS = re.compile(r"line (\d+): task (\w+) continues to (?:line (\d+)|0x([0-9a-f]+)), which is none of its targets, and the run ends; "
                   r"the sequential program continues there")
 HAS = re.compile(r"task (\w+) has (\d+) in \$(\d+); the sequential program has (\d+), (.+)")
 
@@ -186,7 +186,7 @@ class Bench:
         if status == 3:
             return f"not shown: a task {harm}" if harm else None
         lines = said.split("\n")
-        kind = next((kind for kind in (" reads ", " goes on to ", " has ") if kind in lines[-2]), " none ").split()[0]
+        kind = next((kind for kind in (" reads ", " continues to ", " has ") if kind in lines[-2]), " none ").split()[0]
         self.counts[f"shown: a task {kind}"] += 1
         return self.replayed(program, text, lines)
 

@@ -190,9 +190,9 @@ def sentence(program, error, text, any_place=False):
         8: f"the create mask of task {task} lacks {listed}",
         6: f"task {task} forwards {listed} here and may write it again",
         7: f"task {task} releases {listed} here and may write it again",
-        9: rf"(?:if the branch is (?:not )?taken, )?task {task} ends here and goes on to "
+        9: rf"(?:if the branch is (?:not )?taken, )?task {task} ends here and leads to "
            rf"(?:{one}|{place}, or to {place} if the branch is taken; neither is one of its targets)",
-        10: f"task {task} can go on from here to {place}, where there is no instruction",
+        10: f"task {task} can continue from here to {place}, where there is no instruction",
         11: f"this jump to an address in a register has to end task {task}",
         12: f"task {task} lists the target {spot(program, text, wrong)}, where no task begins",
     }[rule]
@@ -269,7 +269,7 @@ def removes_wrongly(program, error, result):
     """Whether the help for an exit removes a stop that is needed, or lets a task begin after one that is not."""
     if error[2] != 9:
         return False
-    advice = re.split("; if it is meant to go on, |; else ", result["relatedLocations"][-1]["message"]["text"])[-1]
+    advice = re.split("; if it is meant to continue, |; else ", result["relatedLocations"][-1]["message"]["text"])[-1]
     removes = re.match(r"remove !s[tn]?: the task then goes on, ", advice)
     return bool(removes or advice.startswith("let ")) and bool(removes) != needless(program, *error[:2])
 
@@ -289,7 +289,7 @@ def differs(program, text, results):
             return f"the stop of {error}"
         advice = [it for it in [HALT.sub("", advice_of(result), count=1)] if STOP.match(it)]
         in_short = bool(advice) and error != next(it for it in errors if it[0] == error[0])
-        if any(("; if it is meant to go on, " in it) == in_short for it in advice):
+        if any(("; if it is meant to continue, " in it) == in_short for it in advice):
             return f"what to do about {error}"
         asked, paths = [] if in_short else list(queries(program, error)), paths_of(result)
         if len(asked) != len(paths):

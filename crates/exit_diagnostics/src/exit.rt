@@ -22,10 +22,10 @@ use mark_subjects::parts::{
 use mark_subjects::subject::{Made, Subject, is_end};
 use mark_subjects::targets::{both, entries_listed, is_among, targets_with};
 
-const EXIT: &str = "{edge}task {task} ends here and continues at {place}{why}";
+const EXIT: &str = "{edge}task {task} ends here and leads to {place}{why}";
 
 const EXITS: &str =
-    "task {task} ends here and continues at {place}, or at {second} if the branch is taken; neither is one of its targets";
+    "task {task} ends here and leads to {place}, or to {second} if the branch is taken; neither is one of its targets";
 
 const LISTED: &str = "write {fix}; or is {meant} meant on line {line}?";
 
@@ -64,7 +64,7 @@ pub fn add_place_note(subject: &Subject, notes: &mut Vec<Note>, index: u32) -> M
 /// Where the program's last instruction is.
 fn last_words(subject: &Subject) -> Made<Words> {
     let last = subject.code().len().saturating_sub(1);
-    words!(in subject.alloc(); "let it continue at an instruction of the program, the last of which is @{last}")
+    words!(in subject.alloc(); "let it lead to an instruction of the program, the last of which is @{last}")
 }
 
 /// What would let a task begin at a place, and what else is to be done.

@@ -88,7 +88,7 @@ fn message(subject: &Subject, finding: &Finding, about: &[Finding]) -> Made<Word
         Rule::ExitNotListed => exit_message(subject, finding),
         Rule::FallsOff => {
             let place = place_words(subject, beyond(subject, finding.index))?;
-            words!(in alloc; "task {task} can go on from here to {place}, where there is no instruction")
+            words!(in alloc; "task {task} can continue from here to {place}, where there is no instruction")
         }
         Rule::IndirectGoesOn => {
             words!(in alloc; "this jump to an address in a register has to end task {task}")

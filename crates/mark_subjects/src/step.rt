@@ -190,7 +190,7 @@ pub fn stop_or(subject: &Subject, task: u32, step: Option<(u32, u32)>, help: Hel
     }
     let (end, changes) = end_put(subject, task, step.0, step.1)?;
     let rest = help.message.as_str();
-    let message = words!(in subject.alloc(); "{end}; if it is meant to go on, {rest}")?;
+    let message = words!(in subject.alloc(); "{end}; if it is meant to continue, {rest}")?;
     Ok(Help {
         message,
         replacements: Listed::new(changes),
