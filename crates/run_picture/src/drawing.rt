@@ -10,7 +10,7 @@ use crate::chart::{Chart, chart_of_events, shapes_of};
 use crate::frame::{frame, labels, push};
 use crate::scale::{end_of_lanes, left_edge};
 use crate::shape::{Axis, Element, Geometry, LabelText, Style};
-use crate::shape_text::{Telling, word_of_counted, write_elements, write_shapes};
+use crate::shape_text::{Remarks, Telling, word_of_counted, write_elements, write_shapes};
 use crate::sheet::{ARROW_LEGEND, MARKS_LEGEND, SHEET, SINGLE_LEGEND, STRETCHES_LEGEND};
 use crate::title::write_title;
 use machine_model::event::{EventRun, Standing};
@@ -21,9 +21,9 @@ use task_lives::tally::Tally;
 
 /// The picture of the history of a run of a program of this name, which may be empty, on `units` units, at least one: an
 /// SVG file with no script and no font of its own. It says how the run is after the history, if that is known, and shows
-/// how the task ended with which it did. `said` is SVG text, which may be empty and is put to the right of the legend.
-/// `notes` say what each event did; there may be none. The history has at most 1,000,000 events, and no event of it is at
-/// a position where there is no unit; this holds for every history of a machine (`task_lives::laws::histories_fit`).
+/// how the task ended with which it did. `said` is SVG text, which may be empty and is put to the right of the legend. The
+/// history has at most 1,000,000 events, and no event of it is at a position where there is no unit; this holds for every
+/// history of a machine (`task_lives::laws::histories_fit`).
 ///
 /// # Errors
 ///
@@ -35,7 +35,7 @@ pub fn draw_ended(
     said: &str,
     units: u32,
     standing: Option<Standing>,
-    notes: &[String],
+    remarks: Remarks<'_>,
     runs: &[EventRun],
 ) -> Result<String, AllocError>
     requires some { 0 < units }
@@ -49,7 +49,7 @@ pub fn draw_ended(
     write_opening(&mut text, name, said, &chart)?;
     let outcome = outcome(alloc, chart.tally, standing)?;
     write_elements(&mut text, tasks, &outcome)?;
-    write_chart(alloc, &mut text, tasks, notes, &chart)?;
+    write_chart(alloc, &mut text, tasks, remarks, &chart)?;
     Ok(text)
 }
 
@@ -133,7 +133,7 @@ fn write_place(text: &mut String, axis: Axis) -> Result<(), AllocError> {
     )
 }
 
-/// Adds the lanes, the axis, the shapes of a picture with the notes on its events, its labels, and the end of the file.
+/// Adds the lanes, the axis, the shapes of a picture with remarks on its events, its labels, and the end of the file.
 ///
 /// # Errors
 ///
@@ -142,7 +142,7 @@ pub fn write_chart(
     alloc: Global,
     text: &mut String,
     tasks: &[Descriptor],
-    notes: &[String],
+    remarks: Remarks<'_>,
     chart: &Chart,
 ) -> Result<(), AllocError>
     requires { HasRoom chart.now }
@@ -153,7 +153,7 @@ pub fn write_chart(
     let shapes = shapes_of(alloc, chart)?;
     let telling = Telling {
         tasks,
-        notes,
+        remarks,
         before: chart.axis.before,
     };
     write_shapes(alloc, text, &telling, &shapes)?;

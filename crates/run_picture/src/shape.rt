@@ -33,6 +33,8 @@ pub enum Style {
     Instruction,
     /// An instruction, where events have little room.
     FineInstruction,
+    /// The instruction that the picture is about.
+    ShownInstruction,
     /// A register that travels from one unit to the next.
     Arrow,
     /// A register that travels from one unit to the next, where events have little room.

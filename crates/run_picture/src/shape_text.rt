@@ -25,14 +25,23 @@ impl fmt::Display for Pixels {
     }
 }
 
-/// What shapes are told by: the names of the tasks, a note on each event that is drawn, if there are notes, and how many
-/// columns come before the first one.
+/// What is told of the events that are drawn, besides what each is.
+#[derive(Clone, Copy, Debug)]
+pub struct Remarks<'t> {
+    /// A note on each event, from the first one on; there may be none.
+    pub notes: &'t [String],
+    /// The index of the instruction that the picture is about, if it is about one: it stands out, in red.
+    pub shown: Option<usize>,
+}
+
+/// What shapes are told by: the names of the tasks, remarks on the events that are drawn, and how many columns come before
+/// the first one.
 #[derive(Clone, Copy, Debug)]
 pub struct Telling<'t> {
     /// The tasks.
     pub tasks: &'t [Descriptor],
-    /// The notes, of the first event on.
-    pub notes: &'t [String],
+    /// The remarks on the events.
+    pub remarks: Remarks<'t>,
     /// How many columns come before the first one that is drawn.
     pub before: u32,
 }
@@ -60,14 +69,30 @@ pub(crate) fn write_shapes(
         let mut title = String::new(alloc);
         write_meaning(&mut title, telling, &shape.meaning)?;
         write_note(&mut title, telling, shape)?;
-        write_shape(text, telling.tasks, shape.element, title.as_str())?;
+        let element = if matches!(telling.remarks.shown, Some(event) if event == shape.event) {
+            shown_element(shape.element)
+        } else {
+            shape.element
+        };
+        write_shape(text, telling.tasks, element, title.as_str())?;
     }
     Ok(())
 }
 
+/// The mark of the instruction that the picture is about: larger than others, and in red.
+fn shown_element(element: Element) -> Element {
+    match element.form {
+        Geometry::Line(x, top, to, bottom) => Element {
+            style: Style::ShownInstruction,
+            form: Geometry::Line(x, top.saturating_sub(900), to, bottom),
+        },
+        _ => element,
+    }
+}
+
 /// Writes the note on the event of a shape, if there is one.
 fn write_note(title: &mut String, telling: &Telling<'_>, shape: &Shape) -> Result<(), AllocError> {
-    let Some(note) = telling.notes.get(shape.event) else {
+    let Some(note) = telling.remarks.notes.get(shape.event) else {
         return Ok(());
     };
     if !note.is_empty() {
@@ -301,6 +326,7 @@ fn class_of(style: Style) -> &'static str {
         Style::TaskName => "task",
         Style::Instruction => "instruction",
         Style::FineInstruction => "instruction fine",
+        Style::ShownInstruction => "instruction shown",
         Style::Arrow => "transfer",
         Style::FineArrow => "transfer fine",
         Style::RegisterName => "register",

@@ -10,12 +10,12 @@ text{fill:#1f2933;font-size:14px;pointer-events:none}line{pointer-events:none}
 .retired,.halted{fill:#cfe8d5;stroke:#2f6b4a}.squashed{fill:url(#hatched);stroke:#b0402a}.dropped{fill:url(#dotted);stroke:#7d5f10}
 .unfinished{fill:#d8e4f5;stroke:#34588f;stroke-dasharray:5 3}.retired,.squashed,.dropped,.unfinished{stroke-width:1.5}.halted,.trapped{stroke-width:4}.trapped{fill:#fae3dc;stroke:#b0402a}.leads{fill:#34588f}
 .share{stroke-width:0}.share,.wait{shape-rendering:crispEdges}.needs{fill:#d9822b}.turn{fill:url(#leaning)}.pass{fill:url(#level)}.squash{fill:#b0402a;stroke:#fff}
-.instruction{stroke:#1f2933;stroke-width:1.6}.transfer{stroke:#52606d;stroke-width:1.3;marker-end:url(#head)}.fine{stroke-width:.6}.transfer.fine{marker-end:url(#small)}.instruction,.transfer,.hit{pointer-events:stroke}.hit{stroke:transparent;stroke-width:7}.head,.register{fill:#52606d}.register{font-size:12px}
+.instruction{stroke:#1f2933;stroke-width:1.6}.transfer{stroke:#52606d;stroke-width:1.3;marker-end:url(#head)}.fine{stroke-width:.6}.transfer.fine{marker-end:url(#small)}.instruction,.transfer,.hit{pointer-events:stroke}.hit{stroke:transparent;stroke-width:7}.head,.register{fill:#52606d}.register{font-size:12px}.shown{stroke:#b0402a;stroke-width:6}.said{fill:#b0402a}
 .rose{fill:#fae3dc}.red{stroke:#e09a86}.sand{fill:#f6edd0}.ochre{fill:#a98a35}.mist{fill:#e4e9ee}.slate{stroke:#52606d}.lilac{fill:#eadcf8}.violet{stroke:#7a4fb0}
 @media (prefers-color-scheme:dark){
 text{fill:#e4e9ee}.quiet,.caption,.number{fill:#9aa7b4}.task{stroke:#1c2229}.paper,.idle{fill:#1c2229}.idle,.grid{stroke:#38424d}.lane{fill:#232b33}
 .retired,.halted{fill:#214a33;stroke:#6fd198}.squashed{stroke:#ff9d94}.dropped{stroke:#d8b45a}.trapped{fill:#4a2220;stroke:#ff9d94}.leads{fill:#7fb0ff}.unfinished{fill:#22344f;stroke:#7fb0ff}.needs{fill:#f0a04b}.squash{fill:#ff9d94;stroke:#1c2229}
-.instruction{stroke:#e4e9ee}.transfer{stroke:#9aa7b4}.head,.register{fill:#9aa7b4}
+.instruction{stroke:#e4e9ee}.transfer{stroke:#9aa7b4}.head,.register{fill:#9aa7b4}.shown{stroke:#ff9d94}.said{fill:#ff9d94}
 .rose{fill:#4a2220}.red{stroke:#b3564a}.sand{fill:#40361a}.mist{fill:#38424d}.slate{stroke:#c3ccd5}.lilac{fill:#3a2a52}.violet{stroke:#c9a2f5}
 }
 </style>

@@ -18,6 +18,7 @@ use run_picture::chart::{Chart, MOST_SINGLE};
 use run_picture::drawing::{write_chart, write_root};
 use run_picture::events::single_events;
 use run_picture::marks::MOST_MARKED;
+use run_picture::shape_text::Remarks;
 use run_picture::sheet::{MARKS_LEGEND, SHEET, SINGLE_LEGEND};
 use run_picture::title::write_title;
 use run_picture::words_text::write_how_it_stands;
@@ -59,7 +60,11 @@ pub fn draw(
     write_outcome(&mut text, predict, standing, &chart)?;
     let tasks = accepted.program().tasks();
     let notes = notes_if_marked(alloc, accepted, units, program_text, runs, skipped, &chart)?;
-    write_chart(alloc, &mut text, tasks, &notes, &chart)?;
+    let remarks = Remarks {
+        notes: notes.as_slice(),
+        shown: None,
+    };
+    write_chart(alloc, &mut text, tasks, remarks, &chart)?;
     Ok(text)
 }
 

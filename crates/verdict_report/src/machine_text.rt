@@ -16,6 +16,7 @@ use run_picture::chart::MOST_SINGLE;
 use run_picture::drawing::draw_ended;
 use run_picture::events::single_events;
 use run_picture::shape::Wait;
+use run_picture::shape_text::Remarks;
 use sequencer::machine::Machine;
 use std::alloc::{AllocError, Global};
 use step_picture::chart::chart_of_steps;
@@ -110,7 +111,10 @@ pub fn picture_of(
         said,
         units.get(),
         Some(machine.outcome()),
-        &notes,
+        Remarks {
+            notes: notes.as_slice(),
+            shown: None,
+        },
         machine.history(),
     )?;
     Ok(picture.into_bytes())
