@@ -81,8 +81,7 @@ fn execution_of(events: &[Event], units: u32, life: Life, number: usize) -> Opti
         match *event {
             Event::Exec(position)
                 if index > life.first as usize
-                    && retired.saturating_add(position).checked_rem(units) == Some(life.unit) =>
-            {
+                    && retired.saturating_add(position).checked_rem(units) == Some(life.unit) => {
                 if before == 0 {
                     return Some(index);
                 }
@@ -96,11 +95,7 @@ fn execution_of(events: &[Event], units: u32, life: Life, number: usize) -> Opti
 }
 
 /// Notes on the events up to this one, of which it alone has one; none without an event.
-fn note_on(
-    alloc: Global,
-    event: Option<usize>,
-    note: String,
-) -> Result<Vec<String>, AllocError> {
+fn note_on(alloc: Global, event: Option<usize>, note: String) -> Result<Vec<String>, AllocError> {
     let mut notes = Vec::new(alloc);
     let Some(event) = event else {
         return Ok(notes);

@@ -22,7 +22,8 @@ pub(crate) fn rule_short(code: Code) -> &'static str {
         Code::IndirectGoesOn => "A task continues after a jump to an address in a register",
         Code::TargetNotEntry => "A target is not where a task begins",
         Code::TooLong => "The program is longer than 4,194,304 bytes",
-        Code::NotAscii => "A line of the program has a byte that is not ASCII or a control character",
+        Code::NotAscii =>
+            "A line of the program has a byte that is not ASCII or a control character",
         Code::Token => "A line of the program has characters that form no token",
         Code::Mnemonic => "There is no such instruction or directive",
         Code::Operand => "A statement cannot take these operands",
