@@ -3,7 +3,8 @@
 
 Takes random programs whose marks are right, and plants wrong marks. The events that are written must be allowed
 by the model's machine, each where it comes, and what the last line says must be so: the first word that was read and
-is not the plain run's, the exit that is not listed, or the word of the head; and where the right word was written. Of right marks it must say that they are
+is not the plain run's, the exit that is not listed, or the word of the head; and where the right word was written. The picture must
+mark the event that reads it, and no other. Of right marks it must say that they are
 right, and where the run ends as unlisted, from where to where it goes. The model looks for a harm of its own, in the run in which one task follows another: what of this is not
 shown is counted, since a unit that executes ahead may put the right word over a wrong one. Programs whose code can run
 off its end, or with a jump to a register that does not end its task, are passed over: the model has none. PROGRAM is the
@@ -26,6 +27,7 @@ from accepted import accepted
 from model import CODE0, Fault, Machine, Plain, Refuse, assemble, certify, dests, print_program, script_parse, sources, verdict
 
 EVENTS = 4000
+MARKED = re.compile(r"<title>event (\d+), unit \d+: (.*)</title><line class='instruction shown'")
 READS = re.compile(r"line (\d+): task (\w+) reads (\d+) in \$(\d+); the sequential program has (\d+), (.+)")
 ENDS = re.compile(r"line (\d+): task (\w+) continues to (?:line (\d+)|0x([0-9a-f]+)), which is none of its targets, and the run ends; "
                   r"the sequential program continues there")
@@ -158,10 +160,10 @@ class Bench:
         self.folder = tempfile.mkdtemp(prefix="demonstrate")
         self.counts = collections.Counter()
 
-    def call(self, text):
+    def call(self, text, *words):
         with open(os.path.join(self.folder, "p.s"), "wb") as file:
             file.write(text.encode("latin-1"))
-        run = subprocess.run([self.program, "demonstrate", "--units", "3", "p.s"], cwd=self.folder, capture_output=True)
+        run = subprocess.run([self.program, "demonstrate", "--units", "3", *words, "p.s"], cwd=self.folder, capture_output=True)
         return run.stdout.decode("latin-1"), run.returncode
 
     def wrong(self, text):
@@ -195,14 +197,21 @@ class Bench:
         units = re.fullmatch(r"on (\d+) units?:", lines[0])
         if not units or lines[-1]:
             return "the form"
-        machine = Machine(program, int(units[1]))
-        for event in script_parse("".join(line + "\n" for line in lines[1:-2]).encode("latin-1"), program):
+        machine, retired, by_unit = Machine(program, int(units[1])), [], collections.defaultdict(list)
+        for number, event in enumerate(script_parse("".join(line + "\n" for line in lines[1:-2]).encode("latin-1"), program), 1):
+            if event[0] == "exec":
+                by_unit[machine.queue[event[1]]].append(number)
+            elif event[0] == "retire":
+                retired += by_unit[machine.queue[0]]
             try:
                 machine.apply(event)
             except Refuse as refused:
                 return f"event {event} is refused: {refused.k}"
         plain, stale = compared(program, seen(machine))
-        return None if told(program, text, machine, plain, stale, lines[-2]) else f"the last line: {lines[-2]}"
+        if not told(program, text, machine, plain, stale, lines[-2]):
+            return f"the last line: {lines[-2]}"
+        wanted = [] if stale is None else [(str((retired + by_unit[machine.queue[0]])[stale]), lines[-2])]
+        return None if MARKED.findall(self.call(text, "--emit", "svg")[0]) == wanted else "the mark in the picture"
 
 
 def main():
