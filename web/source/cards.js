@@ -13,7 +13,7 @@ function chip(unit, register, isOwed, isWaited) {
 }
 
 function instruction(unit, lines) {
-  if (unit.hasStopped) return make('p', { class: 'next' }, `stopped; goes on to ${exitText(unit.exit)}`);
+  if (unit.hasStopped) return make('p', { class: 'next' }, `stopped; leads to ${exitText(unit.exit)}`);
   const text = (lines[unit.line - 1] ?? '').replace(/#.*/, '').trim();
   return make('p', { class: 'next' }, make('span', { class: 'quiet' }, `${unit.line ?? '?'}  `), make('code', {}, text));
 }

@@ -76,7 +76,7 @@ function waysOn(event) {
   const executed = event.changes.find(it => it.change === 'executed');
   return event.changes.flatMap(it => {
     if (it.change === 'stopped_at') return [`ends its task, after which ${exitText(it)} comes`];
-    if (it.change === 'moved_to' && it.index !== executed.index + 1) return [`goes on at line ${it.line ?? it.index}`];
+    if (it.change === 'moved_to' && it.index !== executed.index + 1) return [`continues at line ${it.line ?? it.index}`];
     if (it.change === 'ended') return [it.standing === 'halted' ? 'halts, and the run ends' : `ends the run: ${it.standing}`];
     return [];
   });
@@ -128,7 +128,7 @@ const SENTENCES = {
   squash: (state, { actor }) => `${actor} squashes what comes after it: ${lostText(state)}.`,
   drop: (state, { actor }) => `${actor} and all after it give up their tasks: ${lostText(state)}.`,
   retire: retiredText,
-  fault: (state, { actor }) => `The run ends: ${actor.toLowerCase()} goes on to a place where none of its targets begins.`,
+  fault: (state, { actor }) => `The run ends: ${actor.toLowerCase()} leads to a place where none of its targets begins.`,
 };
 
 // Which number a refusal has, its name, and the register that it names.
@@ -161,6 +161,6 @@ export function endSentence(end) {
     case 'halted': return 'has halted';
     case 'trapped': return `has trapped: ${end.name}`;
     case 'unlisted': return `has ended as unlisted at ${hexadecimal(end.address)}: no target of the head's task is there`;
-    default: return 'goes on';
+    default: return 'continues';
   }
 }

@@ -139,7 +139,7 @@ class Telling {
   }
 
   fault() {
-    return `${this.who(0)} goes on to none of its targets, and the run ends`;
+    return `${this.who(0)} leads to none of its targets, and the run ends`;
   }
 
   tell(line) {

@@ -139,7 +139,7 @@ export class Stage {
     find('output').textContent = this.state.output.length ? this.state.output.join(' ') : 'nothing yet';
     find('memory').textContent = memoryText(after.memory ?? []);
     this.showRegisters(after.registers ?? []);
-    find('standing').textContent = this.position === this.last ? this.run.ending : 'goes on';
+    find('standing').textContent = this.position === this.last ? this.run.ending : 'continues';
   }
 
   // The registers of the head; where no unit is the head, those that the tasks left which have retired.
