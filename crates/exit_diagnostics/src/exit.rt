@@ -223,7 +223,8 @@ pub fn exit_help(subject: &Subject, finding: &Finding) -> Made<Help> {
     let Some(to) = astray.find(|place| !subject.is_entry(*place)) else {
         return listing_help(subject, finding, &places);
     };
-    let besides = words!(in alloc; ", and make it a target of task {}", subject.task(task))?;
+    let name = subject.task(task);
+    let besides = words!(in alloc; ", and make it a target of task {name}")?;
     let message = task_to_begin(subject, to, besides.as_str())?;
     let changes = match going_on(subject, task, &places)? {
         Some(Going { changes, .. }) => changes,

@@ -264,7 +264,10 @@ fn coming_changes(subject: &Subject, index: u32, names: &mut Names) -> Made<Vec<
     let alloc = subject.alloc();
     let seen = missing_at(subject, index).map(|jump| jump.task);
     match seen.or(coming_back(subject, index.saturating_sub(1))) {
-        Some(task) => names.add("coming", words!(in alloc; "task {}", subject.task(task))?)?,
+        Some(task) => {
+            let name = subject.task(task);
+            names.add("coming", words!(in alloc; "task {name}")?)?;
+        }
         None => names.add("coming", "the task that comes back")?,
     }
     if let Some(task) = seen {
