@@ -1,22 +1,20 @@
 //! The judgement of a script with expectations.
 
-ghost use Rattle.std.specs.Prelude.{◌≡◌, ◌<◌, ◌≤◌, None, IfOk, length};
-ghost use Rattle.event_script.specs.EventScript.{names_in};
+ghost use Rattle.std.specs.Prelude.{◌≡◌, ◌<◌, ◌≤◌, IfOk};
 ghost use Rattle.strict_replay.specs.StrictReplay.{strict_verdict};
 
 use crate::departure::{Departed, Departure};
-use crate::expected::{content_departs, end_departs, lacks};
+use crate::expected::{changes_of, content_departs, lacks};
 use crate::reading::{content, event_text, is_silent};
 use event_script::reading::{event_of, next_line};
 use event_script::task_names::TaskNames;
 use event_trace::ring::Ring;
 use event_trace::told::Told;
 use event_trace::walk::Walk;
-use machine_model::event::Event;
+use machine_model::event::{Event, Standing};
 use mark_checker::accept::Accepted;
 use sequencer::machine::Machine;
 use std::alloc::{AllocError, Global};
-use task_descriptor::program::Program;
 
 /// An event that was played, with the ring before it and the report on it.
 #[derive(Drop)]
@@ -49,6 +47,9 @@ pub struct Verdict<'a> {
     pub scene: Scene<'a>,
 }
 
+// The walk after a line, and how many effects of its event the line does not list; or how the line departs, and where.
+type Taken<'a> = Result<(Walk<'a>, usize), (Departure, Scene<'a>)>;
+
 /// The names of a program's tasks, and whether a script must be complete.
 #[derive(Drop)]
 struct Referee<'t> {
@@ -58,10 +59,10 @@ struct Referee<'t> {
 }
 
 impl Referee<'_> {
-    ghost use Rattle.std.specs.Prelude.{◌≡◌, ◌≤◌, false, length, MatchResult, IfOk};
-    ghost use Rattle.event_script.specs.EventScript.{event_in, lines};
+    ghost use Rattle.std.specs.Prelude.{◌≡◌, ◌≤◌, length, MatchResult, IfOk};
+    ghost use Rattle.event_script.specs.EventScript.{lines};
     ghost use Rattle.sequencer.specs.Machines.{state, units_of};
-    ghost use Rattle.strict_replay.specs.StrictScript.{content, event_text, is_silent};
+    ghost use Rattle.strict_replay.specs.StrictScript.{content};
     ghost use Rattle.std.specs.Option.{option_map};
     ghost use Rattle.strict_replay.specs.StrictReplay.{Departs, Passes, departed, end_departs, first_departed};
 
@@ -82,9 +83,8 @@ impl Referee<'_> {
                     lacking = lacking.saturating_add(count);
                 }
                 Err((why, scene)) => {
-                    let departed = Some(Departed { line: number, why });
                     return Ok(Verdict {
-                        departed,
+                        departed: Some(Departed { line: number, why }),
                         lacking,
                         scene,
                     });
@@ -99,9 +99,10 @@ impl Referee<'_> {
     fn at_end<'a>(&self, machine: Machine<'a>, line: usize, lacking: usize) -> Verdict<'a>
         ensures { result.departed ≡ option_map (departed line) (end_departs self.now.is_complete (state machine.entry).outcome) }
     {
-        let departed = match end_departs(self.is_complete, machine.outcome()) {
-            Some(why) => Some(Departed { line, why }),
-            None => None,
+        let why = Departure::NotEnded;
+        let departed = match machine.outcome() {
+            Standing::Running if self.is_complete => Some(Departed { line, why }),
+            _ => None,
         };
         Verdict {
             departed,
@@ -115,11 +116,7 @@ impl Referee<'_> {
 
     /// The walk after a line, and how many effects of its event it does not list; or how it departs.
     #[tactic(auto, using(crate::proofs::Passing::silent_passes, crate::proofs::Passing::unspelled_departs))]
-    fn take_line<'a>(
-        &self,
-        walk: Walk<'a>,
-        line: &[u8],
-    ) -> Result<Result<(Walk<'a>, usize), (Departure, Scene<'a>)>, AllocError>
+    fn take_line<'a>(&self, walk: Walk<'a>, line: &[u8]) -> Result<Taken<'a>, AllocError>
         requires { length self.now.names.now ≤ 1024 }
         ensures { IfOk result (λ taken. MatchResult taken
             (λ passes. Passes self.now.is_complete self.now.names.now walk.entry (content line.now) passes.0)
@@ -129,54 +126,31 @@ impl Referee<'_> {
         if is_silent(content) {
             return Ok(Ok((walk, 0)));
         }
-        match event_of(self.names, event_text(content)) {
-            Ok(event) => self.take_event(walk, event, content),
+        let event = match event_of(self.names, event_text(content)) {
+            Ok(event) => event,
             Err(fault) => {
                 let scene = Scene {
                     played: None,
                     machine: walk.into_machine(),
                 };
-                Ok(Err((Departure::NoEvent(fault), scene)))
+                return Ok(Err((Departure::NoEvent(fault), scene)));
             }
-        }
-    }
-
-    /// The walk after the event of a line, and how many of its effects the line does not list; or how it departs.
-    fn take_event<'a>(
-        &self,
-        walk: Walk<'a>,
-        event: Event,
-        content: &[u8],
-    ) -> Result<Result<(Walk<'a>, usize), (Departure, Scene<'a>)>, AllocError>
-        requires loud { is_silent content.now ≡ false }
-        requires spelt { event_in self.now.names.now (event_text content.now) ≡ Ok event }
-        ensures { IfOk result (λ taken. MatchResult taken
-            (λ passes. Passes self.now.is_complete self.now.names.now walk.entry content.now passes.0)
-            (λ departs. Departs self.now.is_complete self.now.names.now walk.entry content.now departs.0)) }
-    {
+        };
         let ring = walk.ring();
         let (next, told) = walk.step(self.alloc, &event)?;
         match content_departs(self.is_complete, content, &told) {
-            None => Ok(Ok((next, count_lacking(content, &told)))),
+            None => {
+                let unlisted = changes_of(&told)
+                    .iter()
+                    .filter(|change| lacks(content, change));
+                Ok(Ok((next, unlisted.count())))
+            }
             Some(why) => {
-                let scene = Scene {
-                    played: Some(Played { event, ring, told }),
-                    machine: next.into_machine(),
-                };
-                Ok(Err((why, scene)))
+                let played = Some(Played { event, ring, told });
+                let machine = next.into_machine();
+                Ok(Err((why, Scene { played, machine })))
             }
         }
-    }
-}
-
-/// How many effects of an event its line does not list.
-fn count_lacking(content: &[u8], told: &Told) -> usize {
-    match told {
-        Told::Taken(changes) => changes
-            .iter()
-            .filter(|change| lacks(content, change))
-            .count(),
-        Told::Refused(_) => 0,
     }
 }
 
@@ -198,7 +172,7 @@ pub fn judge<'a>(
     requires few { units ≤ 16 }
     ensures { IfOk result (λ verdict. verdict.departed ≡ strict_verdict is_complete accepted.now.program units script.now) }
 {
-    let names = names_of(alloc, accepted.program())?;
+    let names = TaskNames::of(alloc, accepted.program().tasks())?;
     let referee = Referee {
         alloc,
         names: &names,
@@ -206,12 +180,4 @@ pub fn judge<'a>(
     };
     let walk = Walk::new(alloc, accepted, units)?;
     referee.judge(walk, script)
-}
-
-/// The names of a program's tasks.
-fn names_of(alloc: Global, program: &Program) -> Result<TaskNames, AllocError>
-    ensures names { IfOk result (λ names. names ≡ names_in program.now.tasks) }
-    ensures few { IfOk result (λ names. length names ≤ 1024) }
-{
-    TaskNames::of(alloc, program.tasks())
 }

@@ -13,7 +13,6 @@ use limits::ranges::Units;
 use report_texts::judging::{Judged, judge};
 use report_texts::report::JobReport;
 use std::alloc::{AllocError, Global};
-use task_descriptor::program::Program;
 
 /// The report of `replay --strict` on a program text, the text of its certificate and the text of a script, on a machine of
 /// `units` units. A complete script lists all that its events did, and ends its run.
@@ -36,9 +35,20 @@ pub fn replay_strictly(
         Judged::Refused(report) => Ok(report),
         Judged::Accepted(accepted) => {
             let verdict = judge_script(alloc, &accepted, units.get(), &texts.script, is_complete)?;
-            let status = status_of(&verdict);
-            let said = said_of(alloc, accepted.program(), units, format, texts, verdict)?;
-            Ok(JobReport::new(said, status))
+            let places = places(alloc, &texts.program)?;
+            let page = Page {
+                alloc,
+                program: accepted.program(),
+                places: &places,
+                texts,
+                units,
+                verdict: &verdict,
+            };
+            let said = match format {
+                VerdictFormat::Text => page.text()?,
+                VerdictFormat::Json => page.object()?,
+            };
+            Ok(JobReport::new(said, status_of(&verdict)))
         }
     }
 }
@@ -47,33 +57,5 @@ pub fn replay_strictly(
 fn status_of(verdict: &Verdict<'_>) -> u8
     ensures { result ≡ option_map_or (λ departed. 1) verdict.now.departed 0 }
 {
-    match verdict.departed {
-        Some(_) => 1,
-        None => 0,
-    }
-}
-
-/// What is told of a script.
-fn said_of(
-    alloc: Global,
-    program: &Program,
-    units: Units,
-    format: VerdictFormat,
-    texts: &Texts,
-    verdict: Verdict<'_>,
-) -> Result<Vec<u8>, AllocError> {
-    let program_text = texts.program.as_slice();
-    let places = places(alloc, program_text)?;
-    let page = Page {
-        alloc,
-        program,
-        program_text,
-        places: &places,
-        script: &texts.script,
-        units,
-    };
-    match format {
-        VerdictFormat::Text => Ok(page.text_of(&verdict)?.into_bytes()),
-        VerdictFormat::Json => page.object_of(&verdict),
-    }
+    u8::from(verdict.departed.is_some())
 }
