@@ -14,7 +14,7 @@ use Rattle.jobs.specs.declared.job.Texts.{Texts}
 use Rattle.jobs.specs.declared.job.Warnings.{Warnings}
 use Rattle.report_texts.specs.OutputTexts.{Report}
 use Rattle.explain_report.specs.LeftOvers.{IsLeftOver}
-use Rattle.explain_report.specs.declared.left.LeftOver.{LeftOver}
+use Rattle.explain_report.specs.declared.proposal.LeftOver.{LeftOver}
 use Rattle.verdict_report.specs.Delivering.{is_cut}
 use Rattle.verdict_report.specs.JobTexts.{IsDone}
 use Rattle.verdict_report.specs.declared.fault.ServeFault.{ServeFault}

@@ -11,7 +11,7 @@ use Rattle.jobs.specs.declared.job.Texts.{Texts}
 use Rattle.jobs.specs.declared.job.Warnings.{Warnings}
 use Rattle.command_line.specs.declared.request.Request.{Request}
 use Rattle.report_texts.specs.OutputTexts.{Report}
-use Rattle.explain_report.specs.declared.repaired.Repaired.{Repaired}
+use Rattle.explain_report.specs.declared.repairing.Repaired.{Repaired}
 use Rattle.explain_report.specs.Repairs.{IsRepaired}
 use Rattle.verdict_report.specs.declared.fault.ServeFault.{ServeFault}
 use Rattle.verdict_report.specs.declared.fault.ServeFault.TheVariants as serve

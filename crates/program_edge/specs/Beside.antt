@@ -5,7 +5,7 @@ use Rattle.jobs.specs.declared.job.Job.TheVariants.{Replay}
 use Rattle.jobs.specs.declared.job.ReplayEmit.TheVariants.{Json, Trace}
 use Rattle.report_texts.specs.OutputTexts.{Report}
 use Rattle.explain_report.specs.LeftOvers.{IsLeftOver}
-use Rattle.explain_report.specs.declared.left.LeftOver.{LeftOver}
+use Rattle.explain_report.specs.declared.proposal.LeftOver.{LeftOver}
 use Rattle.shown_names.specs.Shown.{shown}
 use Rattle.program_edge.specs.Hints.{IsHint}
 

@@ -1,6 +1,6 @@
 //! The part of one of several programs on the two streams.
 ghost use Rattle.std.specs.Prelude.{◌≡◌, [], None, Err, IfOk, OnErr};
-ghost use Rattle.explain_report.specs.ExplainText.{IsExplainReport};
+ghost use Rattle.explain_report.specs.Explained.{IsExplainReport};
 ghost use Rattle.report_texts.specs.OutputTexts.{Report};
 ghost use Rattle.std.specs.String.{string_bytes};
 ghost use Rattle.verdict_report.specs.JobTexts.{IsReportOf};

@@ -5,8 +5,7 @@ ghost use Rattle.program_edge.specs.Hints.{IsHint};
 
 use crate::hint::hint_for;
 use crate::reports::report_of;
-use explain_report::left::LeftOver;
-use explain_report::proposal::left_over;
+use explain_report::proposal::{LeftOver, left_over};
 use jobs::job::{Job, ReplayEmit, TableFormat, Texts};
 use report_texts::report::JobReport;
 use shown_names::name::shown_name;
