@@ -1,36 +1,31 @@
 //! Advice as rows of a table: what is said of a place and what to do there, as templates that names fill.
 
 use diagnostics::diagnostic::{Help, Replacement, Span};
-use diagnostics::listed::Listed;
 use diagnostics::words;
 use diagnostics::words::Words;
+use mark_subjects::parts::help;
 use mark_subjects::subject::{Made, Subject};
 use std::alloc::Global;
+use std::fmt::Display;
 
-/// A row of a table of advice. Its texts are templates: each `{name}` is replaced by a word that the place gives, and in
-/// `help` `{fix}` by what is written.
+/// A message, and what to do.
+pub type Advice = (Words, Help);
+
+/// A row of a table of advice. Its texts are templates: each `{name}` is replaced by a word that the place gives, and `{fix}`
+/// by what is written in the marked place.
 #[derive(Clone, Copy)]
 pub struct Row {
     /// The message: what is wrong, or could be better.
     pub says: &'static str,
     /// The message of the help.
     pub help: &'static str,
-    /// The text to write, where that mends it; else empty.
-    pub fix: &'static str,
-}
-
-/// A word that a place gives, by its name.
-#[derive(Drop)]
-struct Word {
-    name: &'static str,
-    text: Words,
 }
 
 /// The words that fill the templates of a row, by name.
 #[derive(Drop)]
 pub struct Names {
     alloc: Global,
-    words: Vec<Word>,
+    words: Vec<(&'static str, Words)>,
 }
 
 impl Names {
@@ -56,29 +51,10 @@ impl Names {
     /// # Errors
     ///
     /// `AllocError` where memory was refused; no word is added then.
-    pub fn put(&mut self, name: &'static str, text: Words) -> Made<()> {
-        self.words.push(Word { name, text })?;
+    pub fn add<D: Display + Drop>(&mut self, name: &'static str, word: D) -> Made<()> {
+        let text = words!(in self.alloc; "{word}")?;
+        self.words.push((name, text))?;
         Ok(())
-    }
-
-    /// Adds a copy of a word under a name.
-    ///
-    /// # Errors
-    ///
-    /// `AllocError` where memory was refused; no word is added then.
-    pub fn add(&mut self, name: &'static str, text: &str) -> Made<()> {
-        let text = Words::of(self.alloc, text)?;
-        self.put(name, text)
-    }
-
-    /// Adds the line number of an instruction, from 1, under a name.
-    ///
-    /// # Errors
-    ///
-    /// `AllocError` where memory was refused; no word is added then.
-    pub fn line(&mut self, name: &'static str, subject: &Subject, index: u32) -> Made<()> {
-        let line = subject.span(index).line;
-        self.put(name, words!(in self.alloc; "{line}")?)
     }
 
     /// A template with each `{name}` replaced by its word; by nothing where no word has the name.
@@ -91,8 +67,8 @@ impl Names {
         for piece in template.split('{') {
             match piece.split_once('}') {
                 Some((name, behind)) => {
-                    let word = self.words.iter().find(|word| word.name == name);
-                    text.push_str(word.map_or("", |word| word.text.as_str()))?;
+                    let word = self.words.iter().find(|word| word.0 == name);
+                    text.push_str(word.map_or("", |word| word.1.as_str()))?;
                     text.push_str(behind)?;
                 }
                 None => text.push_str(piece)?,
@@ -107,10 +83,7 @@ impl Names {
     ///
     /// `AllocError` where memory was refused.
     pub fn help(&self, template: &str, changes: Vec<Replacement>) -> Made<Help> {
-        Ok(Help {
-            message: self.filled(template)?,
-            replacements: Listed::new(changes),
-        })
+        Ok(help(self.filled(template)?, changes))
     }
 
     /// The help with a filled template as its message alone.
@@ -127,21 +100,18 @@ impl Names {
     /// # Errors
     ///
     /// `AllocError` where memory was refused.
-    pub fn said(&self, row: Row, changes: Vec<Replacement>) -> Made<(Words, Help)> {
+    pub fn said(&self, row: Row, changes: Vec<Replacement>) -> Made<Advice> {
         let says = self.filled(row.says)?;
         Ok((says, self.help(row.help, changes)?))
     }
 
-    /// The message of a row, and its help, which writes the row's `fix` at `span`. The word `fix` is added.
+    /// The message of a row, and its help, which writes `text` at `span`. The word `fix` is added.
     ///
     /// # Errors
     ///
     /// `AllocError` where memory was refused; the word `fix` may have been added then.
-    pub fn fixed(&mut self, row: Row, span: Span) -> Made<(Words, Help)> {
-        let mut changes = Vec::new(self.alloc);
-        let text = self.filled(row.fix)?;
+    pub fn fixed(&mut self, row: Row, span: Span, text: Words) -> Made<Advice> {
         self.add("fix", text.as_str())?;
-        changes.push(Replacement { span, text })?;
-        self.said(row, changes)
+        self.said(row, vec![in self.alloc; Replacement { span, text }]?)
     }
 }

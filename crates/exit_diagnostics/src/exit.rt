@@ -1,31 +1,34 @@
 //! Where a task continues: exits that are not listed, edges that lead to no instruction, and targets where no task begins.
 
-ghost use Rattle.std.specs.Prelude.{◌≡◌, ◌||◌, true, false, not, position, IfOk, OnOk};
-ghost use Rattle.mark_subjects.specs.Subjects.{targets_of, is_entry, is_end as is_end_of, exit_end};
+ghost use Rattle.std.specs.Prelude.{◌≡◌, not, position, IfOk, OnOk};
+ghost use Rattle.mark_subjects.specs.Subjects.{targets_of, is_entry};
 ghost use Rattle.mark_subjects.specs.Parts.{paths, way_paths};
 ghost use Rattle.exit_diagnostics.specs.Exits.{unlisted, lacking, is_taken, wrong_number};
 
 use crate::advice::Names;
-use crate::call::back;
 use crate::going::{going_on, task_line};
 use crate::jump::may_go_on;
-use crate::meant::meant_help;
-use crate::slot::{is_turning, slot_or};
+use crate::meant::{is_turning, meant_help, slot_or};
+use call_returns::returns::behind;
 use diagnostics::diagnostic::{Help, Note};
-use diagnostics::listed::Listed;
+use diagnostics::helps::{by_text, in_words};
 use diagnostics::words;
 use diagnostics::words::Words;
 use mark_checker::finding::Finding;
-use mark_subjects::parts::{
-    by_text, in_words, note_at, place_words, targets_words, way_notes, written,
-};
+use mark_subjects::parts::{help, note_at, place_words, targets_words, way_notes, written};
 use mark_subjects::subject::{Made, Subject, is_end};
 use mark_subjects::targets::{both, entries_listed, is_among, targets_with};
+use task_descriptor::program::MOST_TARGETS;
 
-const EXIT: &str = "{edge}task {task} ends here and leads to {place}{why}";
+const EXIT: &str =
+    "{edge}task {task} ends here and leads to {place}, which is not one of its targets";
+
+const EXIT_ASTRAY: &str = "{edge}task {task} ends here and leads to {place}, where no task begins";
 
 const EXITS: &str =
     "task {task} ends here and leads to {place}, or to {second} if the branch is taken; neither is one of its targets";
+
+const BEYOND_MOST: &str = "a task has at most 16 targets: let task {task} lead to fewer places";
 
 const LISTED: &str = "write {fix}; or is {meant} meant on line {line}?";
 
@@ -77,16 +80,11 @@ fn task_to_begin(subject: &Subject, index: u32, besides: &str) -> Made<Words> {
     if index as usize == end {
         return words!(in alloc; "let a task begin there: add a line LABEL: halt at the end of the code and a line .task LABEL create=- targets=-{besides}");
     }
-    match subject.label(index) {
-        Some(label) => {
-            let label = label.as_str();
-            words!(in alloc; "let a task begin at {label}: add a line .task {label} create=- targets=-{besides}")
-        }
-        None => {
-            let line = subject.span(index).line;
-            words!(in alloc; "let a task begin on line {line}: give it a label and a line .task LABEL create=- targets=-{besides}")
-        }
-    }
+    let Some(label) = subject.label(index) else {
+        let line = subject.span(index).line;
+        return words!(in alloc; "let a task begin on line {line}: give it a label and a line .task LABEL create=- targets=-{besides}");
+    };
+    words!(in alloc; "let a task begin at {label}: add a line .task {label} create=- targets=-{besides}")
 }
 
 /// Where the exit of a finding leads, a branch being taken or not, if that is no target.
@@ -112,26 +110,22 @@ pub fn exit_message(subject: &Subject, finding: &Finding) -> Made<Words> {
     let mut names = Names::of_task(subject, finding.task)?;
     let (edge, place) = match (onward, taken) {
         (Some(place), Some(second)) if place != second => {
-            names.put("place", place_words(subject, place)?)?;
-            names.put("second", place_words(subject, second)?)?;
+            names.add("place", place_words(subject, place)?)?;
+            names.add("second", place_words(subject, second)?)?;
             return names.filled(EXITS);
         }
-        (Some(place), Some(_)) => ("", place),
         (Some(place), None) if branch => ("if the branch is not taken, ", place),
-        (Some(place), None) => ("", place),
         (None, Some(place)) if branch => ("if the branch is taken, ", place),
-        (None, Some(place)) => ("", place),
+        (Some(place), _) | (None, Some(place)) => ("", place),
         (None, None) => return Words::of(subject.alloc(), ""),
     };
-    let why = if subject.is_entry(place) {
-        ", which is not one of its targets"
-    } else {
-        ", where no task begins"
-    };
     names.add("edge", edge)?;
-    names.put("place", place_words(subject, place)?)?;
-    names.add("why", why)?;
-    names.filled(EXIT)
+    names.add("place", place_words(subject, place)?)?;
+    names.filled(if subject.is_entry(place) {
+        EXIT
+    } else {
+        EXIT_ASTRAY
+    })
 }
 
 /// The places that the targets of a finding's task lack.
@@ -164,34 +158,19 @@ fn comes_to(subject: &Subject, task: u32, place: u32) -> bool {
     subject.mask(task, place).is_some() || may_go_on(subject, task, place)
 }
 
-/// The targets of a task with these places, without those to which it does not come.
-fn targets_taken(subject: &Subject, task: u32, places: &[u32]) -> Made<Vec<u32>> {
-    let targets = targets_with(subject, task, places)?;
-    targets
-        .iter()
-        .copied()
-        .filter(|place| places.contains(place) || comes_to(subject, task, *place))
-        .collect(subject.alloc())
-}
-
 /// The target that may be meant where an instruction goes on to this place: the one alone to which the task does not come,
 /// unless it is the next instruction.
 fn meant_target(subject: &Subject, task: u32, index: u32, place: u32) -> Made<Option<u32>> {
-    let is_onward = place == index.saturating_add(1) && back(subject, index).is_none();
-    if is_onward || !is_turning(subject, index) {
-        return Ok(None);
-    }
+    let next = index.saturating_add(1);
+    let is_onward = place == next && behind(subject.program(), index).is_none();
     let listed = entries_listed(subject, task)?;
-    let unused: Vec<u32> = listed
-        .iter()
-        .copied()
-        .filter(|target| !comes_to(subject, task, *target))
-        .collect(subject.alloc())?;
-    let [meant] = unused.as_slice() else {
-        return Ok(None);
-    };
-    let is_next = *meant == index.saturating_add(1);
-    Ok(if is_next { None } else { Some(*meant) })
+    let listed = listed.iter().copied();
+    let unused = listed.filter(|target| !comes_to(subject, task, *target));
+    let unused: Vec<u32> = unused.collect(subject.alloc())?;
+    Ok(match unused.as_slice() {
+        [meant] if !is_onward && is_turning(subject, index) && *meant != next => Some(*meant),
+        _ => None,
+    })
 }
 
 /// What to do: to write these targets; or another one is meant where the instruction leads.
@@ -204,73 +183,68 @@ fn list_or_meant(subject: &Subject, finding: &Finding, place: u32, text: Words) 
     };
     let mut names = Names::new(alloc);
     names.add("fix", text.as_str())?;
-    names.put("meant", place_words(subject, meant)?)?;
-    names.line("line", subject, index)?;
-    if is_end(back(subject, index), place) {
+    names.add("meant", place_words(subject, meant)?)?;
+    names.add("line", subject.span(index).line)?;
+    if is_end(behind(subject.program(), index), place) {
         return names.advice(CALLS_BEHIND);
     }
-    let message = names.filled(LISTED)?;
-    by_text(alloc, message, span, text)
+    by_text(alloc, names.filled(LISTED)?, span, text)
 }
 
-/// What to do: the targets to write, with these places, if they are not too many.
+/// What to do: the targets to write, with these places and without those to which the task does not come, if they are not too
+/// many.
 fn listing_help(subject: &Subject, finding: &Finding, places: &[u32]) -> Made<Help> {
     let alloc = subject.alloc();
     let task = finding.task;
-    let targets = targets_taken(subject, task, places)?;
-    if targets.len() <= 16 {
-        let text = targets_words(subject, &targets)?;
-        return match places {
-            [place] => list_or_meant(subject, finding, *place, text),
-            _ => written(alloc, subject.targets_span(task), text),
-        };
+    let targets = targets_with(subject, task, places)?;
+    let targets = targets.iter().copied();
+    let targets = targets.filter(|to| places.contains(to) || comes_to(subject, task, *to));
+    let targets: Vec<u32> = targets.collect(alloc)?;
+    if targets.len() > MOST_TARGETS {
+        return Names::of_task(subject, task)?.advice(BEYOND_MOST);
     }
-    let name = subject.task(task);
-    let message =
-        words!(in alloc; "a task has at most 16 targets: let task {name} lead to fewer places")?;
-    Ok(in_words(alloc, message))
+    let text = targets_words(subject, &targets)?;
+    match places {
+        [place] => list_or_meant(subject, finding, *place, text),
+        _ => written(alloc, subject.targets_span(task), text),
+    }
 }
 
 /// The help for exits to places that the task does not list: to list them, or to let a task begin at the first of them where
-/// none does. At such a place it first says that a delay slot or another stop may be meant, or, where `needless`, no stop.
+/// none does. At such a place it first says that a delay slot, another stop or no stop may be meant.
 ///
 /// # Errors
 ///
 /// `AllocError` where memory was refused.
-pub fn exit_help(subject: &Subject, finding: &Finding, needless: bool) -> Made<Help> {
-    let task = finding.task;
+pub fn exit_help(subject: &Subject, finding: &Finding) -> Made<Help> {
     let places = lacking(subject, finding)?;
-    let Some(to) = places.iter().find(|index| !subject.is_entry(**index)) else {
+    let mut astray = places.iter().copied();
+    let Some(to) = astray.find(|place| !subject.is_entry(*place)) else {
         return listing_help(subject, finding, &places);
     };
-    let begin = begin_help(subject, task, *to, &places)?;
-    let help = meant_help(subject, finding, *to, needless, begin)?;
-    slot_or(subject, finding.index, *to, help)
+    let begin = begin_help(subject, finding.task, to, &places)?;
+    let help = meant_help(subject, finding, to, begin)?;
+    slot_or(subject, finding.index, to, help)
 }
 
-/// What to do where a task goes on to these places, and none begins at this one of them: to let one begin, as a target.
+/// What to do where a task continues to these places, and none begins at this one of them: to let one begin, as a target.
 fn begin_help(subject: &Subject, task: u32, to: u32, places: &[u32]) -> Made<Help> {
     let alloc = subject.alloc();
     let name = subject.task(task);
     let besides = words!(in alloc; ", and make it a target of task {name}")?;
     let message = task_to_begin(subject, to, besides.as_str())?;
     let changes = match going_on(subject, task, places)? {
-        Some(going) => going.into_changes(),
+        Some(going) => going.changes,
         None => Vec::new(alloc),
     };
-    Ok(Help {
-        message,
-        replacements: Listed::new(changes),
-    })
+    Ok(help(message, changes))
 }
 
 /// The code index, past the last instruction, to which an instruction leads inside the task.
 pub fn beyond(subject: &Subject, index: u32) -> u32 {
-    let onward = subject.inner(index, false).unwrap_or(0);
-    if onward as usize >= subject.code().len() {
-        return onward;
-    }
-    subject.inner(index, true).unwrap_or(0)
+    let onward = subject.inner(index, false);
+    let past = onward.filter(|place| *place as usize >= subject.code().len());
+    past.or(subject.inner(index, true)).unwrap_or(0)
 }
 
 /// The help for an edge that leads past the last instruction.
@@ -288,19 +262,13 @@ pub fn beyond_help(subject: &Subject, index: u32) -> Made<Help> {
     Ok(in_words(alloc, message))
 }
 
-/// Whether an exit of an instruction leads to a place.
-fn exits_to(subject: &Subject, index: u32, to: u32) -> bool
-    ensures { result ≡ (is_end_of (exit_end subject.now index false) to || is_end_of (exit_end subject.now index true) to) }
-{
-    is_end(subject.exit(index, false), to) || is_end(subject.exit(index, true), to)
-}
-
 /// Whether an exit of an instruction that a task reaches leads to this code index; exits through a register do not count.
 pub fn is_taken(subject: &Subject, task: u32, to: u32) -> bool
     ensures { result ≡ is_taken subject.now task to }
 {
-    let entries = subject.entries(task);
-    entries.iter().any(|entry| exits_to(subject, entry.0, to))
+    subject.entries(task).iter().any(|entry| {
+        is_end(subject.exit(entry.0, false), to) || is_end(subject.exit(entry.0, true), to)
+    })
 }
 
 /// The number of a task's first target where no task begins, if there is one.
@@ -322,10 +290,8 @@ pub fn wrong_number(subject: &Subject, task: u32) -> usize
 
 /// The code index of a task's first target where no task begins; of its first target where there is none.
 pub fn wrong_target(subject: &Subject, task: u32) -> u32 {
-    match subject.targets(task).get(wrong_number(subject, task)) {
-        Some(target) => target.get(),
-        None => 0,
-    }
+    let target = subject.targets(task).get(wrong_number(subject, task));
+    target.map_or(0, |target| target.get())
 }
 
 /// The help for targets where no task begins: to let one begin where the task may continue there, or else not to list them.
@@ -335,20 +301,16 @@ pub fn wrong_target(subject: &Subject, task: u32) -> u32 {
 /// `AllocError` where memory was refused.
 pub fn target_help(subject: &Subject, task: u32) -> Made<Help> {
     let alloc = subject.alloc();
-    let wrong = subject.targets(task).iter().find(|target| {
-        !subject.is_entry(target.get()) && may_go_on(subject, task, target.get())
+    let mut targets = subject.targets(task).iter().map(|target| target.get());
+    let wrong = targets.find(|place| {
+        !subject.is_entry(*place) && may_go_on(subject, task, *place)
     });
     if let Some(place) = wrong {
-        let place = place.get();
-        let message = task_to_begin(subject, place, "")?;
         let mut changes = Vec::new(alloc);
         if let Some(label) = subject.label(place) {
-            changes.push(task_line(subject, label.as_str())?)?;
+            changes.push(task_line(subject, label)?)?;
         }
-        return Ok(Help {
-            message,
-            replacements: Listed::new(changes),
-        });
+        return Ok(help(task_to_begin(subject, place, "")?, changes));
     }
     let targets = entries_listed(subject, task)?;
     let text = targets_words(subject, &targets)?;

@@ -5,21 +5,19 @@ ghost use Rattle.std.specs.Prelude.{◌≡◌, true, IfOk, IfSome, OnOk};
 ghost use Rattle.std.specs.List.{All};
 ghost use Rattle.exit_diagnostics.specs.Jumps.{IsOfJump, is_jump_code};
 
-use crate::advice::{Names, Row};
-use crate::call::back;
+use crate::advice::{Advice, Names, Row};
+use crate::call::{coming_back, stale_or};
 use crate::exit::is_taken;
 use crate::going::{Going, going_on, name_of};
-use crate::returning::coming_back;
-use crate::slot::is_slot;
-use crate::stale::stale_or;
+use crate::meant::is_slot;
 use crate::stop::{entry_of, never_runs};
-use call_returns::returns::Jump;
+use call_returns::returns::{Jump, behind};
 use diagnostics::code::Code;
 use diagnostics::diagnostic::{Diagnostic, Help, Replacement, Severity, Source};
 use diagnostics::listed::Listed;
 use diagnostics::words;
 use diagnostics::words::Words;
-use mark_subjects::parts::{place_words, places_words};
+use mark_subjects::parts::{place_words, places_words, targets_words};
 use mark_subjects::subject::{Made, Subject, is_end};
 use mark_subjects::targets::{entries_listed, is_among};
 use mips_instructions::instruction::Op;
@@ -27,7 +25,6 @@ use mips_instructions::instruction::Op;
 const NOT_LISTED: Row = Row {
     says: "task {task} does not list {places}, where its {jump} on line {line} leads{back}",
     help: "write {fix}{tasks}",
-    fix: "targets={targets}",
 };
 
 const BEYOND_LISTS: &str =
@@ -36,14 +33,12 @@ const BEYOND_LISTS: &str =
 const NO_TARGET: Row = Row {
     says: "task {task} ends in the {jump} on line {line}, and lists no target",
     help: "list the places to which it leads",
-    fix: "",
 };
 
-const UNCALLED: Row = Row {
-    says: "task {task} ends in the {jump} on line {line}, though no call came here: the register holds what it held at the start",
-    help: "if the program ends here, write halt",
-    fix: "halt",
-};
+const UNCALLED: &str =
+    "task {task} ends in the {jump} on line {line}, though no call came here: the register holds what it held at the start";
+
+const HALT_MEANT: &str = "if the program ends here, write halt";
 
 const CALL_MEANT: &str =
     "is jal meant on line {from}, as on line {call}? else, if the program ends here, write halt";
@@ -54,61 +49,37 @@ const START_MEANT: &str =
 const SWAPPED: Row = Row {
     says: "the jalr on line {line} jumps through {through}, and puts the return address into {register}",
     help: "are its operands swapped? write jalr {through},{register}",
-    fix: "",
 };
 
 const NO_RETURN: Row = Row {
     says: "no call returns to {places} from task {task}, which lists it",
     help: "write {fix}",
-    fix: "targets={targets}",
 };
 
 /// The kind of a warning about a jump.
 #[derive(Clone, Copy)]
-pub enum JumpKind {
+enum JumpKind {
     /// It is seen to lead to a place that its task does not list.
     NotListed,
     /// Its task lists a target to which no call is seen to return.
     NoReturn,
 }
 
-/// What is said of where the jumps of a task lead, and what to do.
-#[derive(Drop)]
-struct JumpSaid {
-    kind: JumpKind,
-    message: Words,
-    help: Help,
-}
-
 /// The mnemonic of the instruction at a code index; empty where there is none.
 pub fn name_at(subject: &Subject, index: u32) -> &'static str {
-    match subject.code().get(index as usize) {
-        Some(marked) => marked.op.name(),
-        None => "",
-    }
-}
-
-/// What the walk over the calls found of a jump, as this task reaches it; `None` where the task does not reach it.
-pub fn jump_of<'a>(subject: &'a Subject, task: u32, index: u32) -> Option<&'a Jump> {
-    let jumps = subject.returns().jumps();
-    jumps
-        .iter()
-        .find(|jump| jump.task == task && jump.index == index)
+    subject.op(index).map_or("", |op| op.name())
 }
 
 /// Whether a place is the return point of a call.
 pub fn is_behind(subject: &Subject, place: u32) -> bool {
-    is_end(back(subject, place.saturating_sub(1)), place)
-}
-
-/// Whether a jump is seen to lead to a place which its task does not list.
-fn lacks(subject: &Subject, jump: &Jump, place: u32) -> bool {
-    jump.places.contains(&place) && !is_among(subject.targets(jump.task), place)
+    is_end(behind(subject.program(), place.saturating_sub(1)), place)
 }
 
 /// Whether a jump is seen to lead to a place which its task does not list, and the task does not begin there itself.
 fn misses(subject: &Subject, jump: &Jump, place: u32) -> bool {
-    lacks(subject, jump, place) && entry_of(subject, jump.task) != place
+    jump.places.contains(&place)
+        && !is_among(subject.targets(jump.task), place)
+        && entry_of(subject, jump.task) != place
 }
 
 /// The first jump that is seen to lead to a place which its task does not list, of a task that does not begin there itself.
@@ -120,44 +91,32 @@ pub fn missing_at<'a>(subject: &'a Subject, place: u32) -> Option<&'a Jump> {
     } else {
         None
     };
-    let first = jumps.iter().find(|jump| misses(subject, jump, place) && is_end(coming, jump.task));
-    match first {
-        Some(jump) => Some(jump),
-        None => jumps.iter().find(|jump| misses(subject, jump, place)),
-    }
+    let first = jumps.iter().find(|jump| is_end(coming, jump.task) && misses(subject, jump, place));
+    first.or(jumps.iter().find(|jump| misses(subject, jump, place)))
 }
 
 /// The first jump of a task without targets of which it is not seen where it leads.
 pub fn leading_nowhere<'a>(subject: &'a Subject) -> Option<&'a Jump> {
-    let jumps = subject.returns().jumps();
-    jumps.iter().find(|jump| subject.targets(jump.task).is_empty() && !jump.is_whole)
+    let mut jumps = subject.returns().jumps().iter();
+    jumps.find(|jump| subject.targets(jump.task).is_empty() && !jump.is_whole)
 }
 
-/// Whether a jump goes through $31, as a return does.
-fn returns(subject: &Subject, index: u32) -> bool {
-    match subject.code().get(index as usize) {
-        Some(marked) => match marked.op {
-            Op::JumpReg(register) => register.get() == 31,
-            _ => false,
-        },
-        None => false,
+/// The register whose address a `jr` jumps to; `None` where no `jr` is at the code index.
+pub(crate) fn held_by_jr(subject: &Subject, index: u32) -> Option<u8> {
+    match subject.code().get(index as usize)?.op {
+        Op::JumpReg(register) => Some(register.get()),
+        _ => None,
     }
 }
 
 /// The first jump other than `jr $31` of which not all places are seen to which it leads.
 pub fn leading_anywhere<'a>(subject: &'a Subject) -> Option<&'a Jump> {
-    let jumps = subject.returns().jumps();
-    jumps
-        .iter()
-        .find(|jump| !jump.is_whole && !returns(subject, jump.index))
+    let mut jumps = subject.returns().jumps().iter();
+    jumps.find(|jump| !jump.is_whole && held_by_jr(subject, jump.index) != Some(31))
 }
 
 /// Adds the places of a jump that its task does not list and `missing` does not have.
-///
-/// # Errors
-///
-/// `AllocError` where memory was refused; some of the places may have been added then.
-pub fn add_missing(subject: &Subject, jump: &Jump, missing: &mut Vec<u32>) -> Made<()> {
+pub(crate) fn add_missing(subject: &Subject, jump: &Jump, missing: &mut Vec<u32>) -> Made<()> {
     for place in &jump.places {
         if !is_among(subject.targets(jump.task), *place) && !missing.contains(place) {
             missing.push(*place)?;
@@ -183,8 +142,7 @@ pub fn missing_of(subject: &Subject, task: u32) -> Made<Vec<u32>> {
 
 /// Whether some task reaches an instruction.
 pub fn is_reached(subject: &Subject, index: u32) -> bool {
-    let program = subject.program();
-    (0..program.tasks().len() as u32).any(|task| subject.mask(task, index).is_some())
+    (0..subject.task_count()).any(|task| subject.mask(task, index).is_some())
 }
 
 /// Whether it is said of a place that no task comes to it: of the task that begins there, which never runs, or of the code
@@ -201,33 +159,24 @@ fn is_told(subject: &Subject, task: u32, place: u32) -> bool {
 }
 
 /// The calls that return to some places, in words: their lines.
-///
-/// # Errors
-///
-/// `AllocError` where memory was refused.
-pub fn back_words(subject: &Subject, jump: &Jump, places: &[u32]) -> Made<Words> {
+pub(crate) fn back_words(subject: &Subject, jump: &Jump, places: &[u32]) -> Made<Words> {
     let alloc = subject.alloc();
-    let mut lines = String::new(alloc);
-    let mut count = 0;
-    for place in places {
-        if jump.returns.contains(place) {
-            let line = subject.span(place.saturating_sub(1)).line;
-            let comma = if lines.is_empty() { "" } else { "," };
-            write!(lines, "{comma}{line}")?;
-            count = places.len().min(if comma.is_empty() { 1 } else { 2 });
-        }
-    }
-    match count {
+    let calls = places.iter().filter(|place| jump.returns.contains(*place));
+    let lines = calls.map(|place| subject.span(place.saturating_sub(1)).line);
+    let lines = lines.map(|line| format!(in alloc; "{line}"));
+    let lines: Vec<String> = lines.try_collect(alloc)?;
+    let list = lines.join(alloc, ",")?;
+    match lines.len() {
         0 => Words::of(alloc, ""),
-        1 => words!(in alloc; ": the call on line {lines} returns there"),
-        _ => words!(in alloc; ": the calls on lines {lines} return there"),
+        1 => words!(in alloc; ": the call on line {list} returns there"),
+        _ => words!(in alloc; ": the calls on lines {list} return there"),
     }
 }
 
 /// The words of what is said of a jump.
 fn names_of(subject: &Subject, jump: &Jump) -> Made<Names> {
     let mut names = Names::of_task(subject, jump.task)?;
-    names.line("line", subject, jump.index)?;
+    names.add("line", subject.span(jump.index).line)?;
     names.add("jump", name_at(subject, jump.index))?;
     Ok(names)
 }
@@ -246,72 +195,60 @@ fn tasks_words(subject: &Subject, places: &[u32]) -> Made<Words> {
 }
 
 /// What is said of places that a task does not list, to which this jump of it leads among others.
-fn missing_said(subject: &Subject, jump: &Jump, missing: &[u32]) -> Made<JumpSaid> {
+fn missing_said(subject: &Subject, jump: &Jump, missing: &[u32]) -> Made<Advice> {
     let mut names = names_of(subject, jump)?;
-    names.put("places", places_words(subject, missing)?)?;
-    names.put("back", back_words(subject, jump, missing)?)?;
-    names.put("tasks", tasks_words(subject, missing)?)?;
+    names.add("places", places_words(subject, missing)?)?;
+    names.add("back", back_words(subject, jump, missing)?)?;
+    names.add("tasks", tasks_words(subject, missing)?)?;
     let help = match going_on(subject, jump.task, missing)? {
         Some(Going { targets, changes }) => {
-            names.put("fix", targets)?;
+            names.add("fix", targets)?;
             names.help(NOT_LISTED.help, changes)?
         }
         None => names.advice(BEYOND_LISTS)?,
     };
-    Ok(JumpSaid {
-        kind: JumpKind::NotListed,
-        message: names.filled(NOT_LISTED.says)?,
-        help: stale_or(subject, jump.task, help)?,
-    })
+    let help = stale_or(subject, jump.task, help)?;
+    Ok((names.filled(NOT_LISTED.says)?, help))
 }
 
 /// The help that writes `halt` in place of a jump.
-///
-/// # Errors
-///
-/// `AllocError` where memory was refused.
-pub fn halt_help(subject: &Subject, index: u32, names: &Names) -> Made<Help> {
-    let mut changes = Vec::new(subject.alloc());
-    changes.push(Replacement {
-        span: subject.span(index),
-        text: Words::of(subject.alloc(), UNCALLED.fix)?,
-    })?;
-    names.help(UNCALLED.help, changes)
+pub(crate) fn halt_help(subject: &Subject, index: u32, names: &Names) -> Made<Help> {
+    let span = subject.span(index);
+    let text = Words::of(subject.alloc(), "halt")?;
+    names.help(
+        HALT_MEANT,
+        vec![in subject.alloc(); Replacement { span, text }]?,
+    )
 }
 
-/// Whether an instruction jumps to a place: as a call, or not.
-fn leads_by(subject: &Subject, index: u32, place: u32, is_call: bool) -> bool {
-    match subject.code().get(index as usize) {
-        Some(marked) => match marked.op {
-            Op::Jump(to) => !is_call && to.get() == place,
-            Op::JumpLink(to) => is_call && to.get() == place,
-            _ => false,
-        },
-        None => false,
+/// The place to which an instruction jumps, and whether it calls; `None` where no `j` or `jal` is at the code index.
+pub(crate) fn jump_place(subject: &Subject, index: u32) -> Option<(u32, bool)> {
+    match subject.code().get(index as usize)?.op {
+        Op::Jump(to) => Some((to.get(), false)),
+        Op::JumpLink(to) => Some((to.get(), true)),
+        _ => None,
     }
 }
 
 /// The first instruction that jumps to a place: as a call, or not.
 fn leading_to(subject: &Subject, place: u32, is_call: bool) -> Option<u32> {
-    let program = subject.program();
-    let mut indices = 0..program.code().len() as u32;
-    indices.find(|index| leads_by(subject, *index, place, is_call))
+    let mut indices = 0..subject.code_count();
+    indices.find(|index| jump_place(subject, *index) == Some((place, is_call)))
 }
 
 /// What to do about a jump to which no call came: a call may be meant where a jump leads to its task, or the program may be
 /// meant to start elsewhere; else it may end there.
 fn uncalled_help(subject: &Subject, jump: &Jump, names: &mut Names) -> Made<Help> {
     let entry = entry_of(subject, jump.task);
-    if let Some(call) = leading_to(subject, entry, true) {
-        if let Some(from) = leading_to(subject, entry, false) {
-            names.line("call", subject, call)?;
-            names.line("from", subject, from)?;
-            return names.advice(CALL_MEANT);
-        }
+    let leading = |is_call| leading_to(subject, entry, is_call);
+    if let (Some(call), Some(from)) = (leading(true), leading(false)) {
+        names.add("call", subject.span(call).line)?;
+        names.add("from", subject.span(from).line)?;
+        return names.advice(CALL_MEANT);
     }
     match subject.task_at(0) {
         Some(first) if never_runs(subject, first) => {
-            names.put("first", place_words(subject, 0)?)?;
+            names.add("first", place_words(subject, 0)?)?;
             names.advice(START_MEANT)
         }
         _ => halt_help(subject, jump.index, names),
@@ -319,18 +256,13 @@ fn uncalled_help(subject: &Subject, jump: &Jump, names: &mut Names) -> Made<Help
 }
 
 /// What is said of a jump by which a task leaves that lists no target, or to which no call came.
-fn ending_said(subject: &Subject, jump: &Jump) -> Made<JumpSaid> {
+fn ending_said(subject: &Subject, jump: &Jump) -> Made<Advice> {
     let mut names = names_of(subject, jump)?;
-    let (row, help) = if jump.is_uncalled {
-        (UNCALLED, uncalled_help(subject, jump, &mut names)?)
-    } else {
-        (NO_TARGET, names.advice(NO_TARGET.help)?)
-    };
-    Ok(JumpSaid {
-        kind: JumpKind::NotListed,
-        message: names.filled(row.says)?,
-        help,
-    })
+    if !jump.is_uncalled {
+        return names.said(NO_TARGET, Vec::new(subject.alloc()));
+    }
+    let help = uncalled_help(subject, jump, &mut names)?;
+    Ok((names.filled(UNCALLED)?, help))
 }
 
 /// Whether a jump of a task may lead to a place, as far as it is seen: it does, or not all is seen.
@@ -341,17 +273,11 @@ fn may_lead(subject: &Subject, jump: &Jump, place: u32) -> bool {
         || (is_behind(subject, place) && !subject.returns().has_seen_call(call))
 }
 
-/// Whether a jump to an address in a register takes a task to a place, as far as it is seen.
-fn may_jump(subject: &Subject, task: u32, place: u32) -> bool {
-    let jumps = subject.returns().jumps();
-    jumps
-        .iter()
-        .any(|jump| jump.task == task && may_lead(subject, jump, place))
-}
-
-/// Whether a task may go on to a place.
+/// Whether a task may go on to a place, as far as it is seen: by an exit, or by a jump to an address in a register.
 pub(crate) fn may_go_on(subject: &Subject, task: u32, place: u32) -> bool {
-    is_taken(subject, task, place) || may_jump(subject, task, place)
+    let mut jumps = subject.returns().jumps().iter();
+    is_taken(subject, task, place)
+        || jumps.any(|jump| jump.task == task && may_lead(subject, jump, place))
 }
 
 /// The message of a row about targets that a task should not list, and its help, which writes the other targets.
@@ -359,107 +285,85 @@ pub(crate) fn may_go_on(subject: &Subject, task: u32, place: u32) -> bool {
 /// # Errors
 ///
 /// `AllocError` where memory was refused.
-pub fn targets_without(
-    subject: &Subject,
-    task: u32,
-    row: Row,
-    places: &[u32],
-) -> Made<(Words, Help)> {
+pub fn targets_without(subject: &Subject, task: u32, row: Row, places: &[u32]) -> Made<Advice> {
     let listed = entries_listed(subject, task)?;
-    let kept: Vec<u32> = listed
+    let kept = listed
         .iter()
         .copied()
-        .filter(|place| !places.contains(place))
-        .collect(subject.alloc())?;
+        .filter(|place| !places.contains(place));
+    let kept: Vec<u32> = kept.collect(subject.alloc())?;
     let mut names = Names::of_task(subject, task)?;
-    names.put("places", places_words(subject, places)?)?;
-    names.put("targets", places_words(subject, &kept)?)?;
-    names.fixed(row, subject.targets_span(task))
+    names.add("places", places_words(subject, places)?)?;
+    names.fixed(
+        row,
+        subject.targets_span(task),
+        targets_words(subject, &kept)?,
+    )
 }
 
 /// What is said of targets of a task to which no call returns, if there are such.
-fn unused_said(subject: &Subject, task: u32) -> Made<Option<JumpSaid>> {
+fn unused_said(subject: &Subject, task: u32) -> Made<Option<Advice>> {
     let listed = entries_listed(subject, task)?;
-    let unused: Vec<u32> = listed
-        .iter()
-        .copied()
-        .filter(|place| !may_go_on(subject, task, *place))
-        .collect(subject.alloc())?;
+    let listed = listed.iter().copied();
+    let unused = listed.filter(|place| !may_go_on(subject, task, *place));
+    let unused: Vec<u32> = unused.collect(subject.alloc())?;
     if unused.is_empty() {
         return Ok(None);
     }
     let (message, help) = targets_without(subject, task, NO_RETURN, &unused)?;
-    Ok(Some(JumpSaid {
-        kind: JumpKind::NoReturn,
-        message,
-        help: stale_or(subject, task, help)?,
-    }))
+    Ok(Some((message, stale_or(subject, task, help)?)))
 }
 
-/// The places that a task does not list, of those that are not said of tasks that never run.
-fn untold(subject: &Subject, task: u32, missing: &[u32]) -> Made<Vec<u32>> {
-    missing
-        .iter()
-        .copied()
-        .filter(|place| !is_told(subject, task, *place))
-        .collect(subject.alloc())
-}
-
-/// The register into which a jalr through $31 puts the return address, if that is another one.
-fn swapped(subject: &Subject, index: u32) -> Option<u8> {
+/// The register into which a jalr through $31 puts the return address, where that is another one.
+fn swapped_link(subject: &Subject, index: u32) -> Option<u8> {
     match subject.code().get(index as usize)?.op {
-        Op::JumpLinkReg(link, through) => {
-            let is_swapped = through.get() == 31 && link.get() != 31;
-            is_swapped.then_some(link.get())
+        Op::JumpLinkReg(link, through) if through.get() == 31 && link.get() != 31 => {
+            Some(link.get())
         }
         _ => None,
     }
 }
 
-/// What is said of a jalr whose operands may be swapped.
-fn swapped_said(subject: &Subject, jump: &Jump) -> Made<Option<JumpSaid>> {
-    let Some(register) = swapped(subject, jump.index) else {
+/// What is said of a jalr through $31 that puts the return address into another register: its operands may be swapped.
+fn swapped_said(subject: &Subject, jump: &Jump) -> Made<Option<Advice>> {
+    match swapped_link(subject, jump.index) {
+        Some(link) => {
+            let mut names = names_of(subject, jump)?;
+            names.add("register", subject.register(link))?;
+            names.add("through", subject.register(31))?;
+            Ok(Some(names.said(SWAPPED, Vec::new(subject.alloc()))?))
+        }
+        None => Ok(None),
+    }
+}
+
+/// What is said of the jumps of a task, of which this is the first, to places that it does not list, if that is not said of
+/// tasks that never run.
+fn untold_said(subject: &Subject, first: &Jump, missing: &[u32]) -> Made<Option<Advice>> {
+    let task = first.task;
+    if missing.iter().all(|place| is_told(subject, task, *place)) {
         return Ok(None);
-    };
-    let mut names = names_of(subject, jump)?;
-    names.add("register", subject.register(register))?;
-    names.add("through", subject.register(31))?;
-    Ok(Some(JumpSaid {
-        kind: JumpKind::NotListed,
-        message: names.filled(SWAPPED.says)?,
-        help: names.advice(SWAPPED.help)?,
-    }))
+    }
+    let jumps = subject.returns().jumps().iter();
+    let mut jumps = jumps.filter(|jump| jump.task == task);
+    let leading = jumps.find(|jump| missing.iter().any(|place| jump.places.contains(place)));
+    Ok(Some(missing_said(subject, leading.unwrap_or(first), missing)?))
 }
 
 /// What is said of the jumps of a task, of which this is the first, if there is something to say.
-fn jump_said(subject: &Subject, first: &Jump) -> Made<Option<JumpSaid>> {
-    let task = first.task;
-    if let Some(said) = swapped_said(subject, first)? {
-        return Ok(Some(said));
-    }
-    let missing = missing_of(subject, task)?;
-    if !missing.is_empty() {
-        if untold(subject, task, &missing)?.is_empty() {
-            return Ok(None);
-        }
-        let leading = missing_of_first(subject, task).unwrap_or(first);
-        return Ok(Some(missing_said(subject, leading, &missing)?));
-    }
-    let is_empty = subject.targets(task).is_empty();
-    if first.is_uncalled || (is_empty && !first.is_whole) {
-        return Ok(Some(ending_said(subject, first)?));
-    }
-    unused_said(subject, task)
-}
-
-/// The first jump of a task that is seen to lead to a place which the task does not list.
-fn missing_of_first<'a>(subject: &'a Subject, task: u32) -> Option<&'a Jump> {
-    let jumps = subject.returns().jumps();
-    jumps.iter().find(|jump| jump.task == task
-        && jump
-            .places
-            .iter()
-            .any(|place| !is_among(subject.targets(task), *place)))
+fn jump_said(subject: &Subject, first: &Jump) -> Made<Option<(JumpKind, Advice)>> {
+    let missing = missing_of(subject, first.task)?;
+    let is_empty = subject.targets(first.task).is_empty();
+    let (kind, said) = if let Some(said) = swapped_said(subject, first)? {
+        (JumpKind::NotListed, Some(said))
+    } else if !missing.is_empty() {
+        (JumpKind::NotListed, untold_said(subject, first, &missing)?)
+    } else if first.is_uncalled || (is_empty && !first.is_whole) {
+        (JumpKind::NotListed, Some(ending_said(subject, first)?))
+    } else {
+        (JumpKind::NoReturn, unused_said(subject, first.task)?)
+    };
+    Ok(said.map(|said| (kind, said)))
 }
 
 /// The code of a warning.
@@ -476,14 +380,7 @@ fn code_of_jump(kind: JumpKind) -> Code
 fn jump_warning(subject: &Subject, first: &Jump) -> Made<Option<Diagnostic>>
     ensures { IfOk result (λ said. IfSome said IsOfJump) }
 {
-    let Some(
-        JumpSaid {
-            kind,
-            message,
-            help,
-        },
-    ) = jump_said(subject, first)?
-    else {
+    let Some((kind, (message, help))) = jump_said(subject, first)? else {
         return Ok(None);
     };
     Ok(Some(Diagnostic {

@@ -31,8 +31,8 @@ ghost use Rattle.task_graph.specs.Members.{Reaches};
 ghost use Rattle.task_graph.specs.Neighbours.{Follows, is_among as is_one_of};
 ghost use Rattle.task_graph.specs.SearchSteps.{is_marked as is_marked_of};
 ghost use Rattle.mark_subjects.specs.Subjects.{end_in};
-ghost use Rattle.exit_diagnostics.specs.Needless.{unstopped, without_stop, with_code, is_past, ends_if_indirect, stays_right, comes_to, IsNeedless};
-ghost use Rattle.exit_diagnostics.specs.NeedlessSteps.{is_listed, exits_listed, is_right, some_wrong, exits_to, some_exits_to, lacks, some_lacks, is_wrong_target, some_target_wrong, all_right};
+ghost use Rattle.exit_diagnostics.specs.Needless.{without_stop, with_code, is_past, ends_if_indirect, stays_right, comes_to, IsNeedless};
+ghost use Rattle.exit_diagnostics.specs.NeedlessSteps.{is_listed, is_right, some_wrong, some_exits_to, some_lacks, some_target_wrong, all_right};
 
 impl Instructions {
     /// How many instructions there are.
@@ -53,17 +53,6 @@ impl Instructions {
     }
 }
 
-/// An instruction without its stop.
-fn unstopped(marked: &Marked) -> Marked
-    ensures { result ≡ unstopped marked.now }
-{
-    Marked {
-        op: marked.op,
-        forward: marked.forward,
-        stop: Stop::None,
-    }
-}
-
 /// The instructions of a program without the stop of one of them.
 fn without_stop(subject: &Subject, index: u32) -> Made<Instructions>
     ensures { IfOk result (λ code. code ≡ without_stop subject.now.program.code index) }
@@ -72,7 +61,10 @@ fn without_stop(subject: &Subject, index: u32) -> Made<Instructions>
     let mut code = Vec::new(subject.alloc());
     code.extend_from_slice(old)?;
     if let Some(marked) = old.get(index as usize) {
-        code[index as usize] = unstopped(marked);
+        code[index as usize] = Marked {
+            stop: Stop::None,
+            ..*marked
+        };
     }
     Ok(Instructions { code })
 }
@@ -136,14 +128,6 @@ fn is_listed(subject: &Subject, task: u32, end: Option<u32>) -> bool
     }
 }
 
-/// Whether the exits of an instruction are targets of a task.
-fn exits_listed(subject: &Subject, code: &Instructions, task: u32, index: u32) -> bool
-    ensures { result ≡ exits_listed subject.now code.now task index }
-{
-    is_listed(subject, task, code.end(true, index, false))
-        && is_listed(subject, task, code.end(true, index, true))
-}
-
 /// Whether an edge leads to no instruction.
 fn is_past(code: &Instructions, end: Option<u32>) -> bool
     ensures { result ≡ is_past code.now end }
@@ -176,7 +160,9 @@ fn stays_right(code: &Instructions, index: u32) -> bool
 fn is_right(subject: &Subject, code: &Instructions, task: u32, index: u32) -> bool
     ensures { result ≡ is_right subject.now code.now task index }
 {
-    exits_listed(subject, code, task, index) && stays_right(code, index)
+    (is_listed(subject, task, code.end(true, index, false))
+        && is_listed(subject, task, code.end(true, index, true)))
+        && stays_right(code, index)
 }
 
 /// Whether a task goes wrong at some marked instruction.
@@ -186,59 +172,33 @@ fn some_wrong(subject: &Subject, code: &Instructions, marks: &[bool], task: u32)
     (0..code.count()).any(|index| is_marked(marks, index) && !is_right(subject, code, task, index))
 }
 
-/// Whether an exit of an instruction leads to a place.
-fn exits_to(code: &Instructions, index: u32, to: u32) -> bool
-    ensures { result ≡ exits_to code.now index to }
-{
-    is_end(code.end(true, index, false), to) || is_end(code.end(true, index, true), to)
-}
-
 /// Whether an exit of some marked instruction leads to a place.
 fn some_exits_to(code: &Instructions, marks: &[bool], to: u32) -> bool
     ensures { result ≡ some_exits_to code.now marks.now to }
 {
-    (0..code.count()).any(|index| is_marked(marks, index) && exits_to(code, index, to))
+    (0..code.count()).any(|index| {
+        is_marked(marks, index)
+            && (is_end(code.end(true, index, false), to) || is_end(code.end(true, index, true), to))
+    })
 }
 
 /// Whether a task is this one, or another one that reaches an instruction.
 fn comes_to(subject: &Subject, task: u32, index: u32, other: u32) -> bool
     ensures { result ≡ comes_to subject.now task index other }
 {
-    other == task
-        || ((other as usize) < subject.tasks().len() && subject.mask(other, index).is_some())
+    other == task || (other < subject.task_count() && subject.mask(other, index).is_some())
 }
 
-/// Whether such a task does not have a place as a target.
-fn lacks(subject: &Subject, task: u32, index: u32, to: u32, other: u32) -> bool
-    ensures { result ≡ lacks subject.now task index to other }
-{
-    comes_to(subject, task, index, other) && !is_among(subject.targets(other), to)
-}
-
-/// Whether some such task does not.
+/// Whether some such task does not have a place as a target.
 fn some_lacks(subject: &Subject, task: u32, index: u32, to: u32) -> bool
     ensures { result ≡ some_lacks subject.now task index to }
 {
-    let program = subject.program();
-    (0..program.tasks().len() as u32).any(|other| lacks(subject, task, index, to, other))
+    (0..subject.task_count()).any(|other| {
+        comes_to(subject, task, index, other) && !is_among(subject.targets(other), to)
+    })
 }
 
-/// Whether the task comes to exit to one of its targets at which no task begins, or which another such task lacks.
-fn is_wrong_target(
-    subject: &Subject,
-    code: &Instructions,
-    marks: &[bool],
-    task: u32,
-    index: u32,
-    to: u32,
-) -> bool
-    ensures { result ≡ is_wrong_target subject.now code.now marks.now task index to }
-{
-    some_exits_to(code, marks, to)
-        && (!subject.is_entry(to) || some_lacks(subject, task, index, to))
-}
-
-/// Whether it does so to some target.
+/// Whether the task comes to exit to some of its targets at which no task begins, or which another such task lacks.
 fn some_target_wrong(
     subject: &Subject,
     code: &Instructions,
@@ -249,7 +209,11 @@ fn some_target_wrong(
     ensures { result ≡ some_target_wrong subject.now code.now marks.now task index }
 {
     let targets = subject.targets(task);
-    targets.iter().any(|target| is_wrong_target(subject, code, marks, task, index, target.get()))
+    targets.iter().any(|target| {
+        let to = target.get();
+        some_exits_to(code, marks, to)
+            && (!subject.is_entry(to) || some_lacks(subject, task, index, to))
+    })
 }
 
 /// Whether all such tasks go right at each marked instruction.

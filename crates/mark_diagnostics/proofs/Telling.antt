@@ -14,10 +14,11 @@ use Rattle.mark_checker.specs.declared.finding.Finding.{Finding}
 use Rattle.mark_checker.specs.Rules.{task_rules, rules, all_rules}
 use Rattle.annotator.specs.Least.{IsLeast}
 use Rattle.finding_paths.specs.Shown.{IsFinding}
+use Rattle.diagnostics.specs.More.{more_note}
+use Rattle.diagnostics.specs.declared.diagnostic.Source.TheVariants.{Program}
 use Rattle.diagnostics.specs.declared.diagnostic.Diagnostic.{Diagnostic}
 use Rattle.mark_subjects.specs.Subjects.{Judged, IsJudged}
 use Rattle.mark_diagnostics.specs.Told.{is_of_mask, told, told_of, all_told, most_shown, leader, leaders, about}
-use Rattle.mark_subjects.specs.More.{more_note}
 use Rattle.mark_diagnostics.specs.Errors.{Says, AreMarkErrors}
 
 left : {X : Type 0} (P : X → Type 0) (xs ys : List X) → All P (xs ++ ys) → All P xs
@@ -139,7 +140,7 @@ none_told p cert (t ∷ ts) e =
     both_none (told_of p cert t) (flat_map (told_of p cert) ts) (ap told (none_left (rules p cert t) (flat_map (rules p cert) ts) e))
     (none_told p cert ts (none_right (rules p cert t) (flat_map (rules p cert) ts) e))
 
-none_more : (n : ℕ) (one many : List ℕ) → more_note n one many ≡ [] → n ≡ 0
+none_more : (n : ℕ) (one many : List ℕ) → more_note Program n one many ≡ [] → n ≡ 0
 none_more zero one many e = refl
 none_more (suc n) one many e = absurd (no_head _ [] e)
 
@@ -179,7 +180,7 @@ nothing_wrong text list s judged least sound nothing none =
       least = least;
       first = first;
       said = subst (λ (fs : List Finding). AllZip (Says s) (take most_shown fs) first) (sym all) tt;
-      is = none ∙ sym (ap (λ (fs : List Finding). first ++ more_note (length fs - most_shown) (codes "error") (codes "errors")) all);
+      is = none ∙ sym (ap (λ (fs : List Finding). first ++ more_note Program (length fs - most_shown) (codes "error") (codes "errors")) all);
       silent = (λ e. sound, λ h. none);
     }
 
@@ -191,10 +192,10 @@ of_judged P s p cert a b h = subst (λ (q : Listing). P q s.least) (sym a) (subs
 pub something_wrong : (text : List ℕ) (list first : List Diagnostic) (s : Judged) → IsJudged text s → IsLeast s.program s.least
     → (Sound s.program → all_rules s.program s.least ≡ []) → (all_rules s.program s.least ≡ [] → ⊥)
     → AllZip (Says s) (take most_shown (all_told s.program s.least)) first
-    → list ≡ first ++ more_note (length (all_told s.program s.least) - most_shown) (codes "error") (codes "errors") → AreMarkErrors text list
+    → list ≡ first ++ more_note Program (length (all_told s.program s.least) - most_shown) (codes "error") (codes "errors") → AreMarkErrors text list
 something_wrong text list first s judged least sound refused said is =
     let told = all_told s.program s.least in
-    let rest = more_note (length told - most_shown) (codes "error") (codes "errors") in
+    let rest = more_note Program (length told - most_shown) (codes "error") (codes "errors") in
     record {
       judged = s;
       of_text = judged;

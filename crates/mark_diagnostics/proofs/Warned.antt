@@ -6,6 +6,8 @@ use Rattle.std.proofs.lemmas.List.Elements.{All-nil}
 use Rattle.finding_paths.specs.declared.mark.CostlyMark.{CostlyMark}
 use Rattle.finding_paths.specs.Costly.{IsCostly}
 use Rattle.finding_paths.specs.Candidates.{candidates, Picked}
+use Rattle.diagnostics.specs.More.{more_note}
+use Rattle.diagnostics.specs.declared.diagnostic.Source.TheVariants.{Program}
 use Rattle.diagnostics.specs.declared.diagnostic.Diagnostic.{Diagnostic}
 use Rattle.exit_diagnostics.specs.declared.remark.Remark.{Remark}
 use Rattle.exit_diagnostics.specs.declared.remark.Remark.TheVariants.{Stop}
@@ -13,7 +15,6 @@ use Rattle.exit_diagnostics.specs.declared.remark.StopRemark.{StopRemark}
 use Rattle.exit_diagnostics.specs.Jumps.{IsOfJump}
 use Rattle.exit_diagnostics.specs.Remarks.{stop_remarks}
 use Rattle.mark_subjects.specs.Subjects.{Judged, IsJudged}
-use Rattle.mark_subjects.specs.More.{more_note}
 use Rattle.mark_diagnostics.specs.Told.{most_shown}
 use Rattle.mark_diagnostics.specs.Together.{told_marks}
 use Rattle.mark_diagnostics.specs.Warnings.{remarks, Warns, AreMarkWarnings}
@@ -35,5 +36,5 @@ nothing_warned text s list said judged none stops costly empty =
       warned = subst (λ (rs : List Remark). AllZip (Warns s) (take most_shown rs) []) (sym all) tt;
       jumps = [];
       jumping = All-nil IsOfJump;
-      is = empty ∙ ap (λ (rs : List Remark). more_note (length rs - most_shown) (codes "warning") (codes "warnings")) (sym all);
+      is = empty ∙ ap (λ (rs : List Remark). more_note Program (length rs - most_shown) (codes "warning") (codes "warnings")) (sym all);
     }

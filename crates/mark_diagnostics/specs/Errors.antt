@@ -20,7 +20,7 @@ use Rattle.mark_subjects.specs.Parts.{paths, shown_path, way_paths, steps_of}
 use Rattle.mark_diagnostics.specs.Told.{all_told, most_shown, about, is_first}
 use Rattle.mark_subjects.specs.Steps.{path_in, first_entered, is_end_first}
 use Rattle.exit_diagnostics.specs.Exits.{wrong_number}
-use Rattle.mark_subjects.specs.More.{more_note}
+use Rattle.diagnostics.specs.More.{more_note}
 
 abbrev pub code_of : Rule → Code
 code_of rule.EntryWithoutMask = code.EntryWithoutMask
@@ -98,6 +98,6 @@ pub record AreMarkErrors (text : List ℕ) (list : List Diagnostic) : Type 0 whe
   pub least : IsLeast judged.program judged.least
   pub first : List Diagnostic
   pub said : AllZip (Says judged) (take most_shown (all_told judged.program judged.least)) first
-  pub is : list ≡ first ++ more_note (length (all_told judged.program judged.least) - most_shown) (codes "error") (codes "errors")
+  pub is : list ≡ first ++ more_note Program (length (all_told judged.program judged.least) - most_shown) (codes "error") (codes "errors")
   -- there is none exactly where the marks are sound
   pub silent : (list ≡ []) ↔ Sound judged.program

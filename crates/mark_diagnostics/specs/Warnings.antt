@@ -18,7 +18,7 @@ use Rattle.exit_diagnostics.specs.declared.remark.StopRemark.TheVariants.{NeverR
 use Rattle.exit_diagnostics.specs.Jumps.{IsOfJump}
 use Rattle.exit_diagnostics.specs.Remarks.{first_untaken, stop_remarks}
 use Rattle.mark_subjects.specs.Subjects.{Judged, IsJudged, instruction_span, task_span, create_span, targets_span, target_span}
-use Rattle.mark_subjects.specs.More.{more_note}
+use Rattle.diagnostics.specs.More.{more_note}
 use Rattle.mark_diagnostics.specs.Told.{most_shown}
 use Rattle.mark_diagnostics.specs.Together.{told_marks}
 
@@ -73,4 +73,4 @@ pub record AreMarkWarnings (text : List ℕ) (p : Listing) (least : List (List (
   -- and of jumps to addresses in registers, as far as it is seen where they lead
   pub jumps : List Diagnostic
   pub jumping : All IsOfJump jumps
-  pub is : said ≡ (first ++ jumps) ++ more_note (length (remarks judged list) - most_shown) (codes "warning") (codes "warnings")
+  pub is : said ≡ (first ++ jumps) ++ more_note Program (length (remarks judged list) - most_shown) (codes "warning") (codes "warnings")

@@ -6,7 +6,7 @@ ghost use Rattle.annotated_asm.specs.ProgramText.{parse};
 ghost use Rattle.annotator.specs.Least.{IsLeast};
 ghost use Rattle.finding_paths.specs.Shown.{IsFinding, IsShown};
 ghost use Rattle.mark_subjects.specs.Parts.{paths};
-ghost use Rattle.mark_diagnostics.specs.Errors.{code_of, span_by, first_path, paths_by, ends_first, short_step, paths_told, IsError, Says, AreMarkErrors};
+ghost use Rattle.mark_diagnostics.specs.Errors.{code_of, span_by, first_path, paths_by, short_step, paths_told, IsError, Says, AreMarkErrors};
 
 use crate::mask::{mask_help, mask_notes, missing};
 use crate::sending::{early_help, early_notes};
@@ -16,22 +16,21 @@ use annotator::laws::least_decides;
 use diagnostics::code::Code;
 use diagnostics::diagnostic::{Diagnostic, Help, Note, Severity, Source, Span};
 use diagnostics::listed::Listed;
+use diagnostics::more::add_more;
 use diagnostics::words;
 use diagnostics::words::Words;
+use exit_diagnostics::advice::Names;
 use exit_diagnostics::call::return_help;
 use exit_diagnostics::exit::{
     add_place_note, beyond, beyond_help, exit_help, exit_message, exit_notes, target_help,
     wrong_number, wrong_target,
 };
-use exit_diagnostics::halting::halt_or;
-use exit_diagnostics::needless::is_needless;
+use exit_diagnostics::meant::halt_or;
 use finding_paths::shown::{ShownFinding, path_of};
 use mark_checker::accept::accepts;
 use mark_checker::finding::{Finding, Rule};
 use mark_checker::survey::{Survey, Surveyed};
-use mark_subjects::parts::{
-    add_more, first_of, place_words, registers_words, spot_words, way_notes,
-};
+use mark_subjects::parts::{first_of, place_words, registers_words, way_notes};
 use mark_subjects::step::{end_help, first_entered, is_end_first, path_in, stop_note, stop_or};
 use mark_subjects::subject::{Made, Subject};
 use mask_certificate::certificate::Cert;
@@ -75,34 +74,33 @@ fn span_of(subject: &Subject, finding: &Finding) -> Span
 
 /// What is wrong.
 fn message(subject: &Subject, finding: &Finding, about: &[Finding]) -> Made<Words> {
-    let alloc = subject.alloc();
-    let task = subject.task(finding.task);
-    let register = subject.register(register_in(finding.reg));
-    match finding.rule {
-        Rule::ForwardedInNext => {
-            words!(in alloc; "task {task} forwards {register} here and may write it again")
-        }
-        Rule::ReleasedInNext => {
-            words!(in alloc; "task {task} releases {register} here and may write it again")
-        }
-        Rule::ExitNotListed => exit_message(subject, finding),
+    let mut names = Names::of_task(subject, finding.task)?;
+    names.add("register", subject.register(register_in(finding.reg)))?;
+    let template = match finding.rule {
+        Rule::ForwardedInNext => "task {task} forwards {register} here and may write it again",
+        Rule::ReleasedInNext => "task {task} releases {register} here and may write it again",
+        Rule::ExitNotListed => return exit_message(subject, finding),
         Rule::FallsOff => {
-            let place = place_words(subject, beyond(subject, finding.index))?;
-            words!(in alloc; "task {task} can continue from here to {place}, where there is no instruction")
+            let place = beyond(subject, finding.index);
+            names.add("place", place_words(subject, place)?)?;
+            "task {task} can continue from here to {place}, where there is no instruction"
         }
-        Rule::IndirectGoesOn => {
-            words!(in alloc; "this jump to an address in a register has to end task {task}")
-        }
+        Rule::IndirectGoesOn => "this jump to an address in a register has to end task {task}",
         Rule::TargetNotEntry => {
-            let place = spot_words(subject, wrong_target(subject, finding.task))?;
-            words!(in alloc; "task {task} lists the target {place}, where no task begins")
+            let target = wrong_target(subject, finding.task);
+            match subject.label(target) {
+                Some(label) => names.add("place", label)?,
+                None => names.add("place", words!(in subject.alloc(); "@{target}")?)?,
+            }
+            "task {task} lists the target {place}, where no task begins"
         }
         _ => {
-            let missing = missing(alloc, about)?;
-            let list = registers_words(subject, &missing)?;
-            words!(in alloc; "the create mask of task {task} lacks {list}")
+            let missing = missing(subject.alloc(), about)?;
+            names.add("registers", registers_words(subject, &missing)?)?;
+            "the create mask of task {task} lacks {registers}"
         }
-    }
+    };
+    names.filled(template)
 }
 
 /// The note on the target where no task begins.
@@ -134,14 +132,11 @@ fn notes_of(
     }
 }
 
-/// What to do about it; the stop there may be needless.
+/// What to do about it.
 fn help(subject: &Subject, finding: &Finding, path: &[u32], about: &[Finding]) -> Made<Help> {
     match finding.rule {
         Rule::ForwardedInNext | Rule::ReleasedInNext => early_help(subject, finding, path),
-        Rule::ExitNotListed => {
-            let needless = is_needless(subject, finding.task, finding.index)?;
-            exit_help(subject, finding, needless)
-        }
+        Rule::ExitNotListed => exit_help(subject, finding),
         Rule::FallsOff => beyond_help(subject, finding.index),
         Rule::IndirectGoesOn => return_help(subject, finding.task, finding.index, path),
         Rule::TargetNotEntry => target_help(subject, finding.task),
@@ -159,45 +154,9 @@ fn first_path(shown: &[ShownFinding]) -> &[u32]
     }
 }
 
-/// What shows a finding that is told whole: first a stop that may be forgotten on its path.
-#[tactic(auto, using(mark_subjects::proofs::Paths::none_before))]
-fn whole_notes(
-    subject: &Subject,
-    finding: &Finding,
-    about: &[Finding],
-    shown: &[ShownFinding],
-) -> Made<Vec<Note>>
-    ensures { IfOk result (λ notes. paths notes.items ≡ paths_by finding.now.rule subject.now finding.now (first_path (slice_get shown.now 0)) shown.now) }
-{
-    let mut notes = stop_note(subject, finding.task, first_entered(subject, shown))?;
-    let mut more = notes_of(subject, finding, first_path(shown), about, shown)?;
-    notes.append(&mut more)?;
-    Ok(notes)
-}
-
-/// A step into a task, if a stop there is the first thing to do, and another finding of the task is told before this one.
-#[tactic(auto, unfolding(crate::specs::Errors::ends_first))]
-fn ends_first(
-    subject: &Subject,
-    survey: &Survey<'_>,
-    finding: &Finding,
-    step: (u32, u32),
-) -> Made<Option<(u32, u32)>>
-    requires { survey.now ≡ subject.now.program }
-    ensures { IfOk result (λ found. found ≡ ends_first subject.now finding.now step) }
-{
-    if !is_end_first(subject, finding.task, step) {
-        return Ok(None);
-    }
-    if is_first(subject, survey, finding)? {
-        Ok(None)
-    } else {
-        Ok(Some(step))
-    }
-}
-
-/// Such a step, if there is one on the path of a finding.
-#[tactic(auto, unfolding(crate::specs::Errors::short_step))]
+/// A step into a task on the path of a finding, if there is one, a stop there is the first thing to do, and another finding of
+/// the task is told before this one.
+#[tactic(auto, unfolding(crate::specs::Errors::ends_first, crate::specs::Errors::short_step))]
 fn short_step(
     subject: &Subject,
     survey: &Survey<'_>,
@@ -207,14 +166,22 @@ fn short_step(
     requires { survey.now ≡ subject.now.program }
     ensures { IfOk result (λ found. found ≡ short_step subject.now finding.now step) }
 {
-    match step {
-        Some(step) => ends_first(subject, survey, finding, step),
-        None => Ok(None),
+    let Some(first) = step else {
+        return Ok(None);
+    };
+    if !is_end_first(subject, finding.task, first) {
+        return Ok(None);
+    }
+    if is_first(subject, survey, finding)? {
+        Ok(None)
+    } else {
+        Ok(step)
     }
 }
 
-/// What shows a finding; nothing where it is told in short, with this step of its path.
-#[tactic(auto, using(mark_subjects::proofs::Paths::none_yet))]
+/// What shows a finding, first a stop that may be forgotten on its path; nothing where it is told in short, with this step of
+/// its path.
+#[tactic(auto, using(mark_subjects::proofs::Paths::none_yet, mark_subjects::proofs::Paths::none_before))]
 fn told_notes(
     subject: &Subject,
     finding: &Finding,
@@ -224,10 +191,13 @@ fn told_notes(
 ) -> Made<Vec<Note>>
     ensures { IfOk result (λ notes. paths notes.items ≡ paths_told subject.now finding.now shown.now short) }
 {
-    match short {
-        Some(_) => Ok(Vec::new(subject.alloc())),
-        None => whole_notes(subject, finding, about, shown),
+    if let Some(_) = short {
+        return Ok(Vec::new(subject.alloc()));
     }
+    let mut notes = stop_note(subject, finding.task, first_entered(subject, shown))?;
+    let mut more = notes_of(subject, finding, first_path(shown), about, shown)?;
+    notes.append(&mut more)?;
+    Ok(notes)
 }
 
 /// What to do about a finding; where it is told in short, to put a stop on this step of its path. Before all a halt may be
@@ -239,14 +209,15 @@ fn told_help(
     shown: &[ShownFinding],
     short: Option<(u32, u32)>,
 ) -> Made<Help> {
+    let task = finding.task;
     let path = first_path(shown);
-    if let Some(step) = short {
-        let help = end_help(subject, finding.task, step.0, step.1)?;
-        return halt_or(subject, finding.task, path, help);
-    }
-    let help = help(subject, finding, path, about)?;
-    let help = stop_or(subject, finding.task, first_entered(subject, shown), help)?;
-    halt_or(subject, finding.task, path, help)
+    let help = if let Some((index, into)) = short {
+        end_help(subject, task, index, into)?
+    } else {
+        let help = help(subject, finding, path, about)?;
+        stop_or(subject, task, first_entered(subject, shown), help)?
+    };
+    halt_or(subject, task, path, help)
 }
 
 /// What is said of a finding, with what is told with it.
@@ -356,6 +327,6 @@ pub fn mark_errors(
     let subject = Subject::read(alloc, text, program, least)?;
     let mut list = told_diagnostics(&subject, &survey, &first.0)?;
     let more = first.1.saturating_sub(MOST_SHOWN);
-    add_more(alloc, &mut list, more, "error", "errors")?;
+    add_more(alloc, &mut list, Source::Program, more, "error", "errors")?;
     Ok(list)
 }

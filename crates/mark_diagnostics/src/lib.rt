@@ -3,7 +3,6 @@
 
 pub mod error;
 mod mask;
-mod release;
 mod sending;
 mod strayed;
 mod together;

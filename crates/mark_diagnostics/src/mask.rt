@@ -9,8 +9,7 @@ ghost use Rattle.mark_subjects.specs.Parts.{paths, shown_path};
 ghost use Rattle.mark_diagnostics.specs.Told.{register_in as register_of};
 ghost use Rattle.mark_diagnostics.specs.Errors.{path_shown};
 
-use crate::release::{release_words, release_written};
-use crate::sending::written_from;
+use crate::sending::{release_of, written_from};
 use crate::told::register_in;
 use crate::warning::still_released;
 use diagnostics::diagnostic::{Help, Note, Replacement};
@@ -138,12 +137,6 @@ fn create_words(subject: &Subject, task: u32, about: &[Finding]) -> Made<Words> 
     words!(in alloc; "create={list}")
 }
 
-/// Whether a task writes the register of a finding.
-fn is_written(subject: &Subject, task: u32, finding: &Finding) -> bool {
-    let entry = entry_of(subject, task);
-    written_from(subject, task, Some(entry), register_in(finding.reg))
-}
-
 /// Whether an instruction releases the register of one of these findings.
 fn releases_any(subject: &Subject, findings: &[Finding], index: u32) -> bool {
     findings.iter().any(|finding| subject.releases(index, register_in(finding.reg)))
@@ -152,13 +145,12 @@ fn releases_any(subject: &Subject, findings: &[Finding], index: u32) -> bool {
 /// That some registers are taken out of each release of a task.
 fn out_of_releases(subject: &Subject, task: u32, gone: &[u8]) -> Made<Vec<Replacement>> {
     let mut changes = Vec::new(subject.alloc());
-    for entry in subject.entries(task) {
-        let index = entry.0;
-        let kept = still_released(subject, index, gone)?;
-        let all = still_released(subject, index, &[])?;
+    for (index, _) in subject.entries(task) {
+        let kept = still_released(subject, *index, gone)?;
+        let all = still_released(subject, *index, &[])?;
         if kept.len() < all.len() {
-            let text = release_words(subject, index, &kept)?;
-            changes.push(release_written(subject, index, text.as_str())?)?;
+            let (_, change) = release_of(subject, *index, &kept)?;
+            changes.push(change)?;
         }
     }
     Ok(changes)
@@ -168,37 +160,38 @@ fn out_of_releases(subject: &Subject, task: u32, gone: &[u8]) -> Made<Vec<Replac
 /// only released, to take them out of the release.
 pub(crate) fn mask_help(subject: &Subject, task: u32, about: &[Finding]) -> Made<Help> {
     let alloc = subject.alloc();
+    let span = subject.create_span(task);
     let create = create_words(subject, task, about)?;
-    let findings = about.iter().copied();
-    let unwritten: Vec<Finding> = findings
-        .filter(|finding| !is_written(subject, task, finding))
-        .collect(alloc)?;
-    let Some(first) = unwritten.get(0) else {
-        return written(alloc, subject.create_span(task), create);
+    let entry = Some(entry_of(subject, task));
+    let with = |is_sought: bool| -> Made<Vec<Finding>> {
+        let findings = about.iter().copied();
+        let sought = findings.filter(|finding| {
+            written_from(subject, task, entry, register_in(finding.reg)) == is_sought
+        });
+        sought.collect(alloc)
+    };
+    let unwritten = with(false)?;
+    let Some(first) = unwritten.first() else {
+        return written(alloc, span, create);
     };
     let mut names = Names::of_task(subject, task)?;
-    names.put("create", create)?;
+    names.add("create", create)?;
     let registers = missing(alloc, &unwritten)?;
-    names.put("registers", registers_words(subject, &registers)?)?;
+    names.add("registers", registers_words(subject, &registers)?)?;
     names.add("them", if registers.len() == 1 { "it" } else { "them" })?;
     let mut changes = out_of_releases(subject, task, &registers)?;
-    let is_elsewhere = subject.entries(task).iter().any(|entry| {
-        entry.0 != first.index && releases_any(subject, &unwritten, entry.0)
-    });
-    if is_elsewhere {
+    let entries = subject.entries(task).iter();
+    let mut elsewhere = entries.filter(|entry| entry.0 != first.index);
+    if elsewhere.any(|entry| releases_any(subject, &unwritten, entry.0)) {
         names.add("places", "each release")?;
     } else {
         let line = subject.span(first.index).line;
-        names.put("places", words!(in alloc; "the release on line {line}")?)?;
+        names.add("places", words!(in alloc; "the release on line {line}")?)?;
     }
     if unwritten.len() < about.len() {
-        let findings = about.iter().copied();
-        let rest: Vec<Finding> = findings
-            .filter(|finding| is_written(subject, task, finding))
-            .collect(alloc)?;
-        let text = create_words(subject, task, &rest)?;
-        names.put("more", words!(in alloc; ", and write {text}")?)?;
-        let span = subject.create_span(task);
+        let written = with(true)?;
+        let text = create_words(subject, task, &written)?;
+        names.add("more", words!(in alloc; ", and write {text}")?)?;
         changes.push(Replacement { span, text })?;
     }
     names.help(OUT, changes)

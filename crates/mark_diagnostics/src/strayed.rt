@@ -4,35 +4,19 @@
 use crate::sending::{writes, written_from};
 use crate::warning::is_created;
 use diagnostics::words;
-use diagnostics::words::Words;
-use exit_diagnostics::halting::halts;
+use exit_diagnostics::advice::Names;
 use exit_diagnostics::jump::{is_behind, is_reached};
-use exit_diagnostics::slot::is_slot;
+use exit_diagnostics::meant::{halts, is_slot};
 use exit_diagnostics::stop::entry_of;
 use mark_subjects::parts::registers_where;
 use mark_subjects::subject::{Made, Subject};
 use mips_instructions::instruction::Op;
-use task_descriptor::name::Name;
-
-/// Whether an instruction writes a register, if there is one of this number.
-fn writes_it(subject: &Subject, index: u32, register: u8) -> bool {
-    if register < 34 {
-        writes(subject, index, register)
-    } else {
-        false
-    }
-}
-
-/// Whether an instruction writes some register of these.
-fn writes_any(subject: &Subject, index: u32, registers: &[u8]) -> bool {
-    registers
-        .iter()
-        .any(|register| writes_it(subject, index, *register))
-}
 
 /// Whether no task reaches an instruction, which writes some register of these.
 fn is_strayed(subject: &Subject, index: u32, registers: &[u8]) -> bool {
-    writes_any(subject, index, registers) && !is_reached(subject, index)
+    let mut registers = registers.iter().copied();
+    !is_reached(subject, index)
+        && registers.any(|register| register < 34 && writes(subject, index, register))
 }
 
 /// The instruction that no task reaches and that writes one of some registers, directly before a task, or behind a jump of it
@@ -43,13 +27,9 @@ pub(crate) fn strayed(subject: &Subject, task: u32, registers: &[u8]) -> Option<
     if ahead < entry && is_strayed(subject, ahead, registers) {
         return Some(ahead);
     }
-    for entry in subject.entries(task) {
-        let behind = entry.0.saturating_add(1);
-        if is_slot(subject, behind) && is_strayed(subject, behind, registers) {
-            return Some(behind);
-        }
-    }
-    None
+    let entries = subject.entries(task).iter();
+    let mut behind = entries.map(|entry| entry.0.saturating_add(1));
+    behind.find(|index| is_slot(subject, *index) && is_strayed(subject, *index, registers))
 }
 
 /// Whether an instruction writes a register of a task's create mask that the task does not write.
@@ -60,14 +40,13 @@ fn is_lacked(subject: &Subject, task: u32, index: u32) -> Made<bool> {
             && (is_created(subject, task, register)
                 && !written_from(subject, task, start, register))
     })?;
-    Ok(lacked.len() > 0)
+    Ok(!lacked.is_empty())
 }
 
 /// Whether a task that ends before a place lacks what is written there: it is a delay slot.
 pub(crate) fn slot_is_lacked(subject: &Subject, index: u32) -> Made<bool> {
     let before = index.saturating_sub(1);
-    let program = subject.program();
-    for task in 0..program.tasks().len() as u32 {
+    for task in 0..subject.task_count() {
         if subject.mask(task, before).is_some() && is_lacked(subject, task, index)? {
             return Ok(true);
         }
@@ -78,13 +57,12 @@ pub(crate) fn slot_is_lacked(subject: &Subject, index: u32) -> Made<bool> {
 /// Whether code belongs to the label behind it: it is a release, to which no call comes back, or the task that begins there
 /// lacks what is written.
 fn belongs_to_label(subject: &Subject, index: u32) -> Made<bool> {
-    let is_release = match subject.code().get(index as usize) {
-        Some(marked) => matches!(marked.op, Op::Release(_)) && !is_behind(subject, index),
-        None => false,
-    };
+    if matches!(subject.op(index), Some(Op::Release(_))) && !is_behind(subject, index) {
+        return Ok(true);
+    }
     match subject.task_at(index.saturating_add(1)) {
-        Some(task) if !is_release => is_lacked(subject, task, index),
-        _ => Ok(is_release),
+        Some(task) => is_lacked(subject, task, index),
+        None => Ok(false),
     }
 }
 
@@ -100,7 +78,7 @@ fn is_idle(subject: &Subject, index: u32) -> bool {
 }
 
 /// The label directly behind an instruction that does something and is no halt, if a task reaches what is there.
-fn label_behind(subject: &Subject, index: u32) -> Option<Name> {
+fn label_behind<'a>(subject: &'a Subject, index: u32) -> Option<&'a str> {
     let behind = index.saturating_add(1);
     if halts(subject, index) || is_idle(subject, index) || !is_reached(subject, behind) {
         None
@@ -109,20 +87,24 @@ fn label_behind(subject: &Subject, index: u32) -> Option<Name> {
     }
 }
 
-/// What to do about one instruction that no task reaches, if a label is behind it: the label may be meant before it. First, if
-/// that is seen; and else, which is the second, besides.
-pub(crate) fn label_words(subject: &Subject, index: u32) -> Made<(Words, Words)> {
-    let alloc = subject.alloc();
-    let none = Words::of(alloc, "")?;
+/// Adds what to do about one instruction that no task reaches, if a label is behind it, which may be meant before it: first
+/// of all, as the word `meant`, if that is seen; and else besides, as `moved`. Returns whether that is seen.
+pub(crate) fn name_label(subject: &Subject, index: u32, names: &mut Names) -> Made<bool> {
     let Some(label) = label_behind(subject, index) else {
-        return Ok((none, Words::of(alloc, "")?));
+        return Ok(false);
     };
-    let label = label.as_str();
-    if belongs_to_label(subject, index)? {
-        return Ok((
+    let alloc = subject.alloc();
+    let is_meant = belongs_to_label(subject, index)?;
+    if is_meant {
+        names.add(
+            "meant",
             words!(in alloc; "is the label {label} meant here? if not, ")?,
-            none,
-        ));
+        )?;
+    } else {
+        names.add(
+            "moved",
+            words!(in alloc; "; or move the label {label} here")?,
+        )?;
     }
-    Ok((none, words!(in alloc; "; or move the label {label} here")?))
+    Ok(is_meant)
 }

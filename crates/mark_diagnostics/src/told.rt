@@ -1,6 +1,6 @@
 //! The findings of a program that are reported, and which others are reported together with each.
 
-ghost use Rattle.std.specs.Prelude.{◌≡◌, ◌<◌, ◌-◌, ◌++◌, ◌&&◌, filter, not, take, length, IfOk, OnOk};
+ghost use Rattle.std.specs.Prelude.{◌≡◌, ◌<◌, ◌-◌, ◌++◌, filter, not, take, length, IfOk, OnOk};
 ghost use Rattle.std.specs.List.{find};
 ghost use Rattle.std.specs.Option.{option_copied, option_to_list};
 ghost use Rattle.annotator.specs.Least.{IsLeast};
@@ -32,18 +32,11 @@ fn is_register(register: Option<Reg>, number: u8) -> bool
     }
 }
 
-/// Whether a finding says that a create mask lacks the register of this number.
-fn lacks(finding: &Finding, number: u8) -> bool
-    ensures { result ≡ (is_of_mask finding.now.rule && is_register finding.now.reg number) }
-{
-    is_of_mask(finding.rule) && is_register(finding.reg, number)
-}
-
 /// The first finding that says that a register is missing.
 fn leader(findings: &[Finding], number: u8) -> Option<&Finding>
     ensures { option_copied result ≡ leader findings.now number }
 {
-    findings.iter().find(|finding| lacks(finding, number))
+    findings.iter().find(|finding| is_of_mask(finding.rule) && is_register(finding.reg, number))
 }
 
 /// Adds a finding, if there is one.
@@ -141,9 +134,7 @@ pub(crate) fn about(subject: &Subject, survey: &Survey<'_>, finding: &Finding) -
         let found = check_surveyed(alloc, survey, subject.least(), finding.task)?;
         return leaders(alloc, &found);
     }
-    let mut list = Vec::new(alloc);
-    list.push(*finding)?;
-    Ok(list)
+    Ok(vec![in alloc; *finding]?)
 }
 
 /// The number of a finding's register; 0 where its rule has none.

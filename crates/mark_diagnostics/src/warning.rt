@@ -8,44 +8,41 @@ ghost use Rattle.annotator.specs.Least.{IsLeast};
 ghost use Rattle.exit_diagnostics.specs.Remarks.{of_step, of_targets, of_start, of_task, stop_remarks};
 ghost use Rattle.mark_subjects.specs.Subjects.{targets_of, releases};
 ghost use Rattle.mark_diagnostics.specs.Together.{told_marks};
-ghost use Rattle.mark_diagnostics.specs.Warnings.{code_of, code_of_mark, span_of, span_of_mark, Warns, AreMarkWarnings};
+ghost use Rattle.mark_diagnostics.specs.Warnings.{code_of, span_of, Warns, AreMarkWarnings};
 
 use crate::error::MOST_SHOWN;
 use crate::mask::is_among;
-use crate::release::{release_words, release_written};
-use crate::sending::writes;
-use crate::strayed::{label_words, slot_is_lacked, strayed};
+use crate::sending::{release_of, writes};
+use crate::strayed::{name_label, slot_is_lacked, strayed};
 use crate::together::add_marks;
 use annotated_asm::laws::map_fits;
 use call_returns::returns::{Jump, has_indirect};
 use diagnostics::code::Code;
-use diagnostics::diagnostic::{Diagnostic, Help, Severity, Source, Span};
+use diagnostics::diagnostic::{Diagnostic, Help, Replacement, Severity, Source, Span};
 use diagnostics::listed::Listed;
+use diagnostics::more::add_more;
 use diagnostics::words;
 use diagnostics::words::Words;
-use exit_diagnostics::advice::{Names, Row};
-use exit_diagnostics::call::back;
+use exit_diagnostics::advice::{Advice, Names, Row};
+use exit_diagnostics::call::coming_back;
 use exit_diagnostics::exit::is_taken;
 use exit_diagnostics::going::{Going, going_on};
 use exit_diagnostics::jump::{
     is_behind, jump_warnings, leading_anywhere, leading_nowhere, missing_at, missing_of, name_at,
     targets_without,
 };
+use exit_diagnostics::meant::is_slot;
 use exit_diagnostics::remark::{Remark, StopRemark};
-use exit_diagnostics::returning::{coming_back, step_into};
-use exit_diagnostics::slot::is_slot;
 use exit_diagnostics::stop::{
     entry_of, first_end, first_untaken, has_exit, has_indirect_exit, has_untaken, never_runs,
-    target_at,
+    step_into, target_at,
 };
 use finding_paths::mark::CostlyMark;
 use finding_paths::search::costly_marks;
-use mark_subjects::parts::{
-    add_more, first_of, place_words, places_words, registers_where, registers_words,
-};
+use mark_subjects::parts::{first_of, place_words, places_words, registers_where, registers_words};
 use mark_subjects::put_stop::{bit_put, missing_stop};
 use mark_subjects::step::{end_help, stop_name};
-use mark_subjects::subject::{Made, Subject, has_number, is_end};
+use mark_subjects::subject::{Made, Subject, has_number};
 use mask_certificate::certificate::Cert;
 use std::alloc::{AllocError, Global};
 use task_descriptor::program::Program;
@@ -53,39 +50,28 @@ use task_descriptor::program::Program;
 const NEVER_PRODUCED: Row = Row {
     says: "the create mask of task {task} has {registers}, which no instruction of the task writes or releases",
     help: "write {fix}",
-    fix: "create={kept}",
 };
 
-const STRAYED: &str =
-    "does line {line}, which no task reaches, belong to task {task}? else write create={kept}";
+const STRAYED: Row = Row {
+    help: "does line {line}, which no task reaches, belong to task {task}? else write {create}",
+    ..NEVER_PRODUCED
+};
 
 const NOT_FORWARDED: Row = Row {
     says: "this is a last update without !f: later tasks wait for what it writes",
     help: "add !f here",
-    fix: "",
 };
 
 const SENT_BY_NEXT: Row = Row {
     says: "this is a last update without !f: {registers} is sent only by the release on line {line}",
     help: "add !f here, and take {registers} out of the release on line {line}, if no other way leads to it",
-    fix: "",
 };
 
-const SENT_BEFORE: Row = Row {
-    says: "{registers} {was} sent before on each path to this release",
-    help: "write {kept}",
-    fix: "",
-};
-
-const ALL_SENT_BEFORE: Row = Row {
-    help: "remove it",
-    ..SENT_BEFORE
-};
+const SENT_BEFORE: &str = "{registers} {was} sent before on each path to this release";
 
 const UNREACHED: Row = Row {
     says: "no task reaches the code from here on",
     help: "{meant}{rest}{moved}",
-    fix: "",
 };
 
 const SLOT_UNREACHED: Row = Row {
@@ -96,101 +82,58 @@ const SLOT_UNREACHED: Row = Row {
 const MAY_LEAD_TO: &str =
     "the {jump} on line {from} may lead here: let a task begin at {label}, as a target of task {returns}; or {rest}";
 
-const AFTER_CALL: &str =
-    "let a task begin here, as a target of {coming}: the call on line {line} may come back to it";
+const NEVER_RUNS: &str =
+    "task {task} never runs: no other task has it as a target, and the program starts at {start}";
 
-const ONWARD: &str = "let a task continue to it";
+const TO_LIST: &str =
+    "make it a target of another task; or write .start {task}, in place of another .start";
 
-const ONWARD_OR_OUT: &str = "let a task continue to it, or remove it";
+const STARTS_ELSEWHERE: &str =
+    "write .start {task}, in place of another .start, or make it a target of another task";
 
-const ONWARD_OR_ALL_OUT: &str =
-    "let a task continue to it; or remove it, up to the next instruction that a task reaches, if no label there is used";
+const MAY_LEAD: &str =
+    "the {jump} on line {from} may lead here: list {task} in task {returns}; or make it a target of another task";
 
-const NEVER_RUNS: Row = Row {
-    says: "task {task} never runs: no other task has it as a target, and the program starts at {start}",
-    help: "make it a target of another task; or write .start {task}, in place of another .start",
-    fix: "",
-};
+const RETURNED_TO: &str =
+    "the call on line {line} returns here, by the {jump} on line {from}: task {returns}, which ends there, has to list it: write {fix}";
 
-const STARTS_ELSEWHERE: Row = Row {
-    help: "write .start {task}, in place of another .start, or make it a target of another task",
-    ..NEVER_RUNS
-};
+const JUMPED_TO: &str =
+    "the {jump} on line {from} leads here: task {returns}, which ends there, has to list it: write {fix}";
 
-const MAY_LEAD: Row = Row {
-    help: "the {jump} on line {from} may lead here: list {task} in task {returns}; or make it a target of another task",
-    ..NEVER_RUNS
-};
+const MAY_RETURN: &str =
+    "the call on line {line} may return here: if it does, the task that ends in its jr has to list {task}";
 
-const RETURNED_TO: Row = Row {
-    help: "the call on line {line} returns here, by the {jump} on line {from}: task {returns}, which ends there, has to list it: write {fix}",
-    ..NEVER_RUNS
-};
-
-const JUMPED_TO: Row = Row {
-    help: "the {jump} on line {from} leads here: task {returns}, which ends there, has to list it: write {fix}",
-    ..NEVER_RUNS
-};
-
-const MAY_RETURN: Row = Row {
-    help: "the call on line {line} may return here: if it does, the task that ends in its jr has to list {task}",
-    ..NEVER_RUNS
-};
-
-const LISTS_NONE: Row = Row {
-    help: "task {returns} ends in the {jump} on line {from}, and lists no target: list {task} there, if the jump leads here; or make it a target of another task",
-    ..NEVER_RUNS
-};
+const LISTS_NONE: &str =
+    "task {returns} ends in the {jump} on line {from}, and lists no target: list {task} there, if the jump leads here; or make it a target of another task";
 
 const NO_EXIT: Row = Row {
     says: "task {task} has targets, but never reaches a stop",
     help: "put !s, !st or !sn where it is to end",
-    fix: "",
 };
 
 const NOT_TAKEN: Row = Row {
     says: "no exit of task {task} leads to {places}, so predicting {places} is always wrong",
     help: "is a stop missing? else write {fix}",
-    fix: "targets={targets}",
 };
 
 const GOES_INTO: &str =
     "task {task} continues into task {into} without a stop; was {word} meant here?";
-
-/// What a mark is an instance of.
-fn code_of_mark(mark: &CostlyMark) -> Code
-    ensures { result ≡ code_of_mark mark.now }
-{
-    match mark {
-        CostlyMark::NeverProduced { .. } => Code::NeverProduced,
-        CostlyMark::NotForwarded { .. } => Code::NotForwarded,
-        CostlyMark::SentBefore { .. } => Code::SentBefore,
-        CostlyMark::Unreached { .. } => Code::Unreached,
-    }
-}
 
 /// What a remark is an instance of.
 fn code_of(remark: &Remark) -> Code
     ensures { result ≡ code_of remark.now }
 {
     match remark {
-        Remark::Costly { mark, .. } => code_of_mark(mark),
+        Remark::Costly { mark, .. } => match mark {
+            CostlyMark::NeverProduced { .. } => Code::NeverProduced,
+            CostlyMark::NotForwarded { .. } => Code::NotForwarded,
+            CostlyMark::SentBefore { .. } => Code::SentBefore,
+            CostlyMark::Unreached { .. } => Code::Unreached,
+        },
         Remark::Stop(StopRemark::NeverRuns(_)) => Code::Unreached,
         Remark::Stop(StopRemark::NoExit(_)) => Code::NoExit,
         Remark::Stop(StopRemark::NotTaken(_)) => Code::TargetNotTaken,
         Remark::Stop(StopRemark::GoesInto { .. }) => Code::GoesIntoTask,
-    }
-}
-
-/// Where a mark is.
-fn span_of_mark(subject: &Subject, mark: &CostlyMark) -> Span
-    ensures { result ≡ span_of_mark subject.now mark.now }
-{
-    match mark {
-        CostlyMark::NeverProduced { task, .. } => subject.create_span(*task),
-        CostlyMark::NotForwarded { index }
-        | CostlyMark::SentBefore { index, .. }
-        | CostlyMark::Unreached { index } => subject.span(*index),
     }
 }
 
@@ -199,7 +142,12 @@ fn span_of(subject: &Subject, remark: &Remark) -> Span
     ensures { result ≡ span_of subject.now remark.now }
 {
     match remark {
-        Remark::Costly { mark, .. } => span_of_mark(subject, mark),
+        Remark::Costly { mark, .. } => match mark {
+            CostlyMark::NeverProduced { task, .. } => subject.create_span(*task),
+            CostlyMark::NotForwarded { index }
+            | CostlyMark::SentBefore { index, .. }
+            | CostlyMark::Unreached { index } => subject.span(*index),
+        },
         Remark::Stop(StopRemark::GoesInto { index, .. }) => subject.span(*index),
         Remark::Stop(StopRemark::NeverRuns(task)) => subject.task_span(*task),
         Remark::Stop(StopRemark::NoExit(task)) => subject.targets_span(*task),
@@ -232,43 +180,43 @@ fn is_produced(subject: &Subject, task: u32, gone: &[u8], number: u8) -> bool
 fn produced(subject: &Subject, task: u32, gone: &[u8]) -> Made<Vec<u8>>
     ensures { IfOk result (λ list. list.items ≡ produced subject.now task gone.now) }
 {
-    registers_where(
-        subject.alloc(),
-        |number| is_produced(subject, task, gone, number),
-    )
+    let alloc = subject.alloc();
+    registers_where(alloc, |number| is_produced(subject, task, gone, number))
 }
 
 /// What is said of these registers of a create mask, which are never produced.
-fn mask_advice(subject: &Subject, task: u32, gone: &[u8]) -> Made<(Words, Help)> {
+fn mask_advice(subject: &Subject, task: u32, gone: &[u8]) -> Made<Advice> {
+    let alloc = subject.alloc();
     let kept = produced(subject, task, gone)?;
+    let kept = registers_words(subject, &kept)?;
+    let create = words!(in alloc; "create={kept}")?;
     let mut names = Names::of_task(subject, task)?;
-    names.put("registers", registers_words(subject, gone)?)?;
-    names.put("kept", registers_words(subject, &kept)?)?;
-    if let Some(index) = strayed(subject, task, gone) {
-        names.line("line", subject, index)?;
-        return Ok((names.filled(NEVER_PRODUCED.says)?, names.advice(STRAYED)?));
-    }
-    names.fixed(NEVER_PRODUCED, subject.create_span(task))
+    names.add("registers", registers_words(subject, gone)?)?;
+    let Some(index) = strayed(subject, task, gone) else {
+        return names.fixed(NEVER_PRODUCED, subject.create_span(task), create);
+    };
+    names.add("line", subject.span(index).line)?;
+    names.add("create", create)?;
+    names.said(STRAYED, Vec::new(alloc))
 }
 
 /// What is said of a last update without a forward bit.
-fn update_advice(subject: &Subject, index: u32) -> Made<(Words, Help)> {
+fn update_advice(subject: &Subject, index: u32) -> Made<Advice> {
     let alloc = subject.alloc();
+    let changes = vec![in alloc; bit_put(subject, index)?]?;
     let mut names = Names::new(alloc);
-    let mut changes = Vec::new(alloc);
-    changes.push(bit_put(subject, index)?)?;
     let Some(next) = subject.inner(index, false) else {
         return names.said(NOT_FORWARDED, changes);
     };
     let kept = registers_where(alloc, |register| {
         writes(subject, index, register) && !subject.releases(next, register)
     })?;
-    let [] = kept.as_slice() else {
+    if !kept.is_empty() {
         return names.said(NOT_FORWARDED, changes);
-    };
+    }
     let written = registers_where(alloc, |register| writes(subject, index, register))?;
-    names.put("registers", registers_words(subject, &written)?)?;
-    names.line("line", subject, next)?;
+    names.add("registers", registers_words(subject, &written)?)?;
+    names.add("line", subject.span(next).line)?;
     names.said(SENT_BY_NEXT, changes)
 }
 
@@ -284,151 +232,149 @@ fn is_still_released(subject: &Subject, index: u32, gone: &[u8], number: u8) -> 
 pub(crate) fn still_released(subject: &Subject, index: u32, gone: &[u8]) -> Made<Vec<u8>>
     ensures { IfOk result (λ list. list.items ≡ still_released subject.now index gone.now) }
 {
+    let alloc = subject.alloc();
     registers_where(
-        subject.alloc(),
+        alloc,
         |number| is_still_released(subject, index, gone, number),
     )
 }
 
 /// What is said of these registers of a release, which were sent before it.
-fn release_advice(subject: &Subject, index: u32, gone: &[u8]) -> Made<(Words, Help)> {
+fn release_advice(subject: &Subject, index: u32, gone: &[u8]) -> Made<Advice> {
     let alloc = subject.alloc();
     let kept = still_released(subject, index, gone)?;
-    let kept = release_words(subject, index, &kept)?;
-    let mut changes = Vec::new(alloc);
-    changes.push(release_written(subject, index, kept.as_str())?)?;
-    let row = if kept.as_str().is_empty() {
-        ALL_SENT_BEFORE
-    } else {
-        SENT_BEFORE
-    };
+    let (kept, change) = release_of(subject, index, &kept)?;
+    let is_empty = kept.as_str().is_empty();
     let mut names = Names::new(alloc);
-    names.put("registers", registers_words(subject, gone)?)?;
+    names.add("registers", registers_words(subject, gone)?)?;
     names.add("was", if gone.len() == 1 { "was" } else { "were" })?;
-    names.put("kept", kept)?;
-    names.said(row, changes)
+    names.add("kept", kept)?;
+    let help = if is_empty {
+        "remove it"
+    } else {
+        "write {kept}"
+    };
+    let help = names.help(help, vec![in alloc; change]?)?;
+    Ok((names.filled(SENT_BEFORE)?, help))
+}
+
+/// What to do about code behind a call that may come back to it, with the words that this needs: the changes that let a task
+/// begin there, if it is seen which task comes back.
+fn coming_changes(subject: &Subject, index: u32, names: &mut Names) -> Made<Vec<Replacement>> {
+    let alloc = subject.alloc();
+    let seen = missing_at(subject, index).map(|jump| jump.task);
+    match seen.or(coming_back(subject, index.saturating_sub(1))) {
+        Some(task) => {
+            let name = subject.task(task);
+            names.add("coming", words!(in alloc; "task {name}")?)?;
+        }
+        None => names.add("coming", "the task that comes back")?,
+    }
+    if let Some(task) = seen {
+        if let Some(Going { changes, .. }) = going_on(subject, task, &[index])? {
+            return Ok(changes);
+        }
+    }
+    Ok(Vec::new(alloc))
 }
 
 /// What is said of code that no task reaches: a call before it may come back to it, and one instruction may be meant as
 /// a delay slot. What would be removed may be counted by a place that is given as @n.
-fn unreached_advice(subject: &Subject, index: u32) -> Made<(Words, Help)> {
+fn unreached_advice(subject: &Subject, index: u32) -> Made<Advice> {
     let alloc = subject.alloc();
     let mut names = Names::new(alloc);
-    let before = index.saturating_sub(1);
     let is_alone = is_slot(subject, index);
-    names.line("line", subject, before)?;
+    names.add("line", subject.span(index.saturating_sub(1)).line)?;
     let mut changes = Vec::new(alloc);
-    let rest = if is_end(back(subject, before), index) {
-        let seen = missing_at(subject, index).map(|jump| jump.task);
-        if let Some(task) = seen {
-            if let Some(going) = going_on(subject, task, &[index])? {
-                changes = going.into_changes();
-            }
-        }
-        let coming = seen.or(coming_back(subject, before));
-        names.put("coming", coming_words(subject, coming)?)?;
-        AFTER_CALL
+    let rest = if is_behind(subject, index) {
+        changes = coming_changes(subject, index, &mut names)?;
+        "let a task begin here, as a target of {coming}: the call on line {line} may come back to it"
     } else if !subject.names_no_index() {
-        ONWARD
+        "let a task continue to it"
     } else if is_alone {
-        ONWARD_OR_OUT
+        "let a task continue to it, or remove it"
     } else {
-        ONWARD_OR_ALL_OUT
+        "let a task continue to it; or remove it, up to the next instruction that a task reaches, if no label there is used"
     };
     let rest = names.filled(rest)?;
-    names.put("rest", led_or(subject, index, rest)?)?;
-    if is_alone && slot_is_lacked(subject, index)? {
-        return names.said(SLOT_UNREACHED, Vec::new(alloc));
-    }
-    let row = if is_alone { SLOT_UNREACHED } else { UNREACHED };
-    let (meant, moved) = label_words(subject, index)?;
-    if !meant.as_str().is_empty() {
+    names.add("rest", led_or(subject, index, rest)?)?;
+    let is_lacked = is_alone && slot_is_lacked(subject, index)?;
+    if is_lacked || name_label(subject, index, &mut names)? {
         changes = Vec::new(alloc);
     }
-    names.put("meant", meant)?;
-    names.put("moved", moved)?;
-    names.said(row, changes)
+    names.said(if is_alone { SLOT_UNREACHED } else { UNREACHED }, changes)
 }
 
-/// The task that comes back, in words, if it is known.
-fn coming_words(subject: &Subject, task: Option<u32>) -> Made<Words> {
-    let alloc = subject.alloc();
-    match task {
-        Some(task) => {
-            let name = subject.task(task);
-            words!(in alloc; "task {name}")
-        }
-        None => Words::of(alloc, "the task that comes back"),
-    }
+/// Adds the words of a jump by which a task leaves.
+fn name_jump(subject: &Subject, names: &mut Names, jump: &Jump) -> Made<()> {
+    names.add("returns", subject.task(jump.task))?;
+    names.add("jump", name_at(subject, jump.index))?;
+    names.add("from", subject.span(jump.index).line)
 }
 
 /// What to do about code with a label that no task reaches: first about a jump that may lead to it, which is no return.
 fn led_or(subject: &Subject, index: u32, rest: Words) -> Made<Words> {
-    if is_behind(subject, index) {
-        return Ok(rest);
+    match (subject.label(index), leading_anywhere(subject)) {
+        (Some(label), Some(jump)) if !is_behind(subject, index) => {
+            let mut names = Names::new(subject.alloc());
+            name_jump(subject, &mut names, jump)?;
+            names.add("label", label)?;
+            names.add("rest", rest)?;
+            names.filled(MAY_LEAD_TO)
+        }
+        _ => Ok(rest),
     }
-    let Some(label) = subject.label(index) else {
-        return Ok(rest);
-    };
-    let Some(jump) = leading_anywhere(subject) else {
-        return Ok(rest);
-    };
-    let mut names = Names::new(subject.alloc());
-    name_jump(subject, &mut names, jump)?;
-    names.add("label", label.as_str())?;
-    names.put("rest", rest)?;
-    names.filled(MAY_LEAD_TO)
 }
 
-/// What is said of a task that never runs: first of one that goes on into it without a stop, or returns to it.
-fn never_running(subject: &Subject, task: u32) -> Made<(Words, Help)> {
-    let alloc = subject.alloc();
-    let mut names = Names::of_task(subject, task)?;
-    names.put(
-        "start",
-        place_words(subject, subject.program().start().get())?,
-    )?;
+/// What to do about a task that never runs, to which a jump leads whose task does not list it: behind a call, which returns,
+/// or not.
+fn jumped_help(subject: &Subject, jump: &Jump, entry: u32, names: &mut Names) -> Made<Help> {
+    let missing = missing_of(subject, jump.task)?;
+    let Some(Going { targets, changes }) = going_on(subject, jump.task, &missing)? else {
+        return names.advice(MAY_RETURN);
+    };
+    name_jump(subject, names, jump)?;
+    names.add("fix", targets)?;
+    let is_returned = is_behind(subject, entry);
+    names.help(if is_returned { RETURNED_TO } else { JUMPED_TO }, changes)
+}
+
+/// What to do about a task that never runs: first at one that goes on into it without a stop, or returns to it. Where it is
+/// not seen what leads to it, the first of the text may be the program's start; to another a jump may lead, which is no
+/// return; and the start may not be said.
+fn running_help(subject: &Subject, task: u32, names: &mut Names) -> Made<Help> {
     if let Some((other, index)) = step_into(subject, task)? {
-        return Ok((
-            names.filled(NEVER_RUNS.says)?,
-            end_help(subject, other, index, task)?,
-        ));
+        return end_help(subject, other, index, task);
     }
     let entry = entry_of(subject, task);
-    let call = entry.saturating_sub(1);
-    let is_returned = is_behind(subject, entry);
-    names.line("line", subject, call)?;
+    names.add("line", subject.span(entry.saturating_sub(1)).line)?;
     if let Some(jump) = missing_at(subject, entry) {
-        name_jump(subject, &mut names, jump)?;
-        return jumped_to(subject, names, jump, is_returned);
+        return jumped_help(subject, jump, entry, names);
     }
-    if is_returned {
-        return names.said(MAY_RETURN, Vec::new(alloc));
+    if is_behind(subject, entry) {
+        return names.advice(MAY_RETURN);
     }
     if let Some(jump) = leading_nowhere(subject) {
-        name_jump(subject, &mut names, jump)?;
-        return names.said(LISTS_NONE, Vec::new(alloc));
+        name_jump(subject, names, jump)?;
+        return names.advice(LISTS_NONE);
     }
-    never_led(subject, names, entry)
+    match leading_anywhere(subject) {
+        Some(jump) if entry != 0 => {
+            name_jump(subject, names, jump)?;
+            names.advice(MAY_LEAD)
+        }
+        None if entry != 0 && says_start(subject) => names.advice(TO_LIST),
+        _ => names.advice(STARTS_ELSEWHERE),
+    }
 }
 
-/// What is said of a task that never runs, where it is not seen what leads to it: the first of the text may be the program's
-/// start; to another a jump may lead, which is no return; and the start may not be said.
-fn never_led(subject: &Subject, mut names: Names, entry: u32) -> Made<(Words, Help)> {
-    let alloc = subject.alloc();
-    if entry == 0 {
-        return names.said(STARTS_ELSEWHERE, Vec::new(alloc));
-    }
-    if let Some(jump) = leading_anywhere(subject) {
-        name_jump(subject, &mut names, jump)?;
-        return names.said(MAY_LEAD, Vec::new(alloc));
-    }
-    let row = if says_start(subject) {
-        NEVER_RUNS
-    } else {
-        STARTS_ELSEWHERE
-    };
-    names.said(row, Vec::new(alloc))
+/// What is said of a task that never runs.
+fn never_running(subject: &Subject, task: u32) -> Made<Advice> {
+    let mut names = Names::of_task(subject, task)?;
+    let start = subject.program().start().get();
+    names.add("start", place_words(subject, start)?)?;
+    let help = running_help(subject, task, &mut names)?;
+    Ok((names.filled(NEVER_RUNS)?, help))
 }
 
 /// Whether the text says where the program starts.
@@ -438,30 +384,6 @@ fn says_start(subject: &Subject) -> bool {
     })
 }
 
-/// Adds the words of a jump by which a task leaves.
-fn name_jump(subject: &Subject, names: &mut Names, jump: &Jump) -> Made<()> {
-    names.add("returns", subject.task(jump.task))?;
-    names.add("jump", name_at(subject, jump.index))?;
-    names.line("from", subject, jump.index)
-}
-
-/// What is said of a task that never runs, to which a jump leads whose task does not list it: behind a call, which
-/// returns, or not.
-fn jumped_to(
-    subject: &Subject,
-    mut names: Names,
-    jump: &Jump,
-    is_returned: bool,
-) -> Made<(Words, Help)> {
-    let row = if is_returned { RETURNED_TO } else { JUMPED_TO };
-    let missing = missing_of(subject, jump.task)?;
-    let Some(Going { targets, changes }) = going_on(subject, jump.task, &missing)? else {
-        return names.said(MAY_RETURN, Vec::new(subject.alloc()));
-    };
-    names.put("fix", targets)?;
-    names.said(row, changes)
-}
-
 /// Where a task goes on into a target, and may end before it: the first instruction that does so, and the target.
 fn step_out(subject: &Subject, task: u32) -> Option<(u32, u32)> {
     let index = first_end(subject, task)?;
@@ -469,69 +391,60 @@ fn step_out(subject: &Subject, task: u32) -> Option<(u32, u32)> {
 }
 
 /// What is said of targets that no exit takes: first of a stop before one of them.
-fn targets_advice(subject: &Subject, task: u32) -> Made<(Words, Help)> {
-    let is_untaken = |place: u32| !is_taken(subject, task, place);
+fn targets_advice(subject: &Subject, task: u32) -> Made<Advice> {
     let places = subject.targets(task).iter().map(|target| target.get());
     let untaken: Vec<u32> = places
-        .filter(|place| is_untaken(*place))
+        .filter(|place| !is_taken(subject, task, *place))
         .collect(subject.alloc())?;
-    if let Some((index, into)) = step_out(subject, task) {
-        if is_untaken(entry_of(subject, into)) {
+    match step_out(subject, task) {
+        Some((index, into)) if untaken.contains(&entry_of(subject, into)) => {
             let mut names = Names::of_task(subject, task)?;
-            names.put("places", places_words(subject, &untaken)?)?;
-            return Ok((
-                names.filled(NOT_TAKEN.says)?,
-                end_help(subject, task, index, into)?,
-            ));
+            names.add("places", places_words(subject, &untaken)?)?;
+            let help = end_help(subject, task, index, into)?;
+            Ok((names.filled(NOT_TAKEN.says)?, help))
         }
-    }
-    targets_without(subject, task, NOT_TAKEN, &untaken)
-}
-
-/// What is said of a mark that costs speed, with the registers of all that it stands for, and what to do.
-fn mark_advice(subject: &Subject, mark: &CostlyMark, registers: &[u8]) -> Made<(Words, Help)> {
-    match mark {
-        CostlyMark::NeverProduced { task, .. } => mask_advice(subject, *task, registers),
-        CostlyMark::NotForwarded { index } => update_advice(subject, *index),
-        CostlyMark::SentBefore { index, .. } => release_advice(subject, *index, registers),
-        CostlyMark::Unreached { index } => unreached_advice(subject, *index),
+        _ => targets_without(subject, task, NOT_TAKEN, &untaken),
     }
 }
 
-/// What is said of a stop, or a way to a task, that may be forgotten, and what to do.
-fn stop_advice(subject: &Subject, remark: &StopRemark) -> Made<(Words, Help)> {
+/// What is said of a task with targets that never reaches a stop.
+fn exit_advice(subject: &Subject, task: u32) -> Made<Advice> {
+    let names = Names::of_task(subject, task)?;
+    let help = match step_out(subject, task) {
+        Some((index, into)) => end_help(subject, task, index, into)?,
+        None => names.advice(NO_EXIT.help)?,
+    };
+    Ok((names.filled(NO_EXIT.says)?, help))
+}
+
+/// What is said of an instruction that goes on into a target without a stop.
+fn step_advice(subject: &Subject, task: u32, index: u32, into: u32) -> Made<Advice> {
+    let mut names = Names::of_task(subject, task)?;
+    names.add("into", subject.task(into))?;
+    names.add("word", stop_name(missing_stop(subject, index)))?;
+    let help = end_help(subject, task, index, into)?;
+    Ok((names.filled(GOES_INTO)?, help))
+}
+
+/// What is said of a remark, and what to do: of a mark that costs speed with the registers of all that it stands for.
+fn advice(subject: &Subject, remark: &Remark) -> Made<Advice> {
     match remark {
-        StopRemark::NeverRuns(task) => never_running(subject, *task),
-        StopRemark::NotTaken(task) => targets_advice(subject, *task),
-        StopRemark::NoExit(task) => {
-            let names = Names::of_task(subject, *task)?;
-            match step_out(subject, *task) {
-                Some((index, into)) => {
-                    Ok((
-                        names.filled(NO_EXIT.says)?,
-                        end_help(subject, *task, index, into)?,
-                    ))
-                }
-                None => names.said(NO_EXIT, Vec::new(subject.alloc())),
+        Remark::Costly { mark, registers } => match mark {
+            CostlyMark::NeverProduced { task, .. } => {
+                mask_advice(subject, *task, registers.as_slice())
             }
+            CostlyMark::NotForwarded { index } => update_advice(subject, *index),
+            CostlyMark::SentBefore { index, .. } => {
+                release_advice(subject, *index, registers.as_slice())
+            }
+            CostlyMark::Unreached { index } => unreached_advice(subject, *index),
+        },
+        Remark::Stop(StopRemark::NeverRuns(task)) => never_running(subject, *task),
+        Remark::Stop(StopRemark::NotTaken(task)) => targets_advice(subject, *task),
+        Remark::Stop(StopRemark::NoExit(task)) => exit_advice(subject, *task),
+        Remark::Stop(StopRemark::GoesInto { task, index, into }) => {
+            step_advice(subject, *task, *index, *into)
         }
-        StopRemark::GoesInto { task, index, into } => {
-            let mut names = Names::of_task(subject, *task)?;
-            names.add("into", subject.task(*into))?;
-            names.add("word", stop_name(missing_stop(subject, *index)))?;
-            Ok((
-                names.filled(GOES_INTO)?,
-                end_help(subject, *task, *index, *into)?,
-            ))
-        }
-    }
-}
-
-/// What is said of a remark, and what to do.
-fn advice(subject: &Subject, remark: &Remark) -> Made<(Words, Help)> {
-    match remark {
-        Remark::Costly { mark, registers } => mark_advice(subject, mark, registers.as_slice()),
-        Remark::Stop(remark) => stop_advice(subject, remark),
     }
 }
 
@@ -690,6 +603,13 @@ pub fn mark_warnings(
     let mut said = joined(warned, jumps)?;
     let count = remarks.len();
     let more = count.saturating_sub(MOST_SHOWN);
-    add_more(alloc, &mut said, more, "warning", "warnings")?;
+    add_more(
+        alloc,
+        &mut said,
+        Source::Program,
+        more,
+        "warning",
+        "warnings",
+    )?;
     Ok(said)
 }

@@ -2,4 +2,3 @@ pub mod Subjects
 pub mod Parts
 pub mod Targets
 pub mod Steps
-pub mod More

@@ -5,11 +5,10 @@
 //! columns count from 1, columns in bytes. Each `Made` has `AllocError` where memory was refused.
 #![tactic(auto)]
 
-pub mod label;
 pub mod mark_place;
 pub mod parts;
 pub mod put_stop;
-pub mod spelling;
+mod spelling;
 pub mod step;
 pub mod subject;
 pub mod targets;

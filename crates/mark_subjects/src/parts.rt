@@ -3,37 +3,21 @@
 ghost use Rattle.std.specs.Prelude.{◌≡◌, ◌∷◌, [], IfOk, ℕ, Bool, ◌<◌, ◌++◌, if◌then◌else◌, take, drop, OnOk};
 ghost use Rattle.mark_subjects.specs.Subjects.{which};
 ghost use Rattle.mark_subjects.specs.Parts.{is_second, step_in, steps_after, steps_of, paths, first_or, way_paths};
-ghost use Rattle.mark_subjects.specs.More.{more_message, more_note};
 
 use crate::subject::{Made, Subject};
-use diagnostics::code::Code;
-use diagnostics::diagnostic::{Diagnostic, Help, Note, Replacement, Severity, Source, Span};
+use diagnostics::diagnostic::{Help, Note, Replacement, Span};
+use diagnostics::helps::by_text;
 use diagnostics::listed::Listed;
 use diagnostics::words;
 use diagnostics::words::Words;
 use std::alloc::Global;
 
-/// A help with a message alone.
-pub fn in_words(alloc: Global, message: Words) -> Help {
-    let replacements = Listed::new(Vec::new(alloc));
+/// A help with a message, and these changes.
+pub fn help(message: Words, changes: Vec<Replacement>) -> Help {
     Help {
         message,
-        replacements,
+        replacements: Listed::new(changes),
     }
-}
-
-/// A help that writes `text` in place of one part of the program text.
-///
-/// # Errors
-///
-/// `AllocError` where memory was refused.
-pub fn by_text(alloc: Global, message: Words, span: Span, text: Words) -> Made<Help> {
-    let mut replacements = Vec::new(alloc);
-    replacements.push(Replacement { span, text })?;
-    Ok(Help {
-        message,
-        replacements: Listed::new(replacements),
-    })
 }
 
 /// A help that writes `text` at `span`, and says so: `write TEXT`.
@@ -44,20 +28,6 @@ pub fn by_text(alloc: Global, message: Words, span: Span, text: Words) -> Made<H
 pub fn written(alloc: Global, span: Span, text: Words) -> Made<Help> {
     let message = words!(in alloc; "write {text}")?;
     by_text(alloc, message, span, text)
-}
-
-/// The replacement that removes a part of the program text; none where there is no such part.
-///
-/// # Errors
-///
-/// `AllocError` where memory was refused.
-pub fn take_out(alloc: Global, span: Option<Span>) -> Made<Vec<Replacement>> {
-    let mut list = Vec::new(alloc);
-    if let Some(span) = span {
-        let text = Words::new(String::new(alloc));
-        list.push(Replacement { span, text })?;
-    }
-    Ok(list)
 }
 
 /// A note at an instruction, without a path.
@@ -143,10 +113,7 @@ fn first_or(index: u32, path: &[u32]) -> u32
 
 /// The last index of a path; `index` where the path is empty.
 pub fn last_or(index: u32, path: &[u32]) -> u32 {
-    match path.get(path.len().saturating_sub(1)) {
-        Some(last) => *last,
-        None => index,
-    }
+    path.last().copied().unwrap_or(index)
 }
 
 /// The note that shows the path to `index`; none where the path begins there or is empty.
@@ -196,34 +163,30 @@ fn add_if(list: &mut Vec<u8>, register: u8, belongs: bool) -> Made<()>
     Ok(())
 }
 
+/// Some words with commas between; `-` where there are none.
+///
+/// # Errors
+///
+/// `AllocError` where memory was refused.
+pub fn with_commas(alloc: Global, list: &[Words]) -> Made<Words> {
+    let list: Vec<&str> = list.iter().map(|words| words.as_str()).collect(alloc)?;
+    if list.is_empty() {
+        return Words::of(alloc, "-");
+    }
+    Ok(Words::new(list.join(alloc, ",")?))
+}
+
 /// A list of registers as the text writes them, with commas; `-` where there are none.
 ///
 /// # Errors
 ///
 /// `AllocError` where memory was refused.
 pub fn registers_words(subject: &Subject, registers: &[u8]) -> Made<Words> {
-    let [first, rest @ ..] = registers else {
-        return Words::of(subject.alloc(), "-");
-    };
-    let mut text = String::new(subject.alloc());
-    text.push_str(subject.register(*first))?;
-    for register in rest {
-        let name = subject.register(*register);
-        write!(text, ",{name}")?;
-    }
-    Ok(Words::new(text))
-}
-
-/// The words for an instruction: its label, or else `@` and its index.
-///
-/// # Errors
-///
-/// `AllocError` where memory was refused.
-pub fn spot_words(subject: &Subject, index: u32) -> Made<Words> {
-    match subject.label(index) {
-        Some(label) => Words::of(subject.alloc(), label.as_str()),
-        None => words!(in subject.alloc(); "@{index}"),
-    }
+    let alloc = subject.alloc();
+    let numbers = registers.iter();
+    let names = numbers.map(|number| Words::of(alloc, subject.register(*number)));
+    let names: Vec<Words> = names.try_collect(alloc)?;
+    with_commas(alloc, &names)
 }
 
 /// The words for a place: the name of the task that begins there, or else its label, or else its line. The place after the
@@ -234,21 +197,13 @@ pub fn spot_words(subject: &Subject, index: u32) -> Made<Words> {
 /// `AllocError` where memory was refused.
 pub fn place_words(subject: &Subject, index: u32) -> Made<Words> {
     let alloc = subject.alloc();
-    if let Some(task) = subject.task_at(index) {
-        return Words::of(alloc, subject.task(task));
-    }
-    if let Some(label) = subject.label(index) {
-        return Words::of(alloc, label.as_str());
-    }
     let end = subject.code().len();
-    if (index as usize) < end {
-        let line = subject.span(index).line;
-        return words!(in alloc; "line {line}");
+    match subject.name(index) {
+        Some(name) => Words::of(alloc, name),
+        None if (index as usize) < end => words!(in alloc; "line {}", subject.span(index).line),
+        None if index as usize == end => Words::of(alloc, "the end of the program"),
+        None => words!(in alloc; "@{index}"),
     }
-    if index as usize == end {
-        return Words::of(alloc, "the end of the program");
-    }
-    words!(in alloc; "@{index}")
 }
 
 /// A list of places in words, with commas; `-` where there are none.
@@ -257,17 +212,9 @@ pub fn place_words(subject: &Subject, index: u32) -> Made<Words> {
 ///
 /// `AllocError` where memory was refused.
 pub fn places_words(subject: &Subject, places: &[u32]) -> Made<Words> {
-    let [first, rest @ ..] = places else {
-        return Words::of(subject.alloc(), "-");
-    };
-    let place = place_words(subject, *first)?;
-    let mut text = String::new(subject.alloc());
-    text.push_str(place.as_str())?;
-    for index in rest {
-        let place = place_words(subject, *index)?;
-        write!(text, ",{place}")?;
-    }
-    Ok(Words::new(text))
+    let names = places.iter().map(|index| place_words(subject, *index));
+    let names: Vec<Words> = names.try_collect(subject.alloc())?;
+    with_commas(subject.alloc(), &names)
 }
 
 /// The list of targets of a `.task` with these places: `targets=` and the places in words.
@@ -278,46 +225,6 @@ pub fn places_words(subject: &Subject, places: &[u32]) -> Made<Words> {
 pub fn targets_words(subject: &Subject, places: &[u32]) -> Made<Words> {
     let places = places_words(subject, places)?;
     words!(in subject.alloc(); "targets={places}")
-}
-
-/// How many more there are.
-fn more_message(alloc: Global, more: usize, one: &str, many: &str) -> Made<Words>
-    ensures { IfOk result (λ words. words ≡ more_message more one.now many.now) }
-{
-    if more == 1 {
-        words!(in alloc; "1 more {one}")
-    } else {
-        words!(in alloc; "{more} more {many}")
-    }
-}
-
-/// Adds a note about the program that says how many more things there are, such as `3 more errors`; nothing if `more` is 0.
-/// `one` and `many` are the noun in the singular and in the plural.
-///
-/// # Errors
-///
-/// `AllocError` where memory was refused; what `list` then has is not stated.
-pub fn add_more(
-    alloc: Global,
-    list: &mut Vec<Diagnostic>,
-    more: usize,
-    one: &str,
-    many: &str,
-) -> Made<()>
-    ensures { OnOk result (list.new.items ≡ list.old.items ++ more_note more one.now many.now) }
-{
-    if more > 0 {
-        list.push(Diagnostic {
-            severity: Severity::Note,
-            code: Code::More,
-            source: Source::Program,
-            span: None,
-            message: more_message(alloc, more, one, many)?,
-            notes: Listed::new(Vec::new(alloc)),
-            help: None,
-        })?;
-    }
-    Ok(())
 }
 
 /// The first `most` items of a list, or all if there are fewer.

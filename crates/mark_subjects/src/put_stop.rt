@@ -3,10 +3,9 @@
 ghost use Rattle.std.specs.Prelude.{◌≡◌};
 ghost use Rattle.mark_subjects.specs.Targets.{into, stop_by, missing_stop};
 
-use crate::mark_place::{mark_span, stop_mark};
-use crate::parts::take_out;
-use crate::subject::{Made, Subject, after, column_after};
-use diagnostics::diagnostic::{Replacement, Span};
+use crate::mark_place::{bytes_of, mark_in, part};
+use crate::subject::{Made, Subject};
+use diagnostics::diagnostic::Replacement;
 use diagnostics::words;
 use diagnostics::words::Words;
 use task_descriptor::descriptor::Stop;
@@ -26,36 +25,40 @@ fn stop_width(stop: Stop) -> usize {
 /// `AllocError` where memory was refused.
 pub fn stop_put(subject: &Subject, index: u32, word: &str) -> Made<Replacement> {
     let stop = subject.stop(index);
-    let span = subject.span(index);
+    let place = subject.span(index);
     let blank = if let Stop::None = stop { " " } else { "" };
-    let place = match (stop, stop_mark(subject.rows(), span)) {
-        (Stop::None, _) | (_, None) => after(span),
-        (_, Some(before)) => Span {
-            line: span.line,
-            column: column_after(span.column, before),
-            width: stop_width(stop),
-        },
+    let span = match (stop, mark_in(subject, index, b's')) {
+        (Stop::None, _) | (_, None) => part(place, place.width, 0),
+        (_, Some(before)) => part(place, before, stop_width(stop)),
     };
-    Ok(Replacement {
-        span: place,
-        text: words!(in subject.alloc(); "{blank}{word}")?,
-    })
+    let text = words!(in subject.alloc(); "{blank}{word}")?;
+    Ok(Replacement { span, text })
 }
 
-/// The replacement that removes the stop of an instruction, with the blank before it; none if it has no stop.
+/// The replacement that removes the stop of an instruction, or its forward bit, with the blank before it; none if it has none.
+/// `letter` is the first of the mark, `s` or `f`.
 ///
 /// # Errors
 ///
 /// `AllocError` where memory was refused.
-pub fn stop_out(subject: &Subject, index: u32) -> Made<Vec<Replacement>> {
-    let more = stop_width(subject.stop(index)).saturating_sub(2);
-    let mark = mark_span(b's', subject.rows(), subject.span(index));
-    let whole = mark.map(|span| Span {
-        line: span.line,
-        column: span.column,
-        width: column_after(span.width, more),
-    });
-    take_out(subject.alloc(), whole)
+pub fn mark_out(subject: &Subject, index: u32, letter: u8) -> Made<Vec<Replacement>> {
+    let mut changes = Vec::new(subject.alloc());
+    let Some(before) = mark_in(subject, index, letter) else {
+        return Ok(changes);
+    };
+    let width = if letter == b's' {
+        stop_width(subject.stop(index))
+    } else {
+        2
+    };
+    let ahead = before.saturating_sub(1);
+    let span = match bytes_of(subject, index).get(ahead) {
+        Some(b' ' | b'\t') => part(subject.span(index), ahead, width.saturating_add(1)),
+        _ => part(subject.span(index), before, width),
+    };
+    let text = Words::of(subject.alloc(), "")?;
+    changes.push(Replacement { span, text })?;
+    Ok(changes)
 }
 
 /// The replacement that writes a forward bit before the stop of an instruction, or after an instruction without one.
@@ -64,20 +67,13 @@ pub fn stop_out(subject: &Subject, index: u32) -> Made<Vec<Replacement>> {
 ///
 /// `AllocError` where memory was refused.
 pub fn bit_put(subject: &Subject, index: u32) -> Made<Replacement> {
-    let span = subject.span(index);
-    let (place, text) = match stop_mark(subject.rows(), span) {
-        Some(before) => {
-            let place = Span {
-                line: span.line,
-                column: column_after(span.column, before),
-                width: 0,
-            };
-            (place, "!f ")
-        }
-        None => (after(span), " !f"),
+    let place = subject.span(index);
+    let (before, text) = match mark_in(subject, index, b's') {
+        Some(before) => (before, "!f "),
+        None => (place.width, " !f"),
     };
     Ok(Replacement {
-        span: place,
+        span: part(place, before, 0),
         text: Words::of(subject.alloc(), text)?,
     })
 }

@@ -1,7 +1,9 @@
-//! How the text of a program writes its registers.
+//! How the text of a program writes its registers, and the labels by which messages name instructions.
 
+use crate::mark_place::line_in;
 use crate::parts::{first_of, rest_after};
 use crate::subject::Made;
+use annotated_asm::position::Position;
 use diagnostics::words;
 use diagnostics::words::Words;
 use mips_instructions::number::Reg;
@@ -9,14 +11,13 @@ use program_tokens::line::line_tokens;
 use program_tokens::span::read_spans;
 use program_tokens::token::{Token, TokenFault};
 use std::alloc::{AllocError, Global};
+use task_descriptor::name::Name;
 
-/// A register of the text, with how it is written there.
+/// A register of the text, with how it is written there, such as `$8` or `$t0`.
 #[derive(Drop)]
-pub struct RegisterSpelling {
-    /// The register.
-    pub register: Reg,
-    /// How it is written, such as `$8` or `$t0`.
-    pub word: Words,
+struct RegisterSpelling {
+    register: Reg,
+    word: Words,
 }
 
 /// Adds the registers of a line that are not there yet; of one that has a fault none.
@@ -59,38 +60,66 @@ fn has_known(list: &[RegisterSpelling], line: &[u8]) -> bool {
         || begins_known(list, rest_after(line, place)))
 }
 
-/// A register by its number; HI and LO by their names.
-fn numbered(alloc: Global, number: u8) -> Made<Words> {
-    match number {
-        32 => Words::of(alloc, "$hi"),
-        33 => Words::of(alloc, "$lo"),
-        _ => words!(in alloc; "${number}"),
-    }
-}
-
 /// The names of all registers, register 0 first: each as the text first writes it; where it does not, by its number, HI and
 /// LO as `$hi` and `$lo`.
-///
-/// # Errors
-///
-/// `AllocError` where memory was refused.
-pub fn names_in(alloc: Global, rows: &[&[u8]]) -> Made<Vec<Words>> {
+pub(crate) fn names_in(alloc: Global, rows: &[&[u8]]) -> Made<Vec<Words>> {
     let mut spelled = Vec::new(alloc);
     for row in rows {
         if !has_known(&spelled, *row) {
             add_line(alloc, &mut spelled, *row)?;
         }
     }
-    let mut names = Vec::new(alloc);
-    for number in 0..34u8 {
-        let first = spelled
-            .iter()
-            .find(|spelling| spelling.register.get() == number);
-        let name = match first {
-            Some(first) => Words::of(alloc, first.word.as_str())?,
-            None => numbered(alloc, number)?,
-        };
-        names.push(name)?;
+    let names = (0..34u8).map(|number| {
+        let mut spelled = spelled.iter();
+        let first = spelled.find(|spelling| spelling.register.get() == number);
+        match (first, number) {
+            (Some(first), _) => Words::of(alloc, first.word.as_str()),
+            (None, 32) => Words::of(alloc, "$hi"),
+            (None, 33) => Words::of(alloc, "$lo"),
+            (None, _) => words!(in alloc; "${number}"),
+        }
+    });
+    names.try_collect(alloc)
+}
+
+/// The label at the front of the line of this number, or one that is all of it; a line that has a fault has none. Only a
+/// line with a colon can have one.
+fn label_in(alloc: Global, rows: &[&[u8]], number: u32, alone: bool) -> Made<Option<Name>> {
+    let line = line_in(rows, number);
+    if !line.contains(&b':') {
+        return Ok(None);
     }
-    Ok(names)
+    let tokens = match line_tokens(alloc, line) {
+        Ok(tokens) => tokens,
+        Err(TokenFault::OutOfMemory) => return Err(AllocError),
+        Err(_) => return Ok(None),
+    };
+    match tokens.as_slice() {
+        [Token::Name(name), Token::Colon] => Ok(Some(*name)),
+        [Token::Name(name), Token::Colon, ..] if !alone => Ok(Some(*name)),
+        _ => Ok(None),
+    }
+}
+
+/// The labels of the instructions at these positions of a text, in order: of each its line's label, or else the label that
+/// is alone on the line above. Only the first of the instructions of a line has one.
+pub(crate) fn labels_of(
+    alloc: Global,
+    rows: &[&[u8]],
+    code: &[Position],
+) -> Made<Vec<Option<Name>>> {
+    let mut labels = Vec::new(alloc);
+    let mut before = 0;
+    for at in code {
+        let mut label = None;
+        if at.line != before {
+            label = label_in(alloc, rows, at.line, false)?;
+            if label.is_none() {
+                label = label_in(alloc, rows, at.line.saturating_sub(1), true)?;
+            }
+        }
+        labels.push(label)?;
+        before = at.line;
+    }
+    Ok(labels)
 }

@@ -4,12 +4,11 @@ ghost use Rattle.std.specs.Prelude.{◌≡◌, [], slice_get, IfOk};
 ghost use Rattle.mark_subjects.specs.Parts.{paths};
 ghost use Rattle.mark_subjects.specs.Steps.{first_task, entered, path_in, first_entered, is_end_first};
 
-use crate::parts::{note_at, targets_words};
-use crate::put_stop::{missing_stop, stop_put};
+use crate::parts::{help, note_at, targets_words};
+use crate::put_stop::{into, missing_stop, stop_put};
 use crate::subject::{Made, Subject};
 use crate::targets::{is_target, may_stop, new_targets, targets_with};
 use diagnostics::diagnostic::{Help, Note, Replacement};
-use diagnostics::listed::Listed;
 use diagnostics::words;
 use diagnostics::words::Words;
 use finding_paths::shown::ShownFinding;
@@ -27,7 +26,7 @@ fn first_task(subject: &Subject, path: &[u32]) -> Option<u32>
 
 /// The first step of a path into a task's entry: the instruction that it leaves, and the number of the task.
 #[tactic(auto, using(crate::proofs::PathSteps::step_found))]
-pub fn entered(subject: &Subject, path: &[u32]) -> Option<(u32, u32)>
+fn entered(subject: &Subject, path: &[u32]) -> Option<(u32, u32)>
     ensures { result ≡ entered subject.now path.now }
 {
     let mut rest = path;
@@ -95,33 +94,30 @@ pub fn stop_name(stop: Stop) -> &'static str {
     }
 }
 
-/// Whether an edge, if there is one, leads to a place where a task begins.
-fn begins(subject: &Subject, edge: Option<u32>) -> bool {
-    match edge {
-        Some(place) => subject.is_entry(place),
-        None => false,
-    }
-}
-
 /// Whether a branch ends the task on this edge, where no task begins, and goes on into a task by the other.
 fn is_wrong_edge(subject: &Subject, index: u32, taken: bool) -> bool {
     let exit = subject.exit(index, taken);
-    exit.is_some() && !begins(subject, exit) && begins(subject, subject.inner(index, !taken))
+    exit.is_some_and(|place| !subject.is_entry(place)) && into(subject, index, !taken).is_some()
 }
 
 /// The stop that ends a task before another; in place of one on the wrong edge of a branch, that of the other edge.
 fn end_word(subject: &Subject, index: u32) -> &'static str {
     if is_wrong_edge(subject, index, false) {
-        return "!st";
+        "!st"
+    } else if is_wrong_edge(subject, index, true) {
+        "!sn"
+    } else {
+        stop_name(missing_stop(subject, index))
     }
-    if is_wrong_edge(subject, index, true) {
-        return "!sn";
-    }
-    stop_name(missing_stop(subject, index))
 }
 
-/// Where a task is to end before another: which stop to write on a line, and which targets, in words and as changes.
-fn end_put(subject: &Subject, task: u32, index: u32, into: u32) -> Made<(Words, Vec<Replacement>)> {
+/// A help that lets a task end at an instruction, before it continues into the task `into`: by a stop and, where they are
+/// missing, by targets.
+///
+/// # Errors
+///
+/// `AllocError` where memory was refused.
+pub fn end_help(subject: &Subject, task: u32, index: u32, into: u32) -> Made<Help> {
     let alloc = subject.alloc();
     let word = end_word(subject, index);
     let line = subject.span(index).line;
@@ -132,11 +128,10 @@ fn end_put(subject: &Subject, task: u32, index: u32, into: u32) -> Made<(Words, 
             words!(in alloc; "write {word} in place of {there} on line {line}")?
         }
     };
-    let mut changes = Vec::new(alloc);
-    changes.push(stop_put(subject, index, word)?)?;
+    let mut changes = vec![in alloc; stop_put(subject, index, word)?]?;
     let new = new_targets(subject, task, index)?;
     let mut and_targets = Words::of(alloc, "")?;
-    if new.len() > 0 {
+    if !new.is_empty() {
         let targets = targets_with(subject, task, &new)?;
         let text = targets_words(subject, &targets)?;
         and_targets = words!(in alloc; " and write {text}")?;
@@ -145,28 +140,11 @@ fn end_put(subject: &Subject, task: u32, index: u32, into: u32) -> Made<(Words, 
     }
     let name = subject.task(task);
     let other = subject.task(into);
-    let kind = if is_target(subject, task, into) {
-        "its target"
-    } else {
-        "task"
-    };
+    let is_listed = is_target(subject, task, into);
+    let kind = if is_listed { "its target" } else { "task" };
     let message =
         words!(in alloc; "{stop}{and_targets}, where task {name} continues into {kind} {other}")?;
-    Ok((message, changes))
-}
-
-/// A help that lets a task end at an instruction, before it continues into the task `into`: by a stop and, where they are
-/// missing, by targets.
-///
-/// # Errors
-///
-/// `AllocError` where memory was refused.
-pub fn end_help(subject: &Subject, task: u32, index: u32, into: u32) -> Made<Help> {
-    let (message, changes) = end_put(subject, task, index, into)?;
-    Ok(Help {
-        message,
-        replacements: Listed::new(changes),
-    })
+    Ok(help(message, changes))
 }
 
 /// Whether the first advice at a step into a task is to end the task there.
@@ -176,23 +154,21 @@ pub fn is_end_first(subject: &Subject, task: u32, step: (u32, u32)) -> bool
     (is_target(subject, task, step.1) || step.1 != task) && may_stop(subject, task, step.0)
 }
 
-/// A help that first advises to end a task at a step into another, where `is_end_first`; else `help`.
+/// A help that first advises to end a task at a step into another, where `is_end_first`; else `rest`.
 ///
 /// # Errors
 ///
 /// `AllocError` where memory was refused.
-pub fn stop_or(subject: &Subject, task: u32, step: Option<(u32, u32)>, help: Help) -> Made<Help> {
-    let Some(step) = step else {
-        return Ok(help);
-    };
-    if !is_end_first(subject, task, step) {
-        return Ok(help);
+pub fn stop_or(subject: &Subject, task: u32, step: Option<(u32, u32)>, rest: Help) -> Made<Help> {
+    match step {
+        Some(step) if is_end_first(subject, task, step) => {
+            let end = end_help(subject, task, step.0, step.1)?;
+            let (first, other) = (&end.message, &rest.message);
+            Ok(Help {
+                message: words!(in subject.alloc(); "{first}; if it is meant to continue, {other}")?,
+                ..end
+            })
+        }
+        _ => Ok(rest),
     }
-    let (end, changes) = end_put(subject, task, step.0, step.1)?;
-    let rest = help.message.as_str();
-    let message = words!(in subject.alloc(); "{end}; if it is meant to continue, {rest}")?;
-    Ok(Help {
-        message,
-        replacements: Listed::new(changes),
-    })
 }

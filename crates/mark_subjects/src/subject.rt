@@ -1,7 +1,6 @@
 //! The subject of diagnostics about marks: a program with its text.
 
-use crate::label::labels_of;
-use crate::spelling::names_in;
+use crate::spelling::{labels_of, names_in};
 use annotated_asm::fault::AsmFault;
 use annotated_asm::laws::map_fits;
 use annotated_asm::position::{SourceMap, Stretch};
@@ -50,14 +49,12 @@ impl<'a> Model for Subject<'a> {
     } };
 }
 
-ghost use Rattle.std.specs.Prelude.{◌≡◌, ◌<◌, map as each, Ok, IfOk};
+ghost use Rattle.std.specs.Prelude.{◌≡◌, ◌<◌, map as each, length, Ok, IfOk};
 ghost use Rattle.std.specs.Option.{option_copied};
 ghost use Rattle.annotated_asm.specs.ProgramText.{parse};
 ghost use Rattle.mask_certificate.specs.Lists.{mask_at};
 ghost use Rattle.task_graph.specs.Edges.{end_of};
 ghost use Rattle.mips_instructions.specs.Words.{has};
-ghost use Rattle.task_descriptor.specs.Listing.{is_conditional as is_conditional_of};
-ghost use Rattle.mips_instructions.specs.Instruction.{released};
 ghost use Rattle.mark_subjects.specs.Subjects.{IsJudged, targets_of, entries_of, task_at, is_entry, releases, is_branch, stop_of, is_end, exit_end, inner_end, first_byte, span_of, instruction_span, task_span, create_span, targets_span, target_span};
 ghost use Rattle.program_tokens.specs.Lines.{lines};
 ghost use Rattle.annotated_asm.specs.Sources.{sources_in, sources_of};
@@ -83,7 +80,7 @@ impl<'a> Subject<'a> {
         let places = places_of(alloc, text, program)?;
         let labels = labels_of(alloc, &rows, &places.code)?;
         let names = names_in(alloc, &rows)?;
-        let no_index = names_no_index(&rows);
+        let no_index = !rows.iter().any(|row| row.contains(&b'@'));
         let returns = returns_of(alloc, program, least)?;
         Ok(Subject {
             alloc,
@@ -143,6 +140,25 @@ impl<'a> Subject<'a> {
         self.program.tasks()
     }
 
+    /// How many instructions there are.
+    pub fn code_count(&self) -> u32
+        ensures { result ≡ length self.now.program.code }
+    {
+        self.program.code().len() as u32
+    }
+
+    /// How many tasks there are.
+    pub fn task_count(&self) -> u32
+        ensures { result ≡ length self.now.program.tasks }
+    {
+        self.program.tasks().len() as u32
+    }
+
+    /// The instruction at a code index, without its marks.
+    pub fn op(&self, index: u32) -> Option<Op> {
+        Some(self.code().get(index as usize)?.op)
+    }
+
     /// The least certificate of the program.
     pub fn least(&self) -> &Cert
         ensures { result.now ≡ self.now.least }
@@ -183,18 +199,14 @@ impl<'a> Subject<'a> {
 
     /// A register as the text writes it; empty where no register has this number.
     pub fn register(&self, number: u8) -> &str {
-        match self.names.get(usize::from(number)) {
-            Some(name) => name.as_str(),
-            None => "",
-        }
+        let name = self.names.get(usize::from(number));
+        name.map_or("", |name| name.as_str())
     }
 
     /// The name of a task; empty where no task has this number.
     pub fn task(&self, task: u32) -> &str {
-        match self.program.tasks().get(task as usize) {
-            Some(descriptor) => descriptor.name.as_str(),
-            None => "",
-        }
+        let descriptor = self.tasks().get(task as usize);
+        descriptor.map_or("", |descriptor| descriptor.name.as_str())
     }
 
     /// The targets of a task, in the order in which it lists them; none where no task has this number.
@@ -222,19 +234,23 @@ impl<'a> Subject<'a> {
     }
 
     /// The label of an instruction, if the text gives it one.
-    pub fn label(&self, index: u32) -> Option<Name> {
-        match self.labels.get(index as usize) {
-            Some(label) => *label,
-            None => None,
+    pub fn label(&self, index: u32) -> Option<&str> {
+        let label = self.labels.get(index as usize)?;
+        label.as_ref().map(|name| name.as_str())
+    }
+
+    /// The name of the task that begins at an instruction, or else its label, if the text gives it one.
+    pub fn name(&self, index: u32) -> Option<&str> {
+        match self.task_at(index) {
+            Some(task) => Some(self.task(task)),
+            None => self.label(index),
         }
     }
 
     /// Whether an instruction has the forward bit (`!f`).
     pub fn forwards(&self, index: u32) -> bool {
-        match self.program.code().get(index as usize) {
-            Some(marked) => marked.forward,
-            None => false,
-        }
+        let marked = self.code().get(index as usize);
+        marked.is_some_and(|marked| marked.forward)
     }
 
     /// Whether an instruction is a release of this register.
@@ -243,8 +259,13 @@ impl<'a> Subject<'a> {
         ensures { result ≡ releases self.now index register }
     {
         match self.program.code().get(index as usize) {
-            Some(marked) => has_released(&marked.op, register),
-            None => false,
+            Some(
+                Marked {
+                    op: Op::Release(set),
+                    ..
+                },
+            ) => has_number(*set, register),
+            _ => false,
         }
     }
 
@@ -253,7 +274,7 @@ impl<'a> Subject<'a> {
         ensures { result ≡ is_branch self.now index }
     {
         match self.program.code().get(index as usize) {
-            Some(marked) => is_conditional(&marked.op),
+            Some(marked) => matches!(marked.op, Op::BranchTwo(..) | Op::BranchOne(..)),
             None => false,
         }
     }
@@ -400,44 +421,12 @@ pub fn is_end(end: Option<u32>, to: u32) -> bool
     }
 }
 
-/// Whether an instruction releases a register.
-fn has_released(op: &Op, number: u8) -> bool
-    requires { number < 34 }
-    ensures { result ≡ released op.now number }
-{
-    match op {
-        Op::Release(set) => has_number(*set, number),
-        _ => false,
-    }
-}
-
-/// Whether the instruction is a conditional branch.
-fn is_conditional(op: &Op) -> bool
-    ensures { result ≡ is_conditional_of op.now }
-{
-    matches!(op, Op::BranchTwo(..) | Op::BranchOne(..))
-}
-
 /// Whether a set has the register of this number.
 pub fn has_number(set: RegSet, number: u8) -> bool
     requires { number < 34 }
     ensures { result ≡ has set number }
 {
     Reg::new(number).is_some_and(|register| set.has(register))
-}
-
-/// The column `count` bytes after another; the greatest `usize` where that is too small.
-pub fn column_after(column: usize, count: usize) -> usize {
-    column.saturating_add(count)
-}
-
-/// The place, 0 bytes wide, directly after a part of a line.
-pub fn after(span: Span) -> Span {
-    Span {
-        line: span.line,
-        column: column_after(span.column, span.width),
-        width: 0,
-    }
 }
 
 /// The lines of a text.
@@ -468,11 +457,6 @@ fn no_places(alloc: Global) -> SourceMap {
         pieces: Vec::new(alloc),
         start: None,
     }
-}
-
-/// Whether no line gives a place as @n.
-fn names_no_index(rows: &[&[u8]]) -> bool {
-    rows.iter().all(|row| row.iter().all(|byte| *byte != b'@'))
 }
 
 /// The places of a text that spells a program.

@@ -2,7 +2,7 @@
 
 ghost use Rattle.std.specs.Prelude.{◌≡◌, ◌++◌, ◌==◌, IfOk};
 ghost use Rattle.std.specs.List.{list_any};
-ghost use Rattle.mark_subjects.specs.Targets.{entries_listed, is_target, both, is_new, new_target, new_by, new_targets, lacks_some, may_stop};
+ghost use Rattle.mark_subjects.specs.Targets.{entries_listed, is_target, both, new_by, new_targets, lacks_some, may_stop};
 
 use crate::subject::{Made, Subject, is_end};
 use mips_instructions::number::Place;
@@ -50,52 +50,26 @@ pub fn both(alloc: Global, onward: Option<u32>, taken: Option<u32>) -> Made<Vec<
     ensures { IfOk result (λ places. places.items ≡ both onward taken) }
 {
     match (onward, taken) {
-        (Some(index), Some(other)) => {
-            if index == other {
-                return Ok(vec![in alloc; index]?);
-            }
-            Ok(vec![in alloc; index, other]?)
-        }
-        (Some(index), None) => Ok(vec![in alloc; index]?),
-        (None, Some(other)) => Ok(vec![in alloc; other]?),
+        (Some(index), Some(other)) if index != other => Ok(vec![in alloc; index, other]?),
+        (Some(index), _) | (None, Some(index)) => Ok(vec![in alloc; index]?),
         (None, None) => Ok(Vec::new(alloc)),
     }
 }
 
-/// Whether a task begins at a place that is no target.
-fn is_new(subject: &Subject, task: u32, index: u32) -> bool
-    ensures { result ≡ is_new subject.now task index }
-{
-    subject.is_entry(index) && !is_among(subject.targets(task), index)
-}
-
-/// A place, if a task begins there and it is no target.
-fn new_target(subject: &Subject, task: u32, place: Option<u32>) -> Option<u32>
-    ensures { result ≡ new_target subject.now task place }
-{
-    let Some(index) = place else {
-        return None;
-    };
-    if is_new(subject, task, index) {
-        Some(index)
-    } else {
-        None
-    }
-}
-
-/// Where an edge leads that stays in the task, if that is such a place.
+/// Where an edge leads that stays in the task, if a task begins there and it is no target.
 fn new_by(subject: &Subject, task: u32, index: u32, taken: bool) -> Option<u32>
     ensures { result ≡ new_by subject.now task index taken }
 {
-    new_target(subject, task, subject.inner(index, taken))
+    match subject.inner(index, taken) {
+        Some(place) if subject.is_entry(place) && !is_among(subject.targets(task), place) => {
+            Some(place)
+        }
+        _ => None,
+    }
 }
 
 /// The targets that a task would lack if it ended at an instruction that continues into tasks: their entries.
-///
-/// # Errors
-///
-/// `AllocError` where memory was refused.
-pub fn new_targets(subject: &Subject, task: u32, index: u32) -> Made<Vec<u32>>
+pub(crate) fn new_targets(subject: &Subject, task: u32, index: u32) -> Made<Vec<u32>>
     ensures { IfOk result (λ places. places.items ≡ new_targets subject.now task index) }
 {
     let onward = new_by(subject, task, index, false);

@@ -1,7 +1,7 @@
 //! Advice as rows of a table: what is said of a mistake, what to do, and what to write in its place.
 
-use diagnostics::diagnostic::{Help, Replacement, Span};
-use diagnostics::listed::Listed;
+use diagnostics::diagnostic::{Help, Span};
+use diagnostics::helps::{by_text, in_words};
 use diagnostics::words::Words;
 use std::alloc::{AllocError, Global};
 
@@ -50,14 +50,10 @@ pub(crate) fn filled(alloc: Global, template: &str, words: &[(&str, Words)]) -> 
 impl Row {
     /// What a row says to do: to write its text at a place, where it has one.
     pub(crate) fn help(self, alloc: Global, span: Span, words: &[(&str, Words)]) -> Made<Help> {
-        let mut replacements = Vec::new(alloc);
-        if let Some(fix) = self.fix {
-            let text = filled(alloc, fix, words)?;
-            replacements.push(Replacement { span, text })?;
+        let message = filled(alloc, self.help, words)?;
+        match self.fix {
+            Some(fix) => by_text(alloc, message, span, filled(alloc, fix, words)?),
+            None => Ok(in_words(alloc, message)),
         }
-        Ok(Help {
-            message: filled(alloc, self.help, words)?,
-            replacements: Listed::new(replacements),
-        })
     }
 }

@@ -2,13 +2,11 @@
 
 use crate::advice::Made;
 use crate::place::span_in;
-use crate::walk::Walk;
 use diagnostics::code::Code;
 use diagnostics::diagnostic::{Diagnostic, Severity, Source};
 use diagnostics::listed::Listed;
 use diagnostics::words::Words;
-use operand_forms::rows::line_at;
-use operand_forms::slices::first;
+use operand_forms::slices::after;
 use program_tokens::span::TokenSpan as Place;
 use std::alloc::Global;
 
@@ -36,57 +34,41 @@ const DIRECTIVES: [&str; 17] = [
 /// The most lines with such directives that a text may have which nobody takes for a compiler's.
 const MOST_BY_HAND: usize = 5;
 
-/// The first word of a line, and where it stands.
-fn first_word(row: &[u8]) -> (Place, &[u8]) {
-    let mut walk = Walk::new(row);
-    walk.to_token();
-    let Walk { column, rest } = walk;
-    let len = rest
-        .iter()
-        .take_while(|byte| !matches!(**byte, b' ' | b'\t' | b'\r'))
-        .count();
-    (Place { column, len }, first(rest, len))
-}
-
-/// Whether a compiler wrote a line. Most words have no dot: they are not compared.
-fn is_compiled(row: &[u8]) -> bool {
-    let (_, word) = first_word(row);
-    word.starts_with(b".")
-        && DIRECTIVES
-            .iter()
-            .any(|directive| directive.as_bytes() == word)
-}
-
-/// The numbers of the lines that a compiler wrote.
-fn compiled_lines(alloc: Global, rows: &[&[u8]]) -> Made<Vec<u32>> {
-    let mut lines = Vec::new(alloc);
-    let mut number: u32 = 0;
-    for row in rows {
-        number = number.saturating_add(1);
-        if is_compiled(row) {
-            lines.push(number)?;
-        }
-    }
-    Ok(lines)
+/// Where the first word of a line stands, if a compiler wrote it. Most words have no dot: they are not compared.
+fn compiled_place(row: &[u8]) -> Option<Place> {
+    let blanks = row.iter().take_while(|byte| matches!(**byte, b' ' | b'\t'));
+    let before = blanks.count();
+    let mut words = after(row, before).split(|byte| matches!(*byte, b' ' | b'\t' | b'\r'));
+    let word = words.next()?;
+    let mut directives = DIRECTIVES.iter();
+    let is_compiled = word.starts_with(b".") && directives.any(|it| it.as_bytes() == word);
+    let column = before.saturating_add(1);
+    let len = word.len();
+    is_compiled.then_some(Place { column, len })
 }
 
 /// That a compiler wrote the text of these lines, if it did.
 pub(crate) fn compiled_note(alloc: Global, rows: &[&[u8]]) -> Made<Option<Diagnostic>> {
-    let lines = compiled_lines(alloc, rows)?;
-    let Some(first) = lines.first() else {
-        return Ok(None);
-    };
-    if lines.len() <= MOST_BY_HAND {
+    let mut span = None;
+    let mut count: usize = 0;
+    let mut line: u32 = 0;
+    for row in rows {
+        line = line.saturating_add(1);
+        if let Some(place) = compiled_place(row) {
+            span = span.or(Some(span_in(line, place)));
+            count = count.saturating_add(1);
+        }
+    }
+    if count <= MOST_BY_HAND {
         return Ok(None);
     }
-    let (place, _) = first_word(line_at(rows, *first));
     let message =
         "this is a compiler's output: compiler/c2ms.py FILE.s -o NEW.s makes a program with marks of it";
     Ok(Some(Diagnostic {
         severity: Severity::Note,
         code: Code::More,
         source: Source::Program,
-        span: Some(span_in(*first, place)),
+        span,
         message: Words::of(alloc, message)?,
         notes: Listed::new(Vec::new(alloc)),
         help: None,
@@ -95,11 +77,8 @@ pub(crate) fn compiled_note(alloc: Global, rows: &[&[u8]]) -> Made<Option<Diagno
 
 /// A diagnostic without what it says to do, if that is said in words alone.
 pub(crate) fn in_short(said: &mut Diagnostic) {
-    let has_fix = match &said.help {
-        Some(help) => !help.replacements.as_slice().is_empty(),
-        None => true,
-    };
-    if !has_fix {
+    let help = said.help.as_ref();
+    if help.is_some_and(|help| help.replacements.as_slice().is_empty()) {
         said.help = None;
     }
 }

@@ -1,23 +1,14 @@
 //! What is said of an item that can be read, and what to do about it: a row for each kind of mistake.
 
 use crate::advice::{Made, Row, advice, filled, mend};
-use crate::given::Given;
-use crate::item::Item;
-use crate::mistake::{Kind, Limit, Mistake, UsedAs};
-use crate::names::{near_label, start_name};
-use crate::place::{Seen, item_span, span_in};
+use crate::given::{Given, Item};
+use crate::mistakes::{Kind, Limit, Mistake, UsedAs};
+use crate::place::Places;
 use diagnostics::code::Code;
-use diagnostics::diagnostic::{Diagnostic, Help, Note, Severity, Source, Span};
+use diagnostics::diagnostic::{Diagnostic, Note, Severity, Source};
 use diagnostics::listed::Listed;
 use diagnostics::quotation::quoted;
 use diagnostics::words::Words;
-use operand_forms::bytes::bytes_at;
-use operand_forms::meant::span_at;
-use operand_forms::rows::{line_at, read};
-use program_statements::statement::{Instruction, Statement};
-use program_tokens::span::TokenSpan as Place;
-use program_tokens::token::{Mark, Token};
-use std::alloc::Global;
 
 /// What to do about a name that is no label.
 const NO_LABEL: &str =
@@ -129,38 +120,25 @@ fn note_row(kind: Kind) -> &'static str {
     }
 }
 
-/// Where the stop of a line stands, or its mark `!f`.
-fn mark_place(alloc: Global, line: &[u8], is_stop: bool) -> Made<Place> {
-    let reading = read(alloc, line)?;
-    let number = reading
-        .tokens
-        .as_slice()
-        .iter()
-        .position(|token| match token {
-            Token::Mark(Mark::Forward) => !is_stop,
-            Token::Mark(Mark::Always | Mark::Taken | Mark::NotTaken) => is_stop,
-            _ => false,
-        });
-    Ok(span_at(reading.places.as_slice(), number.unwrap_or(0)))
-}
-
-/// Whether an item is a `la`, which takes any label.
-fn takes_any_label(given: &Given<'_>, item: &Item) -> bool {
-    matches!(
-        given.known.statement(item),
-        Some(Statement::Code(Instruction::LoadAddress(..), _))
-    )
+/// The row of a kind of mistake where a name is known: of the label that is near, or of the place where the program starts.
+fn row_with_name(kind: Kind) -> Row {
+    let Row { says, .. } = row_of(kind);
+    match kind {
+        Kind::NoTaskThere => mend(
+            says,
+            "add a line .task {said} create=- targets=-, with its registers and its targets",
+            "\n.task {said} create=- targets=-",
+        ),
+        _ => mend(says, "did you mean {said}?", "{said}"),
+    }
 }
 
 /// The note on another item that shows a mistake, if there is one.
 fn notes_of(given: &Given<'_>, mistake: &Mistake) -> Made<Vec<Note>> {
     let mut notes = Vec::new(given.alloc);
-    let Some(number) = mistake.other else {
-        return Ok(notes);
-    };
-    if let Some(other) = given.item(number) {
+    if let Some(other) = mistake.other.and_then(|number| given.item(number)) {
         notes.push(Note {
-            span: Some(other.span()),
+            span: Some(other.span),
             message: Words::of(given.alloc, note_row(mistake.kind))?,
             path: Listed::new(Vec::new(given.alloc)),
         })?;
@@ -168,83 +146,38 @@ fn notes_of(given: &Given<'_>, mistake: &Mistake) -> Made<Vec<Note>> {
     Ok(notes)
 }
 
-/// The row of a mistake, and the word that its help names: the label that is near, or where the program starts.
-fn chosen(given: &Given<'_>, item: &Item, kind: Kind, name: &[u8]) -> Made<(Row, Words)> {
-    let row = row_of(kind);
-    let said = match kind {
-        Kind::NoLabel(_) | Kind::DataLabel(_) => {
-            near_label(given, takes_any_label(given, item), name)?
-        }
-        Kind::NoTaskThere => start_name(given, Some(item))?,
-        _ => None,
-    };
-    let Some(said) = said else {
-        return Ok((row, Words::of(given.alloc, "")?));
-    };
-    if matches!(kind, Kind::NoTaskThere) {
-        let help = "add a line .task {said} create=- targets=-, with its registers and its targets";
-        return Ok((advice(row.says, help), said));
-    }
-    Ok((mend(row.says, "did you mean {said}?", "{said}"), said))
-}
-
-/// What to do where the program starts at a place where no task begins: a line behind the item's, which lets one begin.
-fn task_help(given: &Given<'_>, item: &Item, row: Row, words: &[(&str, Words)]) -> Made<Help> {
-    let width = line_at(given.rows, item.line).len();
-    let behind = Place {
-        column: width.saturating_add(1),
-        len: 0,
-    };
-    let is_named = words
-        .iter()
-        .any(|word| word.0 == "said" && !word.1.as_str().is_empty());
-    let fix = if is_named {
-        Some("\n.task {said} create=- targets=-")
-    } else {
-        None
-    };
-    let Row { says, help, .. } = row;
-    let row = Row { says, help, fix };
-    row.help(given.alloc, span_in(item.line, behind), words)
-}
-
 /// The diagnostic for a mistake of an item that can be read.
 pub(crate) fn item_error(
-    given: &Given<'_>,
-    seen: &mut Seen,
+    places: &mut Places<'_>,
     mistake: &Mistake,
     item: &Item,
 ) -> Made<Diagnostic> {
     let Mistake { kind, .. } = *mistake;
-    let line = line_at(given.rows, item.line);
-    let span = item_span(given, seen, mistake, item)?;
-    let name = bytes_at(
-        line,
-        Place {
-            column: span.column,
-            len: span.width,
-        },
-    );
-    let (row, said) = chosen(given, item, kind, name)?;
-    let written = match kind {
-        Kind::UnfitForward => span_in(item.line, mark_place(given.alloc, line, false)?),
-        Kind::StopOnHalt | Kind::OneSidedStop => {
-            span_in(item.line, mark_place(given.alloc, line, true)?)
-        }
-        _ => span,
+    let given = places.given;
+    let alloc = given.alloc;
+    let span = places.meant(mistake, item)?;
+    let name = given.text_at(span);
+    let said = match kind {
+        Kind::NoLabel(used_as) | Kind::DataLabel(used_as) => given.near_label(name, used_as),
+        Kind::NoTaskThere => given.start_name(Some(item)),
+        _ => None,
     };
-    let words = [("name", quoted(given.alloc, name)?), ("said", said)];
-    let help = match kind {
-        Kind::NoTaskThere => task_help(given, item, row, &words)?,
-        _ => row.help(given.alloc, written, &words)?,
+    let row = match said {
+        Some(_) => row_with_name(kind),
+        None => row_of(kind),
     };
+    let words = [
+        ("name", quoted(alloc, name.as_bytes())?),
+        ("said", Words::of(alloc, said.unwrap_or(""))?),
+    ];
+    let help = row.help(alloc, places.written(kind, span), &words)?;
     Ok(Diagnostic {
         severity: Severity::Error,
         code: code_of(kind),
         source: Source::Program,
         span: Some(span),
-        message: filled(given.alloc, row.says, &words)?,
-        notes: Listed::new(notes_of(given, mistake)?),
+        message: filled(alloc, row.says, &words)?,
+        notes: Listed::new(notes_of(&given, mistake)?),
         help: Some(help),
     })
 }

@@ -4,22 +4,14 @@
 #![tactic(auto)]
 
 mod advice;
-mod comment;
 mod compiled;
-mod detail;
 mod faulty_line;
-mod firsts;
 mod given;
-mod item;
 mod item_said;
 mod line_fix;
 mod line_said;
-mod mending;
-mod mistake;
 mod mistakes;
-mod names;
 mod place;
 pub mod refusal;
 mod section;
 mod tree;
-mod walk;

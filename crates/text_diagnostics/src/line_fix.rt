@@ -6,7 +6,6 @@ ghost use Rattle.text_diagnostics.specs.Mending.{mends};
 
 use crate::advice::Made;
 use crate::faulty_line::FaultyLine;
-use crate::mending::mends;
 use diagnostics::quotation::as_shown;
 use diagnostics::words::Words;
 use operand_forms::bytes::{byte_at, bytes_at};
@@ -14,64 +13,48 @@ use operand_forms::candidates::candidates;
 use operand_forms::line_fault::LineFaultKind;
 use operand_forms::slices::{after, first};
 use program_tokens::span::TokenSpan as Place;
-use std::alloc::Global;
 
 /// The most bytes that are written anew at the end of a line, as much as a message quotes.
 const MOST_WRITTEN: usize = 40;
 
-/// What stands from the place on with one comma before each operand, where one comma more does not do.
-fn with_commas(wrong: &FaultyLine<'_>) -> Made<Option<Vec<u8>>> {
-    if matches!(wrong.first(), b',' | b'!') {
-        return Ok(None);
-    }
+/// What stands from the place on, with one comma before each operand and a space before each mark.
+fn separated(wrong: &FaultyLine<'_>) -> Made<Vec<u8>> {
     let mut text = Vec::new(wrong.alloc);
     for place in wrong.reading.places.as_slice() {
         let first = byte_at(wrong.line, *place);
-        if place.column < wrong.place.column || first == b',' {
-            continue;
+        if place.column >= wrong.place.column && first != b',' {
+            text.push(if first == b'!' { b' ' } else { b',' })?;
+            text.extend_from_slice(bytes_at(wrong.line, *place))?;
         }
-        text.push(if first == b'!' { b' ' } else { b',' })?;
-        text.extend_from_slice(bytes_at(wrong.line, *place))?;
     }
-    let mut one = b",".to_vec(wrong.alloc)?;
-    one.extend_from_slice(wrong.meant())?;
-    let is_one = wrong.reads_with(wrong.place, &one)?;
-    Ok(if is_one { None } else { Some(text) })
+    Ok(text)
 }
 
-/// What stands from the place on without the commas before marks, where it begins with one, and one space does not do.
-fn without_mark_commas(wrong: &FaultyLine<'_>) -> Made<Option<Vec<u8>>> {
-    if wrong.first() != b',' || wrong.reads_with(wrong.place, b" ")? {
-        return Ok(None);
-    }
-    let mut text = Vec::new(wrong.alloc);
-    for place in wrong.reading.places.as_slice() {
-        match byte_at(wrong.line, *place) {
-            _ if place.column < wrong.place.column => {}
-            b',' => {}
-            b'!' => {
-                text.push(b' ')?;
-                text.extend_from_slice(bytes_at(wrong.line, *place))?;
-            }
-            _ => return Ok(None),
-        }
-    }
-    Ok(Some(text))
+/// Whether only marks and commas stand from the place on.
+fn has_marks_alone(wrong: &FaultyLine<'_>) -> bool {
+    wrong.reading.places.as_slice().iter().all(|place| {
+        place.column < wrong.place.column || matches!(byte_at(wrong.line, *place), b',' | b'!')
+    })
 }
 
-/// What stands from the place on without braces, in a statement with lists.
-fn without_braces(wrong: &FaultyLine<'_>) -> Made<Option<Vec<u8>>> {
-    let word = wrong.word();
-    if word != ".task".as_bytes() && word != "release".as_bytes() {
-        return Ok(None);
-    }
-    let mut text = Vec::new(wrong.alloc);
-    for byte in bytes_at(wrong.line, wrong.rest()) {
-        if !matches!(*byte, b'{' | b'}') {
-            text.push(*byte)?;
+/// Whether the commas from the place on are to be written anew: where one comma more does not do, or one before a mark less.
+fn has_wrong_commas(wrong: &FaultyLine<'_>) -> Made<bool> {
+    match wrong.first() {
+        b'!' => Ok(false),
+        b',' => Ok(has_marks_alone(wrong) && !wrong.reads_with(wrong.place, b" ")?),
+        _ => {
+            let column = wrong.place.column;
+            Ok(!wrong.reads_with(Place { column, len: 0 }, b",")?)
         }
     }
-    Ok(if text.is_empty() { None } else { Some(text) })
+}
+
+/// What stands from the place on without braces.
+fn without_braces(wrong: &FaultyLine<'_>) -> Made<Vec<u8>> {
+    let bytes = bytes_at(wrong.line, wrong.rest()).iter().copied();
+    bytes
+        .filter(|byte| !matches!(*byte, b'{' | b'}'))
+        .collect(wrong.alloc)
 }
 
 /// A text as it is shown, where it mends a line in this place.
@@ -79,14 +62,7 @@ fn judged(wrong: &FaultyLine<'_>, place: Place, text: &[u8]) -> Made<Option<Word
     ensures { IfOk result (λ fix. IfSome fix (λ words. mends wrong.now.kind wrong.now.section wrong.now.line.now place words ≡ true)) }
 {
     let words = as_shown(wrong.alloc, text)?;
-    let FaultyLine {
-        alloc,
-        kind,
-        section,
-        line,
-        ..
-    } = *wrong;
-    if mends(alloc, kind, section, line, place, words.as_str().as_bytes())? {
+    if wrong.mends(place, words.as_str().as_bytes())? {
         return Ok(Some(words));
     }
     Ok(None)
@@ -100,30 +76,15 @@ fn is_dotted(byte: u8) -> bool {
 /// The name with dots that stands where a line is wrong, if one does.
 fn dotted_place(wrong: &FaultyLine<'_>) -> Option<Place> {
     let at = wrong.place.column.saturating_sub(1);
-    let before = first(wrong.line, at);
-    let front = before
-        .iter()
-        .rev()
-        .take_while(|byte| is_dotted(**byte))
-        .count();
+    let before = first(wrong.line, at).iter().rev();
+    let front = before.take_while(|byte| is_dotted(**byte)).count();
     let begin = at.saturating_sub(front);
     let rest = after(wrong.line, begin);
     let len = rest.iter().take_while(|byte| is_dotted(**byte)).count();
     let name = first(rest, len);
     let begins = matches!(name, [b'_' | b'a'..=b'z' | b'A'..=b'Z', ..]);
-    (begins && name.contains(&b'.')).then_some(Place {
-        column: begin.saturating_add(1),
-        len,
-    })
-}
-
-/// A name with `_` for each dot.
-fn undotted(alloc: Global, name: &[u8]) -> Made<Vec<u8>> {
-    let mut text = Vec::new(alloc);
-    for byte in name {
-        text.push(if *byte == b'.' { b'_' } else { *byte })?;
-    }
-    Ok(text)
+    let column = begin.saturating_add(1);
+    (begins && name.contains(&b'.')).then_some(Place { column, len })
 }
 
 /// A name with dots, and what is to stand in its place: the name with `_` for each dot.
@@ -133,7 +94,9 @@ pub(crate) fn dotted_fix(wrong: &FaultyLine<'_>) -> Made<Option<(Place, Words)>>
     let Some(place) = dotted_place(wrong) else {
         return Ok(None);
     };
-    let text = undotted(wrong.alloc, bytes_at(wrong.line, place))?;
+    let name = bytes_at(wrong.line, place).iter();
+    let letters = name.map(|byte| if *byte == b'.' { b'_' } else { *byte });
+    let text: Vec<u8> = letters.collect(wrong.alloc)?;
     match judged(wrong, place, &text)? {
         Some(words) => Ok(Some((place, words))),
         None => Ok(None),
@@ -149,18 +112,15 @@ pub(crate) fn rest_fix(wrong: &FaultyLine<'_>, rest: Place) -> Made<Option<Words
         return Ok(None);
     }
     let text = match wrong.kind {
-        LineFaultKind::Operand => match with_commas(wrong)? {
-            Some(text) => Some(text),
-            None => without_mark_commas(wrong)?,
-        },
-        LineFaultKind::Token => without_braces(wrong)?,
-        _ => None,
+        LineFaultKind::Operand if has_wrong_commas(wrong)? => separated(wrong)?,
+        LineFaultKind::Token if matches!(wrong.word(), b".task" | b"release") => {
+            without_braces(wrong)?
+        }
+        _ => return Ok(None),
     };
-    let Some(text) = text else {
-        return Ok(None);
-    };
+    let is_empty_list = text.is_empty() && matches!(wrong.kind, LineFaultKind::Token);
     let words = as_shown(wrong.alloc, &text)?;
-    if wrong.reads_with(rest, words.as_str().as_bytes())? {
+    if !is_empty_list && wrong.reads_with(rest, words.as_str().as_bytes())? {
         return Ok(Some(words));
     }
     Ok(None)

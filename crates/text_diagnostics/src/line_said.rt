@@ -5,7 +5,6 @@ ghost use Rattle.std.specs.List.{All};
 ghost use Rattle.text_diagnostics.specs.Mending.{Mends};
 
 use crate::advice::{Made, filled};
-use crate::comment::comment_words;
 use crate::faulty_line::FaultyLine;
 use crate::line_fix::{dotted_fix, fixes, rest_fix};
 use crate::place::span_in;
@@ -20,7 +19,9 @@ use operand_forms::line_place::shape_named;
 use operand_forms::meant::{is_directive, mark_index, number_index};
 use operand_forms::own_words::own_words;
 use operand_forms::shape::{form_text, range_text, shape_of, takes_none};
+use operand_forms::slices::{after, first};
 use program_statements::statement::Section;
+use program_tokens::span::TokenSpan as Place;
 use program_tokens::token::{Mark, Token};
 use std::fmt::Write;
 
@@ -99,10 +100,8 @@ fn byte_help(byte: u8) -> &'static str {
 
 /// What to do about what is no token.
 fn token_row(wrong: &FaultyLine<'_>) -> &'static str {
-    match instead(wrong.word()) {
-        Some(text) => text,
-        None => instead(wrong.meant()).unwrap_or(token_help(wrong.first())),
-    }
+    let own = instead(wrong.word()).or(instead(wrong.meant()));
+    own.unwrap_or(token_help(wrong.first()))
 }
 
 /// What to do about a word that begins no statement of its section.
@@ -116,7 +115,9 @@ fn word_row(wrong: &FaultyLine<'_>) -> Made<&'static str> {
     if let Some(text) = instead(wrong.meant()) {
         return Ok(text);
     }
-    if wrong.reads_before(b":")? {
+    let column = wrong.place.column.saturating_add(wrong.place.len);
+    let behind = Place { column, len: 0 };
+    if wrong.reads_with(behind, b":")? {
         return Ok("if this is to be a label, write {meant}: with a colon");
     }
     if matches!(wrong.meant(), [b'0'..=b'9', ..]) {
@@ -165,22 +166,40 @@ fn mark_row(wrong: &FaultyLine<'_>) -> &'static str {
     }
 }
 
-/// What to do about a line, in its own words, where they are known.
-fn own_line(wrong: &FaultyLine<'_>) -> Made<Option<Words>> {
-    let is_ours = match wrong.kind {
-        LineFaultKind::Token | LineFaultKind::Number | LineFaultKind::Operand => false,
-        LineFaultKind::Mnemonic => shape_of(wrong.meant()).is_some(),
-        LineFaultKind::NotAscii | LineFaultKind::Mark => true,
-    };
-    if is_ours {
+/// What to do about operands that end too early before a comment with a number, if it is meant: other assemblers write # before
+/// a number.
+fn comment_words(wrong: &FaultyLine<'_>) -> Made<Option<Words>> {
+    let rest = after(wrong.line, wrong.place.column.saturating_sub(1));
+    let begin = rest.iter().take_while(|byte| **byte != b'#').count();
+    let comment = after(rest, begin.saturating_add(1));
+    let letters = comment
+        .iter()
+        .take_while(|byte| byte.is_ascii_alphanumeric() || **byte == b'-');
+    let number = first(comment, letters.count());
+    if wrong.place.len > 0 || !matches!(number, [b'0'..=b'9' | b'-', ..]) {
         return Ok(None);
     }
-    if matches!(wrong.kind, LineFaultKind::Operand) {
-        if let Some(words) = comment_words(wrong)? {
-            return Ok(Some(words));
-        }
+    let mut text = b" ".to_vec(wrong.alloc)?;
+    text.extend_from_slice(number)?;
+    if !wrong.mends(wrong.place, &text)? {
+        return Ok(None);
     }
-    own_words(wrong.alloc, wrong.line, wrong.reading)
+    let shown = as_shown(wrong.alloc, number)?;
+    words!(in wrong.alloc; "# begins a comment: write {shown}").map(Some)
+}
+
+/// What to do about a line, in its own words, where they are known.
+fn own_line(wrong: &FaultyLine<'_>) -> Made<Option<Words>> {
+    let commented = match wrong.kind {
+        LineFaultKind::NotAscii | LineFaultKind::Mark => return Ok(None),
+        LineFaultKind::Mnemonic if shape_of(wrong.meant()).is_some() => return Ok(None),
+        LineFaultKind::Operand => comment_words(wrong)?,
+        _ => None,
+    };
+    match commented {
+        Some(words) => Ok(Some(words)),
+        None => own_words(wrong.alloc, wrong.line, wrong.reading),
+    }
 }
 
 /// What to do about a line, in words.
@@ -225,19 +244,13 @@ fn rest_row(kind: LineFaultKind, text: &[u8]) -> &'static str {
     }
 }
 
-/// A row with a text that mends a line.
+/// A row that names a text, and what stands before the bytes that are meant.
 fn fix_words(wrong: &FaultyLine<'_>, row: &'static str, text: &str) -> Made<Words> {
-    let words = [("fix", Words::of(wrong.alloc, text)?)];
-    filled(wrong.alloc, row, &words)
-}
-
-/// A row with what is to stand from a place on to the end of the line, and what stands before that.
-fn rest_words(wrong: &FaultyLine<'_>, text: &str) -> Made<Words> {
     let words = [
         ("front", as_shown(wrong.alloc, wrong.before())?),
         ("fix", Words::of(wrong.alloc, text)?),
     ];
-    filled(wrong.alloc, rest_row(wrong.kind, text.as_bytes()), &words)
+    filled(wrong.alloc, row, &words)
 }
 
 /// That one of several texts may be meant.
@@ -262,14 +275,16 @@ pub(crate) fn line_help(number: u32, wrong: &FaultyLine<'_>) -> Made<Help>
     }
     let rest = wrong.rest();
     if let Some(text) = rest_fix(wrong, rest)? {
-        let message = rest_words(wrong, text.as_str())?;
+        let row = rest_row(wrong.kind, text.as_str().as_bytes());
+        let message = fix_words(wrong, row, text.as_str())?;
         return by_text(alloc, message, span_in(number, rest), text);
     }
     let texts = fixes(wrong)?;
     match texts.as_slice() {
         [] => Ok(in_words(alloc, line_words(wrong)?)),
         [text] => {
-            let message = fix_words(wrong, fix_row(text.as_str().as_bytes()), text.as_str())?;
+            let row = fix_row(text.as_str().as_bytes());
+            let message = fix_words(wrong, row, text.as_str())?;
             let text = Words::of(alloc, text.as_str())?;
             by_text(alloc, message, span_in(number, wrong.place), text)
         }

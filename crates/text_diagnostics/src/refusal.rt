@@ -4,19 +4,16 @@ ghost use Rattle.std.specs.Prelude.{◌≡◌, map as each, true, IfOk, IfSome};
 ghost use Rattle.std.specs.List.{list_any};
 ghost use Rattle.program_tokens.specs.Lines.{lines};
 ghost use Rattle.text_diagnostics.specs.Mending.{IsLineError};
-ghost use Rattle.text_diagnostics.specs.Refusals.{build_code, told_as, token_in, token_of, is_on, is_at, is_error, is_of_program, tells, IsTold, AreTextErrors};
+ghost use Rattle.text_diagnostics.specs.Refusals.{told_as, token_in, token_of, is_at, tells, IsTold, AreTextErrors};
 
 use crate::advice::{Made, filled};
 use crate::compiled::{compiled_note, in_short};
 use crate::faulty_line::FaultyLine;
 use crate::given::Given;
-use crate::item::Item;
 use crate::item_said::item_error;
 use crate::line_said::{line_help, line_message};
-use crate::mistake::{Kind, Mistake};
-use crate::mistakes::mistakes;
-use crate::names::start_name;
-use crate::place::{Seen, span_in};
+use crate::mistakes::{Kind, mistakes};
+use crate::place::{Places, span_in};
 use crate::tree::known_of;
 use annotated_asm::assembler::{MOST_TEXT, assemble};
 use annotated_asm::fault::AsmFault;
@@ -85,62 +82,48 @@ fn line_error(
     Ok(error_of(alloc, code, span, message, Some(help)))
 }
 
-/// The error of a mistake of an item.
-fn error_in(
-    given: &Given<'_>,
-    seen: &mut Seen,
-    mistake: &Mistake,
-    item: &Item,
-) -> Made<Diagnostic> {
-    match mistake.kind {
-        Kind::Line(kind, section) => {
-            let line = line_at(given.rows, item.line);
-            line_error(given.alloc, kind, item.line, section, line)
-        }
-        _ => item_error(given, seen, mistake, item),
-    }
-}
-
 /// That there is no task.
 fn no_task(given: &Given<'_>) -> Made<Diagnostic> {
     let alloc = given.alloc;
     let start = given.known.start.and_then(|number| given.item(number));
-    let help = match start_name(given, start)? {
-        Some(name) => filled(
-            alloc,
-            "add a line for each task, or for one task .task {name} create=- targets=-; annotate --emit marks then writes its registers",
-            &[("name", name)],
-        )?,
-        None => Words::of(
-            alloc,
-            "add a line for each task, such as .task A create=$8 targets=A,B",
-        )?,
+    let name = given.start_name(start);
+    let row = match name {
+        Some(_) => {
+            "add a line for each task, or for one task .task {name} create=- targets=-; annotate --emit marks then writes its registers"
+        }
+        None => "add a line for each task, such as .task A create=$8 targets=A,B",
     };
+    let name = Words::of(alloc, name.unwrap_or(""))?;
+    let help = filled(alloc, row, &[("name", name)])?;
     let message = Words::of(alloc, "the program has no task")?;
     let help = Some(in_words(alloc, help));
     Ok(error_of(alloc, Code::NoTask, None, message, help))
 }
 
 /// All that is wrong with a text, which has these lines.
-fn told(alloc: Global, text: &[u8], rows: &[&[u8]]) -> Made<Vec<Diagnostic>> {
-    let known = known_of(alloc, text, rows)?;
-    let given = Given {
-        alloc,
-        rows,
-        known: &known,
-    };
-    let (found, more) = mistakes(&given)?;
+fn told(alloc: Global, rows: &[&[u8]]) -> Made<Vec<Diagnostic>> {
+    let all = known_of(alloc, rows)?;
+    let known = &all;
+    let given = Given { alloc, rows, known };
+    let found = mistakes(&given)?;
+    let more = found.more;
     let mut list = Vec::new(alloc);
-    let mut seen = Seen::new(&given);
+    let mut places = Places::new(given)?;
     let compiled = compiled_note(alloc, rows)?;
-    for mistake in &found {
-        if let Some(item) = given.item(mistake.item) {
-            let mut said = error_in(&given, &mut seen, mistake, item)?;
-            if compiled.is_some() {
-                in_short(&mut said);
-            }
-            list.push(said)?;
+    for mistake in &found.list {
+        let Some(item) = given.item(mistake.item) else {
+            continue;
+        };
+        let line = item.span.line;
+        let row = line_at(rows, line);
+        let mut said = match mistake.kind {
+            Kind::Line(kind, section) => line_error(alloc, kind, line, section, row)?,
+            _ => item_error(&mut places, mistake, item)?,
+        };
+        if compiled.is_some() {
+            in_short(&mut said);
         }
+        list.push(said)?;
     }
     if let Some(note) = compiled {
         list.push(note)?;
@@ -150,21 +133,6 @@ fn told(alloc: Global, text: &[u8], rows: &[&[u8]]) -> Made<Vec<Diagnostic>> {
     }
     add_more(alloc, &mut list, Source::Program, more, "error", "errors")?;
     Ok(list)
-}
-
-/// The code of a fault of the program as a whole.
-fn build_code(fault: BuildFault) -> Code
-    ensures { result ≡ build_code fault }
-{
-    match fault {
-        BuildFault::TooMany => Code::TooMany,
-        BuildFault::NoTask => Code::NoTask,
-        BuildFault::BadEntry => Code::BadEntry,
-        BuildFault::DuplicateEntry => Code::DuplicateEntry,
-        BuildFault::BadMask => Code::BadMask,
-        BuildFault::BadMark(_) => Code::BadMark,
-        BuildFault::BadStart => Code::BadStart,
-    }
 }
 
 /// The code of a fault, and its line, if it has one.
@@ -180,7 +148,13 @@ fn told_as(fault: AsmFault) -> (Code, Option<u32>)
         AsmFault::Mark(line) => (Code::Mark, Some(line)),
         AsmFault::Duplicate(line) => (Code::Duplicate, Some(line)),
         AsmFault::Unknown(line) => (Code::Unknown, Some(line)),
-        AsmFault::Build(fault) => (build_code(fault), None),
+        AsmFault::Build(BuildFault::TooMany) => (Code::TooMany, None),
+        AsmFault::Build(BuildFault::NoTask) => (Code::NoTask, None),
+        AsmFault::Build(BuildFault::BadEntry) => (Code::BadEntry, None),
+        AsmFault::Build(BuildFault::DuplicateEntry) => (Code::DuplicateEntry, None),
+        AsmFault::Build(BuildFault::BadMask) => (Code::BadMask, None),
+        AsmFault::Build(BuildFault::BadMark(_)) => (Code::BadMark, None),
+        AsmFault::Build(BuildFault::BadStart) => (Code::BadStart, None),
         AsmFault::TooLong | AsmFault::OutOfMemory => (Code::TooLong, None),
     }
 }
@@ -210,47 +184,18 @@ fn token_of(alloc: Global, rows: &[&[u8]], fault: AsmFault) -> Made<Option<Span>
     }
 }
 
-/// Whether a place is on this line, or no line is asked for.
-fn is_on(line: Option<u32>, span: Option<Span>) -> bool
-    ensures { result ≡ is_on line span }
-{
-    match line {
-        None => true,
-        Some(line) => match span {
-            Some(span) => span.line == line,
-            None => false,
-        },
-    }
-}
-
-/// Whether a place is this token, or, where none is asked for, on this line.
+/// Whether a place is this token, or, where none is asked for, on this line, if one is.
 fn is_at(token: Option<Span>, line: Option<u32>, span: Option<Span>) -> bool
     ensures { result ≡ is_at token line span }
 {
-    match token {
-        None => is_on(line, span),
-        Some(token) => match span {
-            Some(span) => {
-                span.line == token.line
-                    && (span.column == token.column && span.width == token.width)
-            }
-            None => false,
-        },
+    match (token, line, span) {
+        (None, None, _) => true,
+        (None, Some(line), Some(span)) => span.line == line,
+        (Some(token), _, Some(span)) => {
+            span.line == token.line && (span.column == token.column && span.width == token.width)
+        }
+        _ => false,
     }
-}
-
-/// Whether a diagnostic is an error.
-fn is_error(said: &Diagnostic) -> bool
-    ensures { result ≡ is_error said.now.severity }
-{
-    matches!(said.severity, Severity::Error)
-}
-
-/// Whether it is about the program text.
-fn is_of_program(said: &Diagnostic) -> bool
-    ensures { result ≡ is_of_program said.now.source }
-{
-    matches!(said.source, Source::Program)
 }
 
 /// Whether a diagnostic is the error that reports a fault, at the place of its token.
@@ -259,23 +204,22 @@ pub fn tells(fault: AsmFault, token: Option<Span>, said: &Diagnostic) -> bool
 {
     let (code, line) = told_as(fault);
     let is_code = code.id().as_bytes() == said.code.id().as_bytes();
-    (is_error(said) && is_of_program(said)) && (is_code && is_at(token, line, said.span))
+    let is_error = matches!(said.severity, Severity::Error);
+    let is_ours = matches!(said.source, Source::Program);
+    (is_error && is_ours) && (is_code && is_at(token, line, said.span))
 }
 
 /// The place of a fault: its token, or the beginning of its line, if it has one.
 fn place_of(token: Option<Span>, line: Option<u32>) -> Option<Span>
     ensures { is_at token line result ≡ true }
 {
-    match token {
-        Some(token) => Some(token),
-        None => match line {
-            Some(line) => Some(Span {
-                line,
-                column: 1,
-                width: 0,
-            }),
-            None => None,
-        },
+    match (token, line) {
+        (None, Some(line)) => Some(Span {
+            line,
+            column: 1,
+            width: 0,
+        }),
+        _ => token,
     }
 }
 
@@ -286,16 +230,12 @@ fn plain(alloc: Global, fault: AsmFault, token: Option<Span>) -> Made<Diagnostic
 {
     let (code, line) = told_as(fault);
     let span = place_of(token, line);
-    let message = match fault {
-        AsmFault::TooLong => "the program is too long",
-        _ => "this is what is refused first",
-    };
-    let help = match fault {
+    let (message, help) = match fault {
         AsmFault::TooLong => {
-            let words = Words::of(alloc, "a program has at most 4194304 bytes")?;
-            Some(in_words(alloc, words))
+            let help = Words::of(alloc, "a program has at most 4194304 bytes")?;
+            ("the program is too long", Some(in_words(alloc, help)))
         }
-        _ => None,
+        _ => ("this is what is refused first", None),
     };
     let message = Words::of(alloc, message)?;
     Ok(error_of(alloc, code, span, message, help))
@@ -347,7 +287,7 @@ pub fn refusal(alloc: Global, text: &[u8], fault: AsmFault) -> Result<Vec<Diagno
     let list = if text.len() > MOST_TEXT {
         Vec::new(alloc)
     } else {
-        told(alloc, text, &rows)?
+        told(alloc, &rows)?
     };
     let token = token_of(alloc, &rows, fault)?;
     let list = with_first(alloc, fault, token, list)?;

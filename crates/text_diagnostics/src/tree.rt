@@ -2,23 +2,25 @@
 //! a line with a fault leaves the section as it was.
 
 use crate::advice::Made;
-use crate::firsts::{First, Firsts, NameKey};
-use crate::given::{Amounts, Known, MOST_TASKS, TaskEntry, in_text};
-use crate::item::{Item, Said, in_u32};
-use crate::mistake::MOST_SHOWN;
-use crate::names::MOST_SEEN;
-use crate::section::{fault_where_meant, meant_after, meant_after_fault};
-use crate::walk::{Walk, without_comment};
+use crate::given::{Amounts, First, Firsts, Item, Known, MOST_SEEN, MOST_TASKS, Said, TaskEntry};
+use crate::mistakes::MOST_SHOWN;
+use crate::place::{span_in, up_to_end};
+use crate::section::{is_statement, section_in, statement_fault};
 use annotated_asm::line::section_after;
+use operand_forms::bytes::LINE_START;
 use operand_forms::line_fault::{LineFaultKind, kind_of_fault};
-use operand_forms::meant::label_tokens;
+use operand_forms::meant::{label_tokens, span_at};
+use operand_forms::rows::places_of;
 use operand_forms::slices::{after, first};
 use program_statements::fault::StatementError;
 use program_statements::line::statement_of;
 use program_statements::statement::{Section, Statement};
 use program_tokens::line::read_tokens;
+use program_tokens::span::TokenSpan as Place;
 use program_tokens::token::{Token, TokenFault};
 use std::alloc::{AllocError, Global};
+use std::collections::BTreeMap;
+use task_descriptor::name::Name;
 
 /// What is read of a text so far.
 #[derive(Drop)]
@@ -34,14 +36,22 @@ struct Tree {
     meant: Option<Section>,
 }
 
+/// Adds a name that an item defines, unless one before it does; returns whether one does.
+fn add_name(alloc: Global, names: &mut Firsts, name: &Name, item: First) -> Made<bool> {
+    let is_again = names.contains_key(name.as_str());
+    if !is_again {
+        let key = String::from_str(alloc, name.as_str())?;
+        names.insert(key, item)?;
+    }
+    Ok(is_again)
+}
+
 impl Tree {
-    /// Adds an item of the line, which begins at a token and a column.
-    fn add(&mut self, token: usize, column: usize, width: usize, said: Said) -> Made<()> {
+    /// Adds an item of the line, whose first token has this number.
+    fn add(&mut self, token: usize, place: Place, said: Said) -> Made<()> {
         self.known.items.push(Item {
-            line: self.line,
-            token: in_u32(token),
-            column: in_u32(column),
-            width: in_u32(width),
+            span: span_in(self.line, place),
+            token,
             section: self.section,
             said,
         })?;
@@ -49,19 +59,12 @@ impl Tree {
     }
 
     /// Adds an item that is of use only where it is among the first, or its mistake is; of others the mistakes are counted.
-    fn add_if_used(
-        &mut self,
-        token: usize,
-        column: usize,
-        width: usize,
-        said: Said,
-        is_wrong: bool,
-    ) -> Made<()> {
+    fn add_if_used(&mut self, token: usize, place: Place, said: Said, is_wrong: bool) -> Made<()> {
         let is_shown = is_wrong && self.wrong < MOST_SHOWN;
         let mistakes = usize::from(is_wrong);
         if is_shown || self.known.items.len() < MOST_SEEN {
             self.wrong = self.wrong.saturating_add(mistakes);
-            return self.add(token, column, width, said);
+            return self.add(token, place, said);
         }
         self.known.left_out = self.known.left_out.saturating_add(mistakes);
         Ok(())
@@ -75,93 +78,81 @@ impl Tree {
         }
     }
 
-    /// Adds the label of a token, with the name that stands at a column.
-    fn add_label(&mut self, token: usize, column: usize, name: &[u8]) -> Made<()> {
+    /// Adds the label of a token.
+    fn add_label(&mut self, token: usize, place: Place, name: &Name) -> Made<()> {
         let next = self.next();
-        let is_again = self.known.labels.add(in_text(name), next)?;
+        let is_again = add_name(self.alloc, &mut self.known.labels, name, next)?;
         let said = Said::Label(is_again);
-        let is_first_code = self.known.code.is_none() && matches!(self.section, Section::Text);
-        if is_first_code {
+        if self.known.code.is_none() && matches!(self.section, Section::Text) {
             self.known.code = Some(next.number);
+        } else if is_again {
+            return self.add_if_used(token, place, said, true);
         }
-        if is_again && !is_first_code {
-            return self.add_if_used(token, column, name.len(), said, true);
-        }
-        self.add(token, column, name.len(), said)
+        self.add(token, place, said)
     }
 
-    /// Adds the labels at the beginning of a line, over which it walks.
-    fn add_labels(&mut self, labels: &[Token], walk: &mut Walk<'_>) -> Made<()> {
-        for (number, token) in labels.iter().enumerate() {
-            walk.to_token();
-            if let Token::Name(name) = token {
-                let name = first(walk.rest, name.bytes().len());
-                self.add_label(number, walk.column, name)?;
-                walk.skip(name.len());
-            } else {
-                walk.skip(1);
-            }
-        }
-        Ok(())
-    }
-
-    /// Takes in what a statement defines that stands at the beginning of a text.
-    fn define(&mut self, statement: &Statement, text: &[u8]) -> Made<()> {
+    /// Adds a statement whose first token has this number, and takes in what it defines.
+    fn add_statement(&mut self, token: usize, places: &[Place], statement: Statement) -> Made<()> {
         let next = self.next();
-        match statement {
+        let number = Some(next.number);
+        match &statement {
+            Statement::Empty => return Ok(()),
             Statement::Task(task) => {
-                let mut walk = Walk::new(text);
-                walk.skip(b".task".len());
-                walk.to_token();
-                let name = first(walk.rest, task.name.bytes().len());
-                self.known.tasks.add(in_text(name), next)?;
+                add_name(self.alloc, &mut self.known.tasks, &task.name, next)?;
             }
-            Statement::Start(_) if self.known.start.is_none() => {
-                self.known.start = Some(next.number);
-            }
-            Statement::Code(_, _) if self.known.code.is_none() => {
-                self.known.code = Some(next.number);
-            }
+            Statement::Start(_) => self.known.start = self.known.start.or(number),
+            Statement::Code(_, _) => self.known.code = self.known.code.or(number),
             _ => {}
         }
-        self.known.all = self.known.all.with(self.section, statement);
-        Ok(())
-    }
-
-    /// Adds a statement whose first token has this number.
-    fn add_statement(&mut self, token: usize, walk: &Walk<'_>, statement: Statement) -> Made<()> {
-        if matches!(&statement, Statement::Empty) {
-            return Ok(());
+        if !matches!(&statement, Statement::Start(_) | Statement::Task(_)) {
+            self.meant = None;
         }
-        self.define(&statement, walk.rest)?;
-        let next = section_after(self.section, &statement);
-        self.meant = meant_after(self.meant, &statement);
-        let said = Said::Statement(in_u32(self.known.statements.len()));
-        let width = without_comment(walk.rest).len();
+        self.known.all.add(self.section, &statement);
+        let section = section_after(self.section, &statement);
+        let said = Said::Statement(self.known.statements.len());
         self.known.statements.push(statement)?;
-        self.add(token, walk.column, width, said)?;
-        self.section = next;
+        let last = span_at(places, places.len().saturating_sub(1));
+        let place = up_to_end(span_at(places, token).column, last);
+        self.add(token, place, said)?;
+        self.section = section;
         Ok(())
     }
 
-    /// Adds that a line cannot be read, and why; the tokens are those of its statement, if it has tokens.
+    /// Adds that a line cannot be read, and why; the tokens are those of its statement, if it has tokens. A word that cannot
+    /// stand where it does is judged where it is meant to stand. After the line the section is meant that it names first, or
+    /// another one where its word cannot stand in this one.
     fn add_fault(&mut self, row: &[u8], kind: LineFaultKind, tokens: &[Token]) -> Made<()> {
         self.known.is_read = false;
         let section = self.meant.unwrap_or(self.section);
-        let wrong = fault_where_meant(self.alloc, self.meant, kind, tokens)?;
-        self.meant = meant_after_fault(self.alloc, self.meant, section, row, wrong, tokens)?;
-        self.add_if_used(0, 1, 0, Said::Fault(wrong, section), wrong.is_some())
+        let wrong = match (self.meant, kind) {
+            (Some(meant), LineFaultKind::Mnemonic) => statement_fault(self.alloc, meant, tokens)?,
+            _ => Some(kind),
+        };
+        let is_elsewhere = matches!(wrong, Some(LineFaultKind::Mnemonic)) && is_statement(tokens);
+        let named = section_in(self.alloc, row)?;
+        if named.is_some() {
+            self.meant = named;
+        } else if is_elsewhere {
+            self.meant = Some(match section {
+                Section::Text => Section::Data,
+                Section::Data | Section::Rodata => Section::Text,
+            });
+        }
+        self.add_if_used(0, LINE_START, Said::Fault(wrong, section), wrong.is_some())
     }
 
     /// Adds the labels of a line, and its statement.
     fn add_tokens(&mut self, row: &[u8], tokens: &[Token]) -> Made<()> {
+        let places = places_of(self.alloc, row)?;
         let labels = label_tokens(tokens);
-        let mut walk = Walk::new(row);
-        self.add_labels(first(tokens, labels), &mut walk)?;
-        walk.to_token();
+        for (number, token) in first(tokens, labels).iter().enumerate() {
+            if let Token::Name(name) = token {
+                self.add_label(number, span_at(&places, number), name)?;
+            }
+        }
         let others = after(tokens, labels);
         match statement_of(self.alloc, self.section, others) {
-            Ok(statement) => self.add_statement(labels, &walk, statement),
+            Ok(statement) => self.add_statement(labels, &places, statement),
             Err(StatementError::Fault(fault)) => self.add_fault(row, kind_of_fault(fault), others),
             Err(StatementError::OutOfMemory) => Err(AllocError),
         }
@@ -182,15 +173,11 @@ impl Tree {
 fn entries_of(alloc: Global, known: &Known) -> Made<(Vec<TaskEntry>, bool)> {
     let mut entries = Vec::new(alloc);
     let mut is_placed = true;
-    for (number, item) in known.items.iter().enumerate() {
-        if let Some(Statement::Task(task)) = known.statement(item) {
-            match known.code_label(task.name.as_str()) {
+    for (task, item) in known.items.iter().enumerate() {
+        if let Some(Statement::Task(said)) = known.statement(item) {
+            match known.code_label(said.name.as_str()) {
                 Some(label) if entries.len() < MOST_TASKS => {
-                    entries.push(TaskEntry {
-                        task: number,
-                        label: label.number,
-                        entry: label.code,
-                    })?;
+                    entries.push(TaskEntry { task, label })?;
                 }
                 Some(_) => {}
                 None => is_placed = false,
@@ -201,17 +188,16 @@ fn entries_of(alloc: Global, known: &Known) -> Made<(Vec<TaskEntry>, bool)> {
 }
 
 /// What is known of a text that has these lines.
-pub(crate) fn known_of(alloc: Global, text: &[u8], rows: &[&[u8]]) -> Made<Known> {
-    let key = NameKey::of(text);
+pub(crate) fn known_of(alloc: Global, rows: &[&[u8]]) -> Made<Known> {
     let known = Known {
         items: Vec::new(alloc),
         statements: Vec::new(alloc),
         left_out: 0,
-        labels: Firsts::new(alloc, key),
-        tasks: Firsts::new(alloc, key),
+        labels: BTreeMap::new(alloc),
+        tasks: BTreeMap::new(alloc),
         start: None,
         code: None,
-        all: Amounts::NONE,
+        all: Amounts::default(),
         entries: Vec::new(alloc),
         is_placed: true,
         is_read: true,

@@ -10,7 +10,8 @@ use Rattle.annotator.specs.Least.{IsLeast}
 use Rattle.finding_paths.specs.Shown.{IsFinding}
 use Rattle.mark_subjects.specs.Subjects.{Judged}
 use Rattle.mark_diagnostics.specs.Told.{all_told, most_shown}
-use Rattle.mark_subjects.specs.More.{more_note}
+use Rattle.diagnostics.specs.More.{more_note}
+use Rattle.diagnostics.specs.declared.diagnostic.Source.TheVariants.{Program}
 use Rattle.mark_diagnostics.specs.Errors.{Says}
 use Rattle.mark_diagnostics.proofs.Telling.{of_judged, found_told, nothing_wrong, something_wrong}
 use Rattle.mark_diagnostics.proofs.error.mark_errors.Goals as goal
@@ -59,5 +60,5 @@ returns c =
     (of_judged (λ q d. all_rules q d ≡ [] → ⊥) s p cert a b (λ none. wrong c.accepts.result (c.accepts.ensures.exact.1 none) c.if-accepts.false))
     (of_judged (λ q d. AllZip (Says s) (take most_shown (all_told q d)) first) s p cert a b
     (subst (λ (fs : List Finding). AllZip (Says s) fs first) told c.in_ok-list.ensures))
-    (of_judged (λ q d. c.add_more.new.list.items ≡ first ++ more_note (length (all_told q d) - most_shown) (codes "error") (codes "errors")) s p cert a b
-    (c.in_ok-add_more.ensures ∙ ap (λ n. first ++ more_note n (codes "error") (codes "errors")) more))
+    (of_judged (λ q d. c.add_more.new.list.items ≡ first ++ more_note Program (length (all_told q d) - most_shown) (codes "error") (codes "errors")) s p cert a b
+    (c.in_ok-add_more.ensures ∙ ap (λ n. first ++ more_note Program n (codes "error") (codes "errors")) more))

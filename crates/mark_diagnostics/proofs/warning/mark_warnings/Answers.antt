@@ -8,7 +8,8 @@ use Rattle.exit_diagnostics.specs.declared.remark.Remark.{Remark}
 use Rattle.exit_diagnostics.specs.declared.remark.Remark.TheVariants.{Stop}
 use Rattle.exit_diagnostics.specs.declared.remark.StopRemark.{StopRemark}
 use Rattle.exit_diagnostics.specs.Remarks.{stop_remarks}
-use Rattle.mark_subjects.specs.More.{more_note}
+use Rattle.diagnostics.specs.More.{more_note}
+use Rattle.diagnostics.specs.declared.diagnostic.Source.TheVariants.{Program}
 use Rattle.mark_subjects.specs.Subjects.{Judged}
 use Rattle.mark_diagnostics.specs.Told.{most_shown}
 use Rattle.mark_diagnostics.specs.Together.{told_marks}
@@ -58,6 +59,6 @@ returns c =
       jumps = c.in_ok-jumps.jumps.items;
       jumping = c.in_ok-jumps.ensures;
       is = c.in_ok-add_more.ensures
-          ∙ ap (λ (ds : List Diagnostic). ds ++ more_note c.saturating_sub-more.result (codes "warning") (codes "warnings")) c.in_ok-said.ensures
-          ∙ ap (λ n. (c.in_ok-warned.warned.items ++ c.in_ok-jumps.jumps.items) ++ more_note n (codes "warning") (codes "warnings")) more;
+          ∙ ap (λ (ds : List Diagnostic). ds ++ more_note Program c.saturating_sub-more.result (codes "warning") (codes "warnings")) c.in_ok-said.ensures
+          ∙ ap (λ n. (c.in_ok-warned.warned.items ++ c.in_ok-jumps.jumps.items) ++ more_note Program n (codes "warning") (codes "warnings")) more;
     }
