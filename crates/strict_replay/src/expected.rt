@@ -1,19 +1,18 @@
 //! Whether an event did what was expected of it.
 
-ghost use Rattle.std.specs.Prelude.{◌≡◌, ◌==◌, false};
-ghost use Rattle.std.specs.Option.{option_copied, option_map_or};
-ghost use Rattle.std.specs.List.{find, slice_split};
-ghost use Rattle.std.specs.Prelude.{map};
+ghost use Rattle.std.specs.Prelude.{◌≡◌};
+ghost use Rattle.std.specs.Option.{option_copied};
+ghost use Rattle.std.specs.List.{find};
 ghost use Rattle.strict_replay.specs.StrictScript.{expectation_in, expected_parts, trimmed};
-ghost use Rattle.strict_replay.specs.StrictReplay.{awaited, done_by, first_unmet, content_departs, deed_departs, end_departs, first_not_listed, is_listed, is_met, is_refused_so, lacks, refusal_told, refusal_unmet, spells, to_list, told_departs, unmet};
+ghost use Rattle.strict_replay.specs.StrictReplay.{awaited, done_by, first_unmet, content_departs, first_not_listed, is_listed, is_met, is_refused_so, lacks, refusal_told, refusal_unmet, to_list, unmet};
 
 use crate::departure::Departure;
 use crate::expectation::{Expectation, ExpectedRefusal};
-use crate::reading::{colon_in, expectation_in, expects_refusal, refusal_in, trimmed};
+use crate::reading::{behind, behind_colon, expectation_in, place_of, refusal_words_in, trimmed};
 use event_trace::change::Change;
 use event_trace::told::Told;
 use event_trace::unit_change::UnitChange;
-use machine_model::event::{Refused, Standing};
+use machine_model::event::Refused;
 use mips_instructions::number::Reg;
 use text_pieces::cutting::cut;
 
@@ -22,8 +21,9 @@ pub(crate) fn done_by(change: Change) -> Option<Expectation>
     ensures { result ≡ done_by change }
 {
     match change {
-        Change::Wrote { register, word } => Some(Expectation::Register { register, word }),
-        Change::Took { register, word } => Some(Expectation::Register { register, word }),
+        Change::Wrote { register, word } | Change::Took { register, word } => {
+            Some(Expectation::Register { register, word })
+        }
         Change::Sent { register, word } => Some(Expectation::Sends { register, word }),
         Change::AtUnit { change, .. } => match change {
             UnitChange::Arrived { register, word } => Some(Expectation::Register {
@@ -33,8 +33,9 @@ pub(crate) fn done_by(change: Change) -> Option<Expectation>
             UnitChange::Drained { register, word } => Some(Expectation::Sends { register, word }),
             _ => None,
         },
-        Change::Loaded { address, word } => Some(Expectation::Memory { address, word }),
-        Change::Stored { address, word, .. } => Some(Expectation::Memory { address, word }),
+        Change::Loaded { address, word } | Change::Stored { address, word, .. } => {
+            Some(Expectation::Memory { address, word })
+        }
         Change::PutOut { word } => Some(Expectation::Output { word }),
         Change::StoppedAt { address } => Some(Expectation::Stops { address }),
         Change::Ended { standing } => Some(Expectation::Ends { standing }),
@@ -65,11 +66,12 @@ fn unmet(changes: &[Change], number: usize, part: &[u8]) -> Option<Departure>
     }
 }
 
-/// The first of the expectations of a text that is not met.
-fn first_unmet_of(changes: &[Change], text: &[u8]) -> Option<Departure>
-    ensures { result ≡ first_unmet changes.now 1 (map trimmed (slice_split (λ byte. byte == 44) text.now)) }
+/// The first expectation of a line that is not met.
+fn first_unmet(changes: &[Change], content: &[u8]) -> Option<Departure>
+    ensures { result ≡ first_unmet changes.now 1 (expected_parts content.now) }
 {
-    let mut rest = text;
+    let colon = place_of(b':', content)?;
+    let mut rest = &content[colon + 1..];
     let mut number = 1;
     while let Some((part, others)) = cut(b',', rest) {
         if let Some(why) = unmet(changes, number, part) {
@@ -79,14 +81,6 @@ fn first_unmet_of(changes: &[Change], text: &[u8]) -> Option<Departure>
         number += 1;
     }
     unmet(changes, number, rest)
-}
-
-/// The first expectation of a line that is not met.
-fn first_unmet(changes: &[Change], content: &[u8]) -> Option<Departure>
-    ensures { result ≡ first_unmet changes.now 1 (expected_parts content.now) }
-{
-    let colon = colon_in(content)?;
-    first_unmet_of(changes, &content[colon + 1..])
 }
 
 /// What a line of a complete script must list of a change.
@@ -99,38 +93,21 @@ pub(crate) fn to_list(change: Change) -> Option<Expectation>
     }
 }
 
-/// Whether a part spells this.
-fn spells(part: &[u8], done: &Expectation) -> bool
-    ensures { result ≡ spells (trimmed part.now) done.now }
-{
-    match expectation_in(trimmed(part)) {
-        Some(read) => read == *done,
-        None => false,
-    }
-}
-
-/// Whether one of the expectations of a text is this.
-fn is_listed_in(text: &[u8], done: &Expectation) -> bool
-    ensures { result ≡ is_listed (map trimmed (slice_split (λ byte. byte == 44) text.now)) done.now }
-{
-    let mut rest = text;
-    while let Some((part, others)) = cut(b',', rest) {
-        if spells(part, done) {
-            return true;
-        }
-        rest = others;
-    }
-    spells(rest, done)
-}
-
 /// Whether a line lists this.
 fn is_listed(content: &[u8], done: &Expectation) -> bool
     ensures { result ≡ is_listed (expected_parts content.now) done.now }
 {
-    match colon_in(content) {
-        Some(colon) => is_listed_in(&content[colon + 1..], done),
-        None => false,
+    let Some(colon) = place_of(b':', content) else {
+        return false;
+    };
+    let mut rest = &content[colon + 1..];
+    while let Some((part, others)) = cut(b',', rest) {
+        if expectation_in(trimmed(part)) == Some(*done) {
+            return true;
+        }
+        rest = others;
     }
+    expectation_in(trimmed(rest)) == Some(*done)
 }
 
 /// Whether a line does not list a change that a complete script must list.
@@ -161,33 +138,11 @@ fn first_not_listed(is_complete: bool, changes: &[Change], content: &[u8]) -> Op
     Some(Departure::NotListed(*change))
 }
 
-/// How a line departs from what its event did, if it does.
-fn deed_departs(is_complete: bool, changes: &[Change], content: &[u8]) -> Option<Departure>
-    ensures { result ≡ deed_departs is_complete changes.now (expected_parts content.now) }
-{
-    match first_unmet(changes, content) {
-        Some(why) => Some(why),
-        None => first_not_listed(is_complete, changes, content),
-    }
-}
-
-/// How the end of a script departs, if it does.
-pub(crate) fn end_departs(is_complete: bool, standing: Standing) -> Option<Departure>
-    ensures { result ≡ end_departs is_complete standing }
-{
-    match standing {
-        Standing::Running if is_complete => Some(Departure::NotEnded),
-        _ => None,
-    }
-}
-
-/// Why an event was refused, if it was.
-fn refusal_told(told: &Told) -> Option<Refused>
-    ensures { result ≡ refusal_told told.now }
-{
+/// What an event changed, if it was allowed.
+pub(crate) fn changes_of(told: &Told) -> &[Change] {
     match told {
-        Told::Taken(_) => None,
-        Told::Refused(refusal) => Some(*refusal),
+        Told::Taken(changes) => changes,
+        Told::Refused(_) => &[],
     }
 }
 
@@ -203,52 +158,25 @@ pub(crate) fn awaited(refusal: Refused) -> Option<Reg>
     }
 }
 
-/// Whether this register is waited for.
-fn waits_for(refusal: Refused, register: Reg) -> bool
-    ensures { result ≡ option_map_or (λ waited. waited == register) (awaited refusal) false }
-{
-    match awaited(refusal) {
-        Some(waited) => waited.get() == register.get(),
-        None => false,
-    }
-}
-
 /// Whether a refusal is the one that was expected.
 fn is_refused_so(refusal: Refused, expected: &ExpectedRefusal) -> bool
     ensures { result ≡ is_refused_so refusal expected.now }
 {
     u32::from(refusal.number_and_name().0) == expected.number
-        && match expected.register {
-            Some(register) => waits_for(refusal, register),
-            None => true,
+        && match (expected.register, awaited(refusal)) {
+            (Some(register), Some(waited)) => waited.get() == register.get(),
+            (register, _) => register.is_none(),
         }
 }
 
 /// How a line departs that expects a refusal, if it does.
-fn refusal_unmet(expected: Option<ExpectedRefusal>, refusal: Option<Refused>) -> Option<Departure>
-    ensures { result ≡ refusal_unmet expected refusal }
+fn refusal_unmet(expected: Option<ExpectedRefusal>, told: &Told) -> Option<Departure>
+    ensures { result ≡ refusal_unmet expected (refusal_told told.now) }
 {
-    let Some(expected) = expected else {
-        return Some(Departure::Unread(1));
-    };
-    let is_met = match refusal {
-        Some(refusal) => is_refused_so(refusal, &expected),
-        None => false,
-    };
-    if is_met {
-        None
-    } else {
-        Some(Departure::NotRefused(expected))
-    }
-}
-
-/// How a line that expects no refusal departs by what is told of its event, if it does.
-fn told_departs(is_complete: bool, content: &[u8], told: &Told) -> Option<Departure>
-    ensures { result ≡ told_departs is_complete (expected_parts content.now) told.now }
-{
-    match told {
-        Told::Taken(changes) => deed_departs(is_complete, changes, content),
-        Told::Refused(refusal) => Some(Departure::NotAllowed(*refusal)),
+    match (expected, told) {
+        (None, _) => Some(Departure::Unread(1)),
+        (Some(expected), Told::Refused(refusal)) if is_refused_so(*refusal, &expected) => None,
+        (Some(expected), _) => Some(Departure::NotRefused(expected)),
     }
 }
 
@@ -256,9 +184,14 @@ fn told_departs(is_complete: bool, content: &[u8], told: &Told) -> Option<Depart
 pub(crate) fn content_departs(is_complete: bool, content: &[u8], told: &Told) -> Option<Departure>
     ensures { result ≡ content_departs is_complete content.now told.now }
 {
-    if expects_refusal(content) {
-        refusal_unmet(refusal_in(content), refusal_told(told))
-    } else {
-        told_departs(is_complete, content, told)
+    if let Some(words) = behind(b"refused ", behind_colon(content)) {
+        return refusal_unmet(refusal_words_in(words), told);
+    }
+    match told {
+        Told::Refused(refusal) => Some(Departure::NotAllowed(*refusal)),
+        Told::Taken(changes) => match first_unmet(changes, content) {
+            Some(why) => Some(why),
+            None => first_not_listed(is_complete, changes, content),
+        },
     }
 }

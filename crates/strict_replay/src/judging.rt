@@ -1,18 +1,18 @@
 //! The judgement of a script with expectations.
 
-ghost use Rattle.std.specs.Prelude.{◌≡◌, ◌<◌, ◌≤◌, None, IfOk, length};
+ghost use Rattle.std.specs.Prelude.{◌≡◌, ◌<◌, ◌≤◌, IfOk, length};
 ghost use Rattle.event_script.specs.EventScript.{names_in};
 ghost use Rattle.strict_replay.specs.StrictReplay.{strict_verdict};
 
 use crate::departure::{Departed, Departure};
-use crate::expected::{content_departs, end_departs, lacks};
+use crate::expected::{changes_of, content_departs, lacks};
 use crate::reading::{content, event_text, is_silent};
 use event_script::reading::{event_of, next_line};
 use event_script::task_names::TaskNames;
 use event_trace::ring::Ring;
 use event_trace::told::Told;
 use event_trace::walk::Walk;
-use machine_model::event::Event;
+use machine_model::event::{Event, Standing};
 use mark_checker::accept::Accepted;
 use sequencer::machine::Machine;
 use std::alloc::{AllocError, Global};
@@ -49,6 +49,9 @@ pub struct Verdict<'a> {
     pub scene: Scene<'a>,
 }
 
+// The walk after a line, and how many effects of its event the line does not list; or how the line departs, and where.
+type Taken<'a> = Result<(Walk<'a>, usize), (Departure, Scene<'a>)>;
+
 /// The names of a program's tasks, and whether a script must be complete.
 #[derive(Drop)]
 struct Referee<'t> {
@@ -82,9 +85,8 @@ impl Referee<'_> {
                     lacking = lacking.saturating_add(count);
                 }
                 Err((why, scene)) => {
-                    let departed = Some(Departed { line: number, why });
                     return Ok(Verdict {
-                        departed,
+                        departed: Some(Departed { line: number, why }),
                         lacking,
                         scene,
                     });
@@ -99,9 +101,10 @@ impl Referee<'_> {
     fn at_end<'a>(&self, machine: Machine<'a>, line: usize, lacking: usize) -> Verdict<'a>
         ensures { result.departed ≡ option_map (departed line) (end_departs self.now.is_complete (state machine.entry).outcome) }
     {
-        let departed = match end_departs(self.is_complete, machine.outcome()) {
-            Some(why) => Some(Departed { line, why }),
-            None => None,
+        let why = Departure::NotEnded;
+        let departed = match machine.outcome() {
+            Standing::Running if self.is_complete => Some(Departed { line, why }),
+            _ => None,
         };
         Verdict {
             departed,
@@ -115,11 +118,7 @@ impl Referee<'_> {
 
     /// The walk after a line, and how many effects of its event it does not list; or how it departs.
     #[tactic(auto, using(crate::proofs::Passing::silent_passes, crate::proofs::Passing::unspelled_departs))]
-    fn take_line<'a>(
-        &self,
-        walk: Walk<'a>,
-        line: &[u8],
-    ) -> Result<Result<(Walk<'a>, usize), (Departure, Scene<'a>)>, AllocError>
+    fn take_line<'a>(&self, walk: Walk<'a>, line: &[u8]) -> Result<Taken<'a>, AllocError>
         requires { length self.now.names.now ≤ 1024 }
         ensures { IfOk result (λ taken. MatchResult taken
             (λ passes. Passes self.now.is_complete self.now.names.now walk.entry (content line.now) passes.0)
@@ -147,7 +146,7 @@ impl Referee<'_> {
         walk: Walk<'a>,
         event: Event,
         content: &[u8],
-    ) -> Result<Result<(Walk<'a>, usize), (Departure, Scene<'a>)>, AllocError>
+    ) -> Result<Taken<'a>, AllocError>
         requires loud { is_silent content.now ≡ false }
         requires spelt { event_in self.now.names.now (event_text content.now) ≡ Ok event }
         ensures { IfOk result (λ taken. MatchResult taken
@@ -157,26 +156,18 @@ impl Referee<'_> {
         let ring = walk.ring();
         let (next, told) = walk.step(self.alloc, &event)?;
         match content_departs(self.is_complete, content, &told) {
-            None => Ok(Ok((next, count_lacking(content, &told)))),
+            None => {
+                let unlisted = changes_of(&told)
+                    .iter()
+                    .filter(|change| lacks(content, change));
+                Ok(Ok((next, unlisted.count())))
+            }
             Some(why) => {
-                let scene = Scene {
-                    played: Some(Played { event, ring, told }),
-                    machine: next.into_machine(),
-                };
-                Ok(Err((why, scene)))
+                let played = Some(Played { event, ring, told });
+                let machine = next.into_machine();
+                Ok(Err((why, Scene { played, machine })))
             }
         }
-    }
-}
-
-/// How many effects of an event its line does not list.
-fn count_lacking(content: &[u8], told: &Told) -> usize {
-    match told {
-        Told::Taken(changes) => changes
-            .iter()
-            .filter(|change| lacks(content, change))
-            .count(),
-        Told::Refused(_) => 0,
     }
 }
 

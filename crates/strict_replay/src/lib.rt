@@ -2,6 +2,7 @@
 #![tactic(auto)]
 
 pub mod departure;
+mod effect;
 pub mod expectation;
 mod expected;
 pub mod judging;

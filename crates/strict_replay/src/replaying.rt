@@ -47,10 +47,7 @@ pub fn replay_strictly(
 fn status_of(verdict: &Verdict<'_>) -> u8
     ensures { result ≡ option_map_or (λ departed. 1) verdict.now.departed 0 }
 {
-    match verdict.departed {
-        Some(_) => 1,
-        None => 0,
-    }
+    u8::from(verdict.departed.is_some())
 }
 
 /// What is told of a script.
@@ -62,18 +59,17 @@ fn said_of(
     texts: &Texts,
     verdict: Verdict<'_>,
 ) -> Result<Vec<u8>, AllocError> {
-    let program_text = texts.program.as_slice();
-    let places = places(alloc, program_text)?;
+    let places = places(alloc, &texts.program)?;
     let page = Page {
         alloc,
         program,
-        program_text,
         places: &places,
-        script: &texts.script,
+        texts,
         units,
+        verdict: &verdict,
     };
     match format {
-        VerdictFormat::Text => Ok(page.text_of(&verdict)?.into_bytes()),
-        VerdictFormat::Json => page.object_of(&verdict),
+        VerdictFormat::Text => page.text(),
+        VerdictFormat::Json => page.object(),
     }
 }

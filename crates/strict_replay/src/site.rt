@@ -1,15 +1,12 @@
-//! Where the event of a line that departs was, and what the machine has in place of what was expected.
+//! Where the event of a line that departs was.
 
-use crate::expectation::Expectation;
-use crate::expected::done_by;
+use crate::expected::changes_of;
 use crate::judging::Played;
 use event_trace::change::Change;
 use event_trace::told::Told;
 use event_trace::unit_change::UnitChange;
 use machine_model::event::{Event, Spot};
-use mips_instructions::instruction::Op;
 use sequencer::machine::Machine;
-use task_descriptor::program::Program;
 
 /// The unit of an event.
 #[derive(Clone, Copy, Debug, PartialEq, Eq)]
@@ -39,14 +36,6 @@ pub(crate) fn site_of(played: &Played, machine: &Machine<'_>) -> Option<Site> {
     })
 }
 
-/// What an event changed, if it was allowed.
-pub(crate) fn changes_of(told: &Told) -> &[Change] {
-    match told {
-        Told::Taken(changes) => changes.as_slice(),
-        Told::Refused(_) => &[],
-    }
-}
-
 // The position of the unit that has an event.
 fn position_of(played: &Played) -> Option<u32> {
     match played.event {
@@ -62,75 +51,24 @@ fn position_of(played: &Played) -> Option<u32> {
 
 // The task and the instruction of the unit at a position, as the changes of its event have them.
 fn changed_at(told: &Told, position: u32) -> Option<(u32, Option<u32>)> {
-    for change in changes_of(told) {
-        if let Change::AtUnit {
+    changes_of(told).iter().find_map(|change| match *change {
+        Change::AtUnit {
             position: at,
             task,
             change,
-        } = *change
-        {
-            if at == position {
-                return Some((task, index_in(change)));
-            }
-        }
-    }
-    None
-}
-
-// The instruction that a change names.
-fn index_in(change: UnitChange) -> Option<u32> {
-    match change {
-        UnitChange::Executed { index } => Some(index),
+        } if at == position => match change {
+            UnitChange::Executed { index } => Some((task, Some(index))),
+            _ => Some((task, None)),
+        },
         _ => None,
-    }
+    })
 }
 
 // The task and the instruction of the unit at a position.
 fn standing_at(machine: &Machine<'_>, position: u32) -> Option<(u32, Option<u32>)> {
     let unit = machine.unit(position)?;
-    let index = match unit.spot() {
-        Spot::Inside(index) => Some(index),
-        Spot::Stopped(_) => None,
-    };
-    Some((unit.task(), index))
-}
-
-/// The address that the load or store before which a unit is would have; `None` where that is no load or store.
-pub(crate) fn address_at(program: &Program, machine: &Machine<'_>, site: &Site) -> Option<u32> {
-    let op = program.code().get(site.index? as usize)?.op;
-    let offset = match op {
-        Op::Load(_, _, _, offset) | Op::Store(_, _, _, offset) => offset,
-        _ => return None,
-    };
-    let (base, _) = op.sources();
-    let base = machine.unit(site.position)?.value(base?)?;
-    Some(base.wrapping_add(i32::from(offset).cast_unsigned()))
-}
-
-/// What an event did in place of what was expected: of the same kind and, but for memory, with the same register.
-pub(crate) fn actual(changes: &[Change], expected: &Expectation) -> Option<Expectation> {
-    for change in changes {
-        if let Some(done) = done_by(*change) {
-            if is_instead(&done, expected) {
-                return Some(done);
-            }
-        }
-    }
-    None
-}
-
-// Whether this was done in place of what was expected.
-fn is_instead(done: &Expectation, expected: &Expectation) -> bool {
-    match expected {
-        Expectation::Register { register, .. } => {
-            matches!(done, Expectation::Register { register: other, .. } if other == register)
-        }
-        Expectation::Sends { register, .. } => {
-            matches!(done, Expectation::Sends { register: other, .. } if other == register)
-        }
-        Expectation::Memory { .. } => matches!(done, Expectation::Memory { .. }),
-        Expectation::Output { .. } => matches!(done, Expectation::Output { .. }),
-        Expectation::Stops { .. } => matches!(done, Expectation::Stops { .. }),
-        Expectation::Ends { .. } => matches!(done, Expectation::Ends { .. }),
+    match unit.spot() {
+        Spot::Inside(index) => Some((unit.task(), Some(index))),
+        Spot::Stopped(_) => Some((unit.task(), None)),
     }
 }

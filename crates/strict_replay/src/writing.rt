@@ -2,12 +2,13 @@
 
 ghost use Rattle.std.specs.Prelude.{◌<◌, ◌≤◌};
 
-use crate::expectation::Expectation;
-use crate::expected::to_list;
+use crate::expectation::{Expectation, ExpectedRefusal};
+use crate::expected::{changes_of, to_list};
 use event_script::writing::write_event;
 use event_trace::change::Change;
 use event_trace::told::Told;
 use event_trace::walk::Walk;
+use json_text::Written;
 use machine_model::event::{Event, Standing};
 use mark_checker::accept::Accepted;
 use std::alloc::{AllocError, Global};
@@ -36,26 +37,15 @@ pub fn write_valued(
             write!(text, "# refused: ")?;
         }
         write_event(&mut text, accepted.program(), *event)?;
-        if let Told::Taken(changes) = &told {
-            write_done(&mut text, changes)?;
-        }
+        write_list(&mut text, " : ", changes_of(&told))?;
         writeln!(text, "")?;
     }
     Ok(text.into_bytes())
 }
 
-// Adds what changes did after a colon, if they did anything.
-fn write_done(text: &mut String, changes: &[Change]) -> Result<(), AllocError> {
-    write_list(text, " : ", changes)
-}
-
 /// Adds what changes did: the first after these words, each other after a comma. That a register was taken over from the
 /// unit before is not said.
-pub(crate) fn write_list(
-    text: &mut String,
-    words: &str,
-    changes: &[Change],
-) -> Result<(), AllocError> {
+pub(crate) fn write_list(text: &mut String, words: &str, changes: &[Change]) -> Written {
     let mut before = words;
     for change in changes {
         if let Some(done) = to_list(*change) {
@@ -68,10 +58,7 @@ pub(crate) fn write_list(
 }
 
 /// Adds an expectation, as a script spells it.
-pub(crate) fn write_expectation(
-    text: &mut String,
-    expected: Expectation,
-) -> Result<(), AllocError> {
+pub(crate) fn write_expectation(text: &mut String, expected: Expectation) -> Written {
     match expected {
         Expectation::Register { register, word } => {
             let number = register.get();
@@ -91,8 +78,19 @@ pub(crate) fn write_expectation(
     }
 }
 
+/// Adds the number of a refusal after these words, and the register that it names.
+pub(crate) fn write_refusal(text: &mut String, words: &str, refusal: ExpectedRefusal) -> Written {
+    let number = refusal.number;
+    write!(text, "{words}{number}")?;
+    if let Some(register) = refusal.register {
+        let register = register.get();
+        write!(text, " ${register}")?;
+    }
+    Ok(())
+}
+
 /// Adds how a run stands, as a script spells it.
-pub(crate) fn write_standing(text: &mut String, standing: Standing) -> Result<(), AllocError> {
+pub(crate) fn write_standing(text: &mut String, standing: Standing) -> Written {
     match standing {
         Standing::Running => write!(text, "running"),
         Standing::Halted => write!(text, "halted"),
