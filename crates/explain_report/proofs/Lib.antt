@@ -1,3 +1,2 @@
 mod Silence
-mod Counting
 mod RepairLemmas

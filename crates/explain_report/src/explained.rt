@@ -1,26 +1,22 @@
 //! The diagnostics of `explain`, from which each form of its report is made.
-ghost use Rattle.std.specs.Prelude.{◌≡◌, ◌≢◌, ◌↔◌, ◌&&◌, ◌++◌, [], Ok, Some, true, IfOk};
-ghost use Rattle.std.specs.Option.{option_map};
-ghost use Rattle.std.specs.String.{string_bytes};
+ghost use Rattle.std.specs.Prelude.{◌≡◌, ◌≢◌, ◌↔◌, ◌&&◌, ◌++◌, [], Ok, IfOk};
 ghost use Rattle.annotated_asm.specs.ProgramText.{parse};
 ghost use Rattle.annotator.specs.Least.{IsLeast};
 ghost use Rattle.input_diagnostics.specs.MistakenTexts.{mistaken_kind};
 ghost use Rattle.judged_fixes.specs.declared.judge.Marks.TheVariants.{Right, Unread};
-ghost use Rattle.explain_report.specs.Beside.{IsCertificateSaid, is_silent};
-ghost use Rattle.explain_report.specs.Explained.{AreWarned, IsGivenExplained, IsProgramExplained, IsRefusedBy, IsRefusedSaid, IsScriptSaid, are_told, said_status};
-ghost use Rattle.explain_report.specs.Order.{in_order};
+ghost use Rattle.explain_report.specs.Explained.{AreWarned, IsExplained, IsProgramExplained, IsRefusedBy, IsRefusedSaid, are_told, asked_by, final_status, is_silent, said_status};
 
-use crate::beside::{both, certificate_said, is_silent};
-use crate::explanation::Explanation;
-use crate::given::{Given, are_told};
+use crate::beside::{both, certificate_said, is_silent, script_said};
+use crate::given::Given;
 use crate::order::in_order;
 use annotated_asm::assembler::assemble;
 use annotated_asm::fault::AsmFault;
 use annotator::certify::certify;
 use diagnostics::diagnostic::Diagnostic;
 use diagnostics::listed::Listed;
-use input_diagnostics::mistaken::{Mistaken, mistaken_error, mistaken_kind};
-use input_diagnostics::script::script_errors;
+use input_diagnostics::mistaken::{mistaken_error, mistaken_kind};
+use jobs::job::Warnings;
+use judged_fixes::fixed::Fixed;
 use judged_fixes::judge::Marks;
 use judged_fixes::judged::judge_fixes;
 use judged_fixes::proposal::proposal;
@@ -33,18 +29,41 @@ use std::alloc::{AllocError, Global};
 use task_descriptor::program::Program;
 use text_diagnostics::refusal::refusal;
 
-/// The diagnostics for the texts that `explain` is given.
+/// The result of `explain` on its texts, before it is rendered.
+#[derive(Debug, Drop)]
+pub struct Explanation {
+    /// The diagnostics, in the order in which they are reported.
+    pub said: Listed<Diagnostic>,
+    /// The verdict on the marks of the program text. Where they are wrong, a run may show their harm.
+    pub marks: Marks,
+    /// The exit status: 1 where something is wrong, else 0.
+    pub status: u8,
+    /// The text with the judged fixes; of a refused text, with the fix of its first fault. `None` where none were made.
+    pub fixed: Option<Fixed>,
+}
+
+/// The diagnostics for a program text, and for what is given beside it.
 ///
 /// # Errors
 ///
 /// `AllocError` where memory was refused.
-pub fn explained(alloc: Global, given: &Given<'_>) -> Result<Explanation, AllocError>
-    ensures { IfOk result (IsGivenExplained given.now) }
+pub fn explained(alloc: Global, given: &Given<'_>, text: &[u8]) -> Result<Explanation, AllocError>
+    ensures { IfOk result (IsExplained (asked_by given.now text.now)) }
 {
-    match assemble(alloc, given.text) {
-        Ok(program) => program_explained(alloc, given, &program),
+    match assemble(alloc, text) {
+        Ok(program) => program_explained(alloc, given, text, &program),
         Err(AsmFault::OutOfMemory) => Err(AllocError),
-        Err(fault) => refusal_explained(alloc, given.text, fault),
+        Err(fault) => refusal_explained(alloc, text, fault),
+    }
+}
+
+/// The status where this is said: a warning may count as an error.
+pub(crate) fn final_status(warnings: Warnings, explained: &Explanation) -> u8
+    ensures { result ≡ final_status warnings explained.now }
+{
+    match warnings {
+        Warnings::AsErrors => status_alone(explained.said.as_slice()),
+        Warnings::Silent | Warnings::Told => explained.status,
     }
 }
 
@@ -53,24 +72,14 @@ fn refused_said(alloc: Global, text: &[u8], fault: AsmFault) -> Result<Vec<Diagn
     ensures { IfOk result (λ list. IsRefusedBy (mistaken_kind text.now) text.now fault list.items) }
 {
     match mistaken_kind(text) {
-        Some(kind) => mistaken_said(alloc, kind, text, fault),
+        Some(kind) => {
+            let said = mistaken_error(alloc, kind, text)?;
+            let mut list = Vec::new(alloc);
+            list.push(said)?;
+            Ok(list)
+        }
         None => refusal(alloc, text, fault),
     }
-}
-
-// The diagnostic for a certificate or a script of events, as the only one.
-fn mistaken_said(
-    alloc: Global,
-    kind: Mistaken,
-    text: &[u8],
-    fault: AsmFault,
-) -> Result<Vec<Diagnostic>, AllocError>
-    ensures { IfOk result (λ list. IsRefusedBy (Some kind) text.now fault list.items) }
-{
-    let said = mistaken_error(alloc, kind, text)?;
-    let mut list = Vec::new(alloc);
-    list.push(said)?;
-    Ok(list)
 }
 
 // The diagnostics for a text that spells no program.
@@ -92,19 +101,18 @@ fn refusal_explained(alloc: Global, text: &[u8], fault: AsmFault) -> Result<Expl
 fn program_explained(
     alloc: Global,
     given: &Given<'_>,
+    text: &[u8],
     program: &Program,
 ) -> Result<Explanation, AllocError>
-    requires { parse given.now.text.now ≡ Ok program.now }
-    ensures { IfOk result (λ explained. IsProgramExplained (option_map string_bytes given.now.cert_file.now)
-        (option_map string_bytes given.now.script_file.now) (are_told given.now.warnings) given.now.text.now given.now.certificate.now given.now.script.now program.now explained) }
+    requires { parse text.now ≡ Ok program.now }
+    ensures { IfOk result (IsProgramExplained (asked_by given.now text.now) program.now) }
 {
-    let text = given.text;
     let least = certify(alloc, program)?;
     let errors = mark_errors(alloc, text, program, &least)?;
-    let asked = is_asked(are_told(given.warnings), &errors);
+    let asked = is_asked(given.warnings, &errors);
     let warned = warned(alloc, text, program, &least, asked)?;
-    let certified = certificate_said(alloc, given, program, &least)?;
-    let scripted = script_said(alloc, given.script_file, program, given.script)?;
+    let certified = certificate_said(alloc, given, text, program, &least)?;
+    let scripted = script_said(alloc, given, text, program)?;
     let beside = both(certified, scripted)?;
     let status = status_of(&errors, &beside);
     let marks = marks_by(errors.as_slice());
@@ -120,22 +128,17 @@ fn program_explained(
     })
 }
 
-// What is wrong with the text of an event script, if a file of one is named.
-fn script_said(
-    alloc: Global,
-    file: &Option<String>,
-    program: &Program,
-    script: &[u8],
-) -> Result<Vec<Diagnostic>, AllocError>
-    ensures { IfOk result (λ list. IsScriptSaid (option_map string_bytes file.now) program.now script.now list.items) }
+// Whether warnings are to be reported: they are asked for, and nothing is wrong with the marks.
+fn is_asked(warnings: Warnings, errors: &[Diagnostic]) -> bool
+    ensures { result ≡ (are_told warnings && is_silent errors.now) }
 {
-    match file {
-        Some(_) => script_errors(alloc, script, program),
-        None => Ok(Vec::new(alloc)),
+    match warnings {
+        Warnings::Silent => false,
+        Warnings::Told | Warnings::AsErrors => is_silent(errors),
     }
 }
 
-// What could be better about the marks, where that is asked for.
+// What could be better about the marks, and the releases that may be forgotten, where that is asked for.
 fn warned(
     alloc: Global,
     text: &[u8],
@@ -148,33 +151,13 @@ fn warned(
     ensures { IfOk result (λ list. AreWarned asked text.now program.now list.items) }
 {
     if asked {
-        all_warnings(alloc, text, program, least)
+        let marks = mark_warnings(alloc, text, program, least)?;
+        let releases = release_warnings(alloc, text, program, least)?;
+        let list = both(marks, releases)?;
+        Ok(list)
     } else {
         Ok(Vec::new(alloc))
     }
-}
-
-// What could be better about the marks, and the releases that may be forgotten.
-fn all_warnings(
-    alloc: Global,
-    text: &[u8],
-    program: &Program,
-    least: &Cert,
-) -> Result<Vec<Diagnostic>, AllocError>
-    requires spelled { parse text.now ≡ Ok program.now }
-    requires least { IsLeast program.now least.now }
-    ensures { IfOk result (λ list. AreWarned true text.now program.now list.items) }
-{
-    let marks = mark_warnings(alloc, text, program, least)?;
-    let releases = release_warnings(alloc, text, program, least)?;
-    both(marks, releases)
-}
-
-// Whether warnings are to be reported: they are asked for, and nothing is wrong with the marks.
-fn is_asked(warnings: bool, errors: &[Diagnostic]) -> bool
-    ensures { result ≡ (warnings && is_silent errors.now) }
-{
-    warnings && is_silent(errors)
 }
 
 // What a program's marks are of which this is wrong.
@@ -199,8 +182,8 @@ fn status_of(errors: &[Diagnostic], beside: &[Diagnostic]) -> u8
     }
 }
 
-/// The status of what is wrong: 0 where it is nothing.
-pub(crate) fn status_alone(list: &[Diagnostic]) -> u8
+// The status of what is wrong: 0 where it is nothing.
+fn status_alone(list: &[Diagnostic]) -> u8
     ensures { result ≡ said_status list.now }
 {
     match list {

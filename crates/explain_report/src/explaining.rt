@@ -1,14 +1,11 @@
 //! The job `explain`: the diagnostics rendered as text, as a log in SARIF, or as lines of JSON.
-ghost use Rattle.std.specs.Prelude.{◌≡◌, IfOk};
+ghost use Rattle.std.specs.Prelude.{IfOk};
 ghost use Rattle.std.specs.Option.{option_map};
 ghost use Rattle.std.specs.String.{string_bytes};
-ghost use Rattle.explain_report.specs.ExplainText.{IsExplainReport};
-ghost use Rattle.explain_report.specs.Explained.{IsGivenExplained};
+ghost use Rattle.explain_report.specs.Explained.{IsExplainReport};
 
-use crate::explained::explained;
-use crate::explanation::Explanation;
-use crate::given::{Given, final_status};
-use crate::inputs::{file_lines, file_name, joined};
+use crate::explained::{Explanation, explained, final_status};
+use crate::given::{Given, file_lines, file_name, joined};
 use diagnostic_log::json_lines::lines_text;
 use diagnostic_log::sarif::{Logged, log_text};
 use diagnostics::colour::Colour;
@@ -43,66 +40,53 @@ pub fn explain(
     ensures { IfOk result (λ report. IsExplainReport (option_map string_bytes cert_file.now) (option_map string_bytes script_file.now) warnings
         texts.now.program.items texts.now.certificate texts.now.script.items report) }
 {
-    let certificate = joined(alloc, &texts.certificate)?;
     let given = Given {
         name,
         cert_file,
         script_file,
         warnings,
-        text: &texts.program,
-        certificate: &certificate,
-        script: &texts.script,
+        texts,
     };
-    let explained = explained(alloc, &given)?;
-    let bytes = written(alloc, format, asked, &given, &explained)?;
+    let explained = explained(alloc, &given, &texts.program)?;
+    let bytes = written(alloc, format, asked, &given, &texts.program, &explained)?;
     Ok(JobReport::new(bytes, final_status(warnings, &explained)))
 }
 
-/// What is said of what is given, in a format.
+/// What is said of a program text, in a format.
 pub(crate) fn written(
     alloc: Global,
     format: Format,
     asked: Colors,
     given: &Given<'_>,
+    text: &[u8],
     explained: &Explanation,
 ) -> Result<Vec<u8>, AllocError> {
-    let rows = lines_of(alloc, given.text)?;
-    let beside = file_lines(alloc, given.cert_file, given.certificate)?;
-    let events = file_lines(alloc, given.script_file, given.script)?;
+    let certificate = joined(alloc, &given.texts.certificate)?;
+    let rows = lines_of(alloc, text)?;
+    let beside = file_lines(alloc, given.cert_file, &certificate)?;
+    let events = file_lines(alloc, given.script_file, &given.texts.script)?;
     let files = Files {
-        program: TextFile {
-            name: given.name,
-            rows: &rows,
-        },
-        certificate: TextFile {
-            name: file_name(given.cert_file),
-            rows: &beside,
-        },
-        script: TextFile {
-            name: file_name(given.script_file),
-            rows: &events,
-        },
+        program: file(given.name, &rows),
+        certificate: file(file_name(given.cert_file), &beside),
+        script: file(file_name(given.script_file), &events),
     };
-    said_in(alloc, format, asked, &files, given.warnings, explained)
-}
-
-// What is said of the texts in these files, in a format.
-fn said_in(
-    alloc: Global,
-    format: Format,
-    asked: Colors,
-    files: &Files<'_>,
-    warnings: Warnings,
-    explained: &Explanation,
-) -> Result<Vec<u8>, AllocError> {
     match format {
         Format::Sarif => {
             let mut list = Vec::new(alloc);
-            list.push(logged(*files, explained))?;
-            log_text(alloc, &list, final_status(warnings, explained))
+            list.push(logged(files, explained))?;
+            log_text(alloc, &list, final_status(given.warnings, explained))
         }
-        Format::Json => lines_text(alloc, files, explained.said.as_slice(), mends(explained)),
-        Format::Text => text_for(alloc, asked, files, explained),
+        Format::Json => lines_text(alloc, &files, explained.said.as_slice(), mends(explained)),
+        Format::Text => text_for(alloc, asked, &files, explained),
+    }
+}
+
+/// The files of a command that has the file of a program alone, with this name and these lines.
+pub(crate) fn alone<'a>(name: &'a str, rows: &'a [&'a [u8]]) -> Files<'a> {
+    Files {
+        program: file(name, rows),
+        certificate: file("", &[]),
+        script: file("", &[]),
     }
 }
 
@@ -113,6 +97,16 @@ pub(crate) fn logged<'a>(files: Files<'a>, explained: &'a Explanation) -> Logged
         diagnostics: explained.said.as_slice(),
         mends: mends(explained),
     }
+}
+
+/// Whether this is an error of the program.
+pub(crate) fn is_error(said: &Diagnostic) -> bool {
+    said.source == Source::Program && said.severity == Severity::Error
+}
+
+// A file with this name and these lines.
+fn file<'a>(name: &'a str, rows: &'a [&'a [u8]]) -> TextFile<'a> {
+    TextFile { name, rows }
 }
 
 // What is said, for a person.
@@ -141,8 +135,8 @@ fn text_for(
     Ok(text.into_bytes())
 }
 
-/// Whether what is told to write makes wrong marks right.
-pub(crate) fn mends(explained: &Explanation) -> bool {
+// Whether what is told to write makes wrong marks right.
+fn mends(explained: &Explanation) -> bool {
     match &explained.fixed {
         Some(fixed) => fixed.is_right && explained.marks == Marks::Wrong,
         None => false,
@@ -151,23 +145,17 @@ pub(crate) fn mends(explained: &Explanation) -> bool {
 
 // Adds that with the fixes that are told the marks are right; where not every error has one, with the fixes of which lines.
 fn write_right(alloc: Global, text: &mut String, said: &[Diagnostic]) -> Result<(), AllocError> {
-    let mut lines = Vec::new(alloc);
-    let mut fixes: usize = 0;
-    let mut is_each = true;
-    for one in said {
-        if one.severity == Severity::Error && one.source == Source::Program {
-            if has_fix(one) {
-                fixes = fixes.saturating_add(1);
-                lines.push(one.span.map_or(0, |span| span.line))?;
-            } else {
-                is_each = false;
-            }
-        }
-    }
+    let errors = said.iter().filter(|one| is_error(*one)).count();
+    let mut lines: Vec<u32> = said
+        .iter()
+        .filter(|one| is_error(*one) && has_fix(*one))
+        .map(|one| one.span.map_or(0, |span| span.line))
+        .collect(alloc)?;
+    let fixes = lines.len();
     lines.dedup();
-    match (is_each, fixes) {
-        (true, 1) => writeln!(text, "with this fix the marks are right"),
-        (true, _) => writeln!(text, "with these {fixes} fixes the marks are right"),
+    match fixes {
+        1 if errors == 1 => writeln!(text, "with this fix the marks are right"),
+        _ if errors == fixes => writeln!(text, "with these {fixes} fixes the marks are right"),
         _ => write_lines(text, &lines),
     }
 }

@@ -1,12 +1,12 @@
-//! The texts that `explain` is given.
-ghost use Rattle.std.specs.Prelude.{◌≡◌};
-ghost use Rattle.explain_report.specs.Explained.{are_told, final_status};
+//! What `explain` is given beside the text of a program.
+ghost use Rattle.std.specs.Prelude.{◌≡◌, IfOk};
 
-use crate::explained::status_alone;
-use crate::explanation::Explanation;
-use jobs::job::Warnings;
+use jobs::job::{Texts, Warnings};
+use operand_forms::rows::lines_of;
+use std::alloc::{AllocError, Global};
+use text_pieces::text::Text;
 
-/// The texts that `explain` is given, a program and, where a file of one is named, a certificate and an event script, and
+/// What `explain` is given beside the text of a program: the names of the files, the texts of those that are named, and
 /// what it does about marks that cost speed.
 #[derive(Clone, Copy)]
 pub struct Given<'a> {
@@ -18,30 +18,38 @@ pub struct Given<'a> {
     pub script_file: &'a Option<String>,
     /// What is done about marks that cost speed.
     pub warnings: Warnings,
-    /// The program text.
-    pub text: &'a [u8],
-    /// The text of the certificate.
-    pub certificate: &'a [u8],
-    /// The text of the script.
-    pub script: &'a [u8],
+    /// The texts of the job.
+    pub texts: &'a Texts,
 }
 
-/// Whether there are warnings.
-pub(crate) fn are_told(warnings: Warnings) -> bool
-    ensures { result ≡ are_told warnings }
-{
-    match warnings {
-        Warnings::Silent => false,
-        Warnings::Told | Warnings::AsErrors => true,
+/// The name of a file; empty where none is named.
+pub(crate) fn file_name(file: &Option<String>) -> &str {
+    match file {
+        Some(file) => file.as_str(),
+        None => "",
     }
 }
 
-/// The status where this is said: a warning may count as an error.
-pub(crate) fn final_status(warnings: Warnings, explained: &Explanation) -> u8
-    ensures { result ≡ final_status warnings explained.now }
-{
-    match warnings {
-        Warnings::AsErrors => status_alone(explained.said.as_slice()),
-        Warnings::Silent | Warnings::Told => explained.status,
+/// The lines of a text in a file, if one is named; else none.
+pub(crate) fn file_lines<'a>(
+    alloc: Global,
+    file: &Option<String>,
+    text: &'a [u8],
+) -> Result<Vec<&'a [u8]>, AllocError> {
+    match file {
+        Some(_) => lines_of(alloc, text),
+        None => Ok(Vec::new(alloc)),
     }
+}
+
+/// The bytes of a text in pieces.
+pub(crate) fn joined(alloc: Global, text: &Text) -> Result<Vec<u8>, AllocError>
+    ensures { IfOk result (λ bytes. bytes.items ≡ text.now) }
+{
+    let pieces = text.pieces(alloc)?;
+    let mut bytes = Vec::new(alloc);
+    for piece in &pieces {
+        bytes.extend_from_slice(piece)?;
+    }
+    Ok(bytes)
 }

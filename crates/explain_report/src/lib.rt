@@ -6,13 +6,9 @@
 mod beside;
 pub mod explained;
 pub mod explaining;
-pub mod explanation;
 pub mod given;
-mod inputs;
 pub mod laws;
-pub mod left;
 pub mod logging;
 pub mod order;
 pub mod proposal;
-pub mod repaired;
 pub mod repairing;

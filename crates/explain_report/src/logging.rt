@@ -1,15 +1,12 @@
 //! A SARIF log of what `explain` finds in several programs.
-ghost use Rattle.std.specs.Prelude.{◌≡◌, ◌++◌, ◌∷◌, [], None, IfOk};
-ghost use Rattle.explain_report.specs.ExplainText.{IsExplainReport};
-ghost use Rattle.explain_report.specs.Logs.{names_of, texts_of};
+ghost use Rattle.std.specs.Prelude.{◌≡◌, ◌++◌, ◌∷◌, [], None, map as each, IfOk};
+ghost use Rattle.std.specs.String.{string_bytes};
+ghost use Rattle.explain_report.specs.Explained.{IsExplainReport};
 
-use crate::explained::explained;
-use crate::explaining::logged;
-use crate::explanation::Explanation;
-use crate::given::{Given, final_status};
-use crate::inputs::{alone, joined};
+use crate::explained::{Explanation, explained, final_status};
+use crate::explaining::{alone, logged};
+use crate::given::Given;
 use diagnostic_log::sarif::{Logged, log_text};
-use diagnostics::files::TextFile;
 use jobs::job::{Texts, Warnings};
 use operand_forms::rows::lines_of;
 use std::alloc::{AllocError, Global};
@@ -40,21 +37,20 @@ pub fn add_program(
 ) -> Result<u8, AllocError>
     ensures status { IfOk result (λ status. IsExplainReport None None warnings texts.now.program.items texts.now.certificate texts.now.script.items
         record { bytes = []; status = status }) }
-    ensures names { IfOk result (λ status. names_of programs.new.items ≡ names_of programs.old.items ++ (name.now ∷ [])) }
-    ensures texts { IfOk result (λ status. texts_of programs.new.items ≡ texts_of programs.old.items ++ (texts.now.program.items ∷ [])) }
+    ensures names { IfOk result (λ status. each (λ p. string_bytes p.name) programs.new.items
+        ≡ each (λ p. string_bytes p.name) programs.old.items ++ (name.now ∷ [])) }
+    ensures texts { IfOk result (λ status. each (λ p. p.text.items) programs.new.items
+        ≡ each (λ p. p.text.items) programs.old.items ++ (texts.now.program.items ∷ [])) }
 {
     let none: Option<String> = None;
-    let certificate = joined(alloc, &texts.certificate)?;
     let given = Given {
         name,
         cert_file: &none,
         script_file: &none,
         warnings,
-        text: &texts.program,
-        certificate: &certificate,
-        script: &texts.script,
+        texts,
     };
-    let said = explained(alloc, &given)?;
+    let said = explained(alloc, &given, &texts.program)?;
     let status = final_status(warnings, &said);
     programs.push(LoggedProgram {
         name: String::from_str(alloc, name)?,
@@ -90,16 +86,8 @@ fn logged_programs<'a, 'b>(
 ) -> Result<Vec<Logged<'b>>, AllocError> {
     let mut list = Vec::new(alloc);
     for (program, rows) in programs.iter().zip(rows.iter()) {
-        list.push(logged_lines(program, rows.as_slice()))?;
+        let files = alone(program.name.as_str(), rows.as_slice());
+        list.push(logged(files, &program.said))?;
     }
     Ok(list)
-}
-
-// A program of a log, of whose text these are the lines.
-fn logged_lines<'a, 'b>(program: &'b LoggedProgram, rows: &'b [&'a [u8]]) -> Logged<'b> {
-    let file = TextFile {
-        name: program.name.as_str(),
-        rows,
-    };
-    logged(alone(file), &program.said)
 }

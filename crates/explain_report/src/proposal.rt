@@ -1,28 +1,33 @@
 //! What is left to mend by hand in what `annotate` proposes.
 ghost use Rattle.std.specs.Prelude.{◌≡◌, Ok, IfOk};
 ghost use Rattle.annotated_asm.specs.ProgramText.{parse};
-ghost use Rattle.annotator.specs.Least.{IsLeast};
-ghost use Rattle.explain_report.specs.LeftOvers.{IsFindingCount, IsLeftIn, IsLeftOf, IsLeftOver};
+ghost use Rattle.explain_report.specs.LeftOvers.{IsFindingCount, IsLeftOf, IsLeftOver};
 
-use crate::inputs::alone;
-use crate::left::LeftOver;
+use crate::explaining::alone;
 use crate::order::in_order;
 use annotated_asm::assembler::assemble;
 use annotated_asm::fault::AsmFault;
 use annotator::certify::certify;
 use diagnostics::colour::Colour;
 use diagnostics::diagnostic::Diagnostic;
-use diagnostics::files::TextFile;
 use diagnostics::text::text_of;
-use finding_paths::shown::shown_findings;
 use jobs::job::{Emit, Job};
+use mark_checker::check::verdict;
 use mark_diagnostics::error::mark_errors;
-use mask_certificate::certificate::Cert;
 use operand_forms::rows::lines_of;
 use report_texts::annotating::annotate;
 use shown_names::name::shown_name;
 use std::alloc::{AllocError, Global};
 use task_descriptor::program::Program;
+
+/// What is left to mend by hand in a text.
+#[derive(Debug, Drop)]
+pub struct LeftOver {
+    /// The text for standard error: the report of `explain`, and a line that says how much is left.
+    pub said: Vec<u8>,
+    /// How many findings are left; 0 where all marks are right.
+    pub count: usize,
+}
 
 /// What is left to mend by hand in the text that `annotate` proposes for a program text in a file of this name. `written`
 /// and `status` are the job's report; where that is a certificate, the text is the one that `annotate --emit marks`
@@ -63,7 +68,7 @@ fn left_of(
     status: u8,
     text: &[u8],
 ) -> Result<Option<LeftOver>, AllocError>
-    ensures { IfOk result (λ left. IsLeftOf name.now record { bytes = text.now; status = status } left) }
+    ensures { IfOk result (IsLeftOf record { bytes = text.now; status = status }) }
 {
     if status != 0 {
         return Ok(None);
@@ -83,41 +88,29 @@ fn left_in(
     program: &Program,
 ) -> Result<LeftOver, AllocError>
     requires { parse text.now ≡ Ok program.now }
-    ensures { IfOk result (λ left. IsLeftIn name.now text.now program.now left) }
+    ensures { IfOk result (λ left. IsFindingCount program.now left.count) }
 {
     let least = certify(alloc, program)?;
     let errors = in_order(alloc, mark_errors(alloc, text, program, &least)?)?;
-    let count = finding_count(alloc, program, &least)?;
-    let rows = lines_of(alloc, text)?;
-    let said = said_of(alloc, name, &rows, &errors, count)?;
+    let count = verdict(alloc, program, &least)?.findings.as_slice().len();
+    let said = said_of(alloc, name, text, &errors, count)?;
     Ok(LeftOver { said, count })
 }
 
-// What `explain` says of a text with these lines, and a line that says how much is left.
+// What `explain` says of a text, and a line that says how much is left.
 fn said_of(
     alloc: Global,
     name: &str,
-    rows: &[&[u8]],
+    text: &[u8],
     errors: &[Diagnostic],
     count: usize,
 ) -> Result<Vec<u8>, AllocError> {
-    let files = alone(TextFile { name, rows });
-    let mut said = text_of(alloc, &files, errors, Colour::Never)?;
+    let rows = lines_of(alloc, text)?;
+    let mut said = text_of(alloc, &alone(name, &rows), errors, Colour::Never)?;
     let name = shown_name(alloc, name)?;
-    if count == 0 {
-        writeln!(said, "multiscalar: {name}: all marks are right")?;
-    } else {
-        writeln!(said, "multiscalar: {name}: {count} left to fix by hand")?;
+    match count {
+        0 => writeln!(said, "multiscalar: {name}: all marks are right")?,
+        _ => writeln!(said, "multiscalar: {name}: {count} left to fix by hand")?,
     }
     Ok(said.into_bytes())
-}
-
-// How many findings a program has.
-#[tactic(auto, using(crate::proofs::Counting::all_counted))]
-fn finding_count(alloc: Global, program: &Program, least: &Cert) -> Result<usize, AllocError>
-    requires { IsLeast program.now least.now }
-    ensures { IfOk result (λ count. IsFindingCount program.now count) }
-{
-    let findings = shown_findings(alloc, program, least, 0)?;
-    Ok(findings.more)
 }

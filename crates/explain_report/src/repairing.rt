@@ -5,18 +5,30 @@ ghost use Rattle.std.specs.String.{string_bytes};
 ghost use Rattle.explain_report.specs.Explained.{final_status};
 ghost use Rattle.explain_report.specs.Repairs.{IsRepaired};
 
-use crate::explained::explained;
-use crate::explaining::written;
-use crate::explanation::Explanation;
-use crate::given::{Given, final_status};
-use crate::inputs::joined;
-use crate::repaired::Repaired;
-use diagnostics::diagnostic::{Diagnostic, Severity, Source};
+use crate::explained::{Explanation, explained, final_status};
+use crate::explaining::{is_error, written};
+use crate::given::Given;
+use diagnostics::diagnostic::{Severity, Source};
 use diagnostics::listed::Listed;
 use jobs::job::{Colors, Format, Texts, Warnings};
 use judged_fixes::judge::Marks;
 use shown_names::name::shown_name;
 use std::alloc::{AllocError, Global};
+
+/// The result of `explain --fix`: a program's text with fixes, and the reports on it.
+#[derive(Debug, Drop)]
+pub struct Repaired {
+    /// The report of `explain` on the text as it was.
+    pub said: Vec<u8>,
+    /// The text with the judged fixes; as it was where none were made.
+    pub text: Listed<u8>,
+    /// The verdict on its marks.
+    pub marks: Marks,
+    /// The exit status of `explain` on it.
+    pub status: u8,
+    /// The line for standard error: how many fixes were made, and what is left.
+    pub line: Vec<u8>,
+}
 
 /// The result of `explain --fix` on a program text, whose file has this name, and on the texts of a certificate and of an
 /// event script, where a file of one is named.
@@ -36,28 +48,22 @@ pub fn repair(
     ensures { IfOk result (IsRepaired (option_map string_bytes cert_file.now) (option_map string_bytes script_file.now) warnings
         texts.now.program.items texts.now.certificate texts.now.script.items) }
 {
-    let certificate = joined(alloc, &texts.certificate)?;
     let given = Given {
         name,
         cert_file,
         script_file,
         warnings,
-        text: &texts.program,
-        certificate: &certificate,
-        script: &texts.script,
+        texts,
     };
-    let before = explained(alloc, &given)?;
-    let said = written(alloc, Format::Text, asked, &given, &before)?;
+    let before = explained(alloc, &given, &texts.program)?;
+    let said = written(alloc, Format::Text, asked, &given, &texts.program, &before)?;
     match &before.fixed {
         Some(fixed) => {
-            let new = Given {
-                text: fixed.text.as_slice(),
-                ..given
-            };
-            let after = explained(alloc, &new)?;
-            repaired_as(alloc, &new, said, fixed.fixes, &after)
+            let text = fixed.text.as_slice();
+            let after = explained(alloc, &given, text)?;
+            repaired_as(alloc, &given, text, said, fixed.fixes, &after)
         }
-        None => repaired_as(alloc, &given, said, 0, &before),
+        None => repaired_as(alloc, &given, &texts.program, said, 0, &before),
     }
 }
 
@@ -65,18 +71,19 @@ pub fn repair(
 fn repaired_as(
     alloc: Global,
     given: &Given<'_>,
+    text: &[u8],
     said: Vec<u8>,
     fixes: usize,
     after: &Explanation,
 ) -> Result<Repaired, AllocError>
-    ensures text { IfOk result (λ r. r.text ≡ given.now.text.now) }
+    ensures text { IfOk result (λ r. r.text ≡ text.now) }
     ensures marks { IfOk result (λ r. r.marks ≡ after.now.marks) }
     ensures status { IfOk result (λ r. r.status ≡ final_status given.now.warnings after.now) }
 {
     let line = line_of(alloc, given.name, fixes, after)?;
     Ok(Repaired {
         said,
-        text: Listed::new(given.text.to_vec(alloc)?),
+        text: Listed::new(text.to_vec(alloc)?),
         marks: after.marks,
         status: final_status(given.warnings, after),
         line,
@@ -98,26 +105,14 @@ fn line_of(
         _ => write!(line, "multiscalar: {name}: {fixes} fixes applied, ")?,
     }
     let said = after.said.as_slice();
-    match (
-        after.marks,
-        said.iter().filter(|one| is_error(*one)).count(),
-    ) {
+    let errors = said.iter().filter(|one| is_error(*one)).count();
+    let is_more = said.iter().any(|one| one.source == Source::Program
+        && one.severity == Severity::Note);
+    match (after.marks, errors) {
         (Marks::Right, _) => writeln!(line, "all marks are right")?,
         (_, 1) => writeln!(line, "1 error left")?,
-        (_, errors) if said.iter().any(|one| is_rest(one)) => {
-            writeln!(line, "more than {errors} errors left")?
-        }
-        (_, errors) => writeln!(line, "{errors} errors left")?,
+        _ if is_more => writeln!(line, "more than {errors} errors left")?,
+        _ => writeln!(line, "{errors} errors left")?,
     }
     Ok(line.into_bytes())
-}
-
-// Whether this is an error of the program.
-fn is_error(said: &Diagnostic) -> bool {
-    said.source == Source::Program && said.severity == Severity::Error
-}
-
-// Whether this says that there are more errors of the program.
-fn is_rest(said: &Diagnostic) -> bool {
-    said.source == Source::Program && said.severity == Severity::Note
 }
