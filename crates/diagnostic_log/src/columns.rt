@@ -25,13 +25,8 @@ pub(crate) struct Columns {
 
 /// How many bytes continue a character.
 fn inside(bytes: &[u8]) -> usize {
-    let mut count = 0usize;
-    for byte in bytes {
-        if matches!(*byte, 128..=191) {
-            count = count.saturating_add(1);
-        }
-    }
-    count
+    let inside = bytes.iter().filter(|byte| matches!(**byte, 128..=191));
+    inside.count()
 }
 
 /// The marks of a line.
@@ -48,10 +43,8 @@ fn marks_of(alloc: Global, row: &[u8]) -> Result<Vec<usize>, AllocError> {
 impl Columns {
     /// The columns of texts that nothing is known of yet.
     pub(crate) fn new(alloc: Global) -> Columns {
-        Columns {
-            alloc,
-            rulers: Vec::new(alloc),
-        }
+        let rulers = Vec::new(alloc);
+        Columns { alloc, rulers }
     }
 
     /// How many bytes before a mark of a line continue a character.

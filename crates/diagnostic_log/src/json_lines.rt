@@ -1,6 +1,6 @@
 //! Diagnostics as lines of JSON: an object for each.
 
-use crate::paths::told;
+use crate::paths::{is_listed, left_out};
 use crate::results::severity_word;
 use diagnostics::diagnostic::{Diagnostic, Help, Note, Severity, Source, Span};
 use diagnostics::files::Files;
@@ -9,41 +9,32 @@ use std::alloc::{AllocError, Global};
 
 /// Adds where a part of a line is, or that none is meant.
 fn write_place(out: &mut JsonText, span: Option<Span>) -> Written {
-    match span {
-        Some(span) => {
-            out.number("line", span.line as usize)?;
-            out.number("column", span.column)?;
-            out.number("width", span.width)
-        }
-        None => {
-            out.null("line")?;
-            out.null("column")?;
-            out.null("width")
-        }
-    }
-}
-
-/// Adds places on a path.
-fn write_steps(out: &mut JsonText, path: &[Span]) -> Written {
-    for span in path {
-        out.begin()?;
-        write_place(out, Some(*span))?;
-        out.end()?;
-    }
-    Ok(())
+    let Some(span) = span else {
+        out.null("line")?;
+        out.null("column")?;
+        return out.null("width");
+    };
+    out.number("line", span.line as usize)?;
+    out.number("column", span.column)?;
+    out.number("width", span.width)
 }
 
 /// Adds a note.
 fn write_note(out: &mut JsonText, note: &Note) -> Written {
-    let told = told(note.path.as_slice());
+    let path = note.path.as_slice();
     out.begin()?;
     write_place(out, note.span)?;
     out.text("message", note.message.as_str())?;
     out.list("path")?;
-    write_steps(out, told.front)?;
-    write_steps(out, told.back)?;
+    for (number, span) in path.iter().enumerate() {
+        if is_listed(path, number) {
+            out.begin()?;
+            write_place(out, Some(*span))?;
+            out.end()?;
+        }
+    }
     out.end_list()?;
-    out.number("left_out", told.left_out)?;
+    out.number("left_out", left_out(path))?;
     out.end()
 }
 

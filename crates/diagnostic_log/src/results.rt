@@ -1,8 +1,8 @@
 //! The results of a log as JSON: one for each diagnostic.
 
-use crate::artifact::{Artifacts, named_artifact, write_artifact};
+use crate::artifact::{write_artifact, write_named};
 use crate::columns::Columns;
-use crate::paths::told;
+use crate::paths::{is_listed, left_out};
 use diagnostics::code::Code;
 use diagnostics::diagnostic::{Diagnostic, Help, Note, Severity, Source, Span};
 use diagnostics::files::Files;
@@ -19,21 +19,12 @@ pub(crate) fn severity_word(severity: Severity) -> &'static str {
     }
 }
 
-/// Where it is told what to do: at the first change, or else at the diagnostic's own place.
-fn help_place(said: &Diagnostic, help: &Help) -> Option<Span> {
-    match help.replacements.as_slice() {
-        [change, ..] => Some(change.span),
-        [] => said.span,
-    }
-}
-
 /// The results that are added to a log, about texts of which one is meant.
 #[derive(Drop)]
 pub(crate) struct Results<'a> {
     pub(crate) alloc: Global,
     pub(crate) out: &'a mut JsonText,
     pub(crate) files: &'a Files<'a>,
-    pub(crate) artifacts: &'a Artifacts,
     pub(crate) rules: &'a [Code],
     pub(crate) columns: Columns,
     pub(crate) source: Source,
@@ -57,56 +48,48 @@ impl<'a> Results<'a> {
         self.out.end()
     }
 
-    /// Begins a location: a place in the text, or the text as a whole.
-    fn begin_location(&mut self, span: Option<Span>) -> Written {
+    /// Adds the text's file, as the member of this name.
+    fn file(&mut self) -> Written {
+        self.out.key("artifactLocation")?;
+        write_artifact(self.alloc, self.out, self.files.text_of(self.source).name)
+    }
+
+    /// Adds a location, with a message about it, if there is one: a place in the text, or the text as a whole.
+    fn location(&mut self, span: Option<Span>, sentence: &str) -> Written {
         self.out.begin()?;
         self.out.object("physicalLocation")?;
-        self.out.key("artifactLocation")?;
-        write_artifact(self.out, self.artifacts.of(self.source))?;
+        self.file()?;
         if let Some(span) = span {
             self.region("region", span)?;
         }
-        self.out.end()
-    }
-
-    /// Adds a location with a message about it.
-    fn said(&mut self, span: Option<Span>, sentence: &str) -> Written {
-        self.begin_location(span)?;
-        self.out.message("message", sentence)?;
-        self.out.end()
-    }
-
-    /// Adds places on a path.
-    fn steps(&mut self, path: &[Span]) -> Written {
-        for span in path {
-            self.out.begin()?;
-            self.out.key("location")?;
-            self.begin_location(Some(*span))?;
-            self.out.end()?;
-            self.out.end()?;
+        self.out.end()?;
+        if !sentence.is_empty() {
+            self.out.message("message", sentence)?;
         }
-        Ok(())
+        self.out.end()
     }
 
-    /// Adds a note's path, if it has one.
+    /// Adds a note's path.
     fn flow(&mut self, note: &Note) -> Written {
         let path = note.path.as_slice();
-        if path.is_empty() {
-            return Ok(());
-        }
-        let told = told(path);
         self.out.begin()?;
         self.out.message("message", note.message.as_str())?;
         self.out.list("threadFlows")?;
         self.out.begin()?;
         self.out.list("locations")?;
-        self.steps(told.front)?;
-        self.steps(told.back)?;
+        for (number, span) in path.iter().enumerate() {
+            if is_listed(path, number) {
+                self.out.begin()?;
+                self.out.key("location")?;
+                self.location(Some(*span), "")?;
+                self.out.end()?;
+            }
+        }
         self.out.end_list()?;
-        if told.left_out > 0 {
+        let count = left_out(path);
+        if count > 0 {
             let text = format!(in self.alloc;
-                "{} places in the middle of the path are left out",
-                told.left_out
+                "{count} places in the middle of the path are left out"
             )?;
             self.out.message("message", text.as_str())?;
         }
@@ -121,8 +104,7 @@ impl<'a> Results<'a> {
         self.out.message("description", help.message.as_str())?;
         self.out.list("artifactChanges")?;
         self.out.begin()?;
-        self.out.key("artifactLocation")?;
-        write_artifact(self.out, self.artifacts.of(self.source))?;
+        self.file()?;
         self.out.list("replacements")?;
         for change in help.replacements.as_slice() {
             self.out.begin()?;
@@ -139,20 +121,16 @@ impl<'a> Results<'a> {
     }
 
     /// Adds the line of C that a place comes from, if a comment there names it.
-    fn origin(&mut self, span: Option<Span>) -> Written {
-        let Some(span) = span else {
-            return Ok(());
-        };
+    fn origin(&mut self, span: Span) -> Written {
         let rows = self.files.text_of(self.source).rows;
         let row = rows.get(span.line.saturating_sub(1) as usize);
         let Some(Origin { file, line }) = row.and_then(|row| origin_of(row)) else {
             return Ok(());
         };
-        let artifact = named_artifact(self.alloc, file)?;
         self.out.begin()?;
         self.out.object("physicalLocation")?;
         self.out.key("artifactLocation")?;
-        write_artifact(self.out, &artifact)?;
+        write_named(self.alloc, self.out, file)?;
         self.out.object("region")?;
         self.out.number("startLine", line as usize)?;
         self.out.end()?;
@@ -162,27 +140,35 @@ impl<'a> Results<'a> {
         self.out.end()
     }
 
-    /// Adds the line of C, the further places and what to do, the paths, and what to do as changes, of a diagnostic.
-    fn beside(&mut self, said: &Diagnostic) -> Written {
-        self.out.list("relatedLocations")?;
-        self.origin(said.span)?;
+    /// Adds the line of C, the further places, and what to do: at the first change, or else at the diagnostic's place.
+    fn related(&mut self, said: &Diagnostic) -> Written {
+        if let Some(span) = said.span {
+            self.origin(span)?;
+        }
         for note in said.notes.as_slice() {
-            self.said(note.span, note.message.as_str())?;
+            self.location(note.span, note.message.as_str())?;
         }
         if let Some(help) = &said.help {
-            self.said(help_place(said, help), help.message.as_str())?;
+            let change = help.replacements.as_slice().first();
+            let place = change.map_or(said.span, |change| Some(change.span));
+            self.location(place, help.message.as_str())?;
         }
-        self.out.end_list()?;
+        Ok(())
+    }
+
+    /// Adds the paths, and what to do as changes, of a diagnostic.
+    fn flows(&mut self, said: &Diagnostic) -> Written {
         self.out.list("codeFlows")?;
         for note in said.notes.as_slice() {
-            self.flow(note)?;
+            if !note.path.as_slice().is_empty() {
+                self.flow(note)?;
+            }
         }
         self.out.end_list()?;
         self.out.list("fixes")?;
-        if let Some(help) = &said.help {
-            if !help.replacements.as_slice().is_empty() {
-                self.fix(help)?;
-            }
+        match &said.help {
+            Some(help) if !help.replacements.as_slice().is_empty() => self.fix(help)?,
+            _ => {}
         }
         self.out.end_list()
     }
@@ -198,10 +184,12 @@ impl<'a> Results<'a> {
         self.out.text("level", severity_word(said.severity))?;
         self.out.message("message", said.message.as_str())?;
         self.out.list("locations")?;
-        self.begin_location(said.span)?;
-        self.out.end()?;
+        self.location(said.span, "")?;
         self.out.end_list()?;
-        self.beside(said)?;
+        self.out.list("relatedLocations")?;
+        self.related(said)?;
+        self.out.end_list()?;
+        self.flows(said)?;
         self.out.object("partialFingerprints")?;
         self.out.text("rule/v1", said.code.id())?;
         self.out.text("sentence/v1", said.message.as_str())?;

@@ -63,68 +63,41 @@ pub(crate) fn rule_short(code: Code) -> &'static str {
     }
 }
 
+/// What kind of thing a rule is about: the word before the first `-` of its identifier, which a rule of the checker
+/// lacks.
+fn kind_of(code: Code) -> &'static str {
+    code.id().split_once('-').map_or(code.id(), |parts| parts.0)
+}
+
 /// The section of the documents that explains a rule, as a file of the folder docs/ and an anchor in it.
 pub(crate) fn rule_section(code: Code) -> &'static str {
-    match code {
-        Code::EntryWithoutMask => "RULES.md#rule-1-the-entry-has-no-mask",
-        Code::NextWithoutMask => "RULES.md#rule-2-an-instruction-that-comes-next-has-no-mask",
-        Code::LacksDestination => "RULES.md#rule-3-a-mask-lacks-what-the-instruction-writes",
-        Code::LacksNext => "RULES.md#rule-4-a-mask-lacks-what-may-be-written-later",
-        Code::ExceedsCreate => "RULES.md#rule-5-the-entrys-mask-exceeds-the-create-mask",
-        Code::ForwardedInNext => "RULES.md#rule-6-a-forwarded-register-may-be-written-again",
-        Code::ReleasedInNext => "RULES.md#rule-7-a-released-register-may-be-written-again",
-        Code::SentNotCreated =>
-            "RULES.md#rule-8-a-forwarded-or-released-register-is-not-in-the-create-mask",
-        Code::ExitNotListed => "RULES.md#rule-9-an-exit-is-not-listed",
-        Code::FallsOff => "RULES.md#rule-10-the-task-goes-on-to-an-index-without-an-instruction",
-        Code::IndirectGoesOn => "RULES.md#rule-11-an-indirect-jump-that-does-not-end-the-task",
-        Code::TargetNotEntry => "RULES.md#rule-12-a-target-is-not-where-a-task-begins",
-        Code::TooLong
-        | Code::NotAscii
-        | Code::Token
-        | Code::Mnemonic
-        | Code::Operand
-        | Code::Number
-        | Code::Mark
-        | Code::Duplicate
-        | Code::Unknown
-        | Code::TooMany
-        | Code::NoTask
-        | Code::BadEntry
-        | Code::DuplicateEntry
-        | Code::BadMask
-        | Code::BadMark
-        | Code::BadStart => "FORMATS.md#what-is-refused",
-        Code::Header | Code::Line | Code::TaskName | Code::MissingTask | Code::Shape =>
-            "FORMATS.md#certificates",
-        Code::Unfit => "RULES.md#what-a-certificate-is",
-        Code::ScriptLine | Code::ScriptTaskName => "FORMATS.md#event-scripts",
-        Code::NeverProduced
-        | Code::NotForwarded
-        | Code::SentBefore
-        | Code::Unreached
-        | Code::NoExit
-        | Code::TargetNotTaken
-        | Code::GoesIntoTask
-        | Code::JumpNotListed
-        | Code::NoReturn => "RULES.md#warnings-marks-that-cost-speed",
-        Code::More => "FORMATS.md#what-explain-says",
+    match kind_of(code) {
+        "rule1" => "RULES.md#rule-1-the-entry-has-no-mask",
+        "rule2" => "RULES.md#rule-2-an-instruction-that-comes-next-has-no-mask",
+        "rule3" => "RULES.md#rule-3-a-mask-lacks-what-the-instruction-writes",
+        "rule4" => "RULES.md#rule-4-a-mask-lacks-what-may-be-written-later",
+        "rule5" => "RULES.md#rule-5-the-entrys-mask-exceeds-the-create-mask",
+        "rule6" => "RULES.md#rule-6-a-forwarded-register-may-be-written-again",
+        "rule7" => "RULES.md#rule-7-a-released-register-may-be-written-again",
+        "rule8" => "RULES.md#rule-8-a-forwarded-or-released-register-is-not-in-the-create-mask",
+        "rule9" => "RULES.md#rule-9-an-exit-is-not-listed",
+        "rule10" => "RULES.md#rule-10-the-task-goes-on-to-an-index-without-an-instruction",
+        "rule11" => "RULES.md#rule-11-an-indirect-jump-that-does-not-end-the-task",
+        "rule12" => "RULES.md#rule-12-a-target-is-not-where-a-task-begins",
+        "refused" => "FORMATS.md#what-is-refused",
+        "certificate" if code == Code::Unfit => "RULES.md#what-a-certificate-is",
+        "certificate" => "FORMATS.md#certificates",
+        "script" => "FORMATS.md#event-scripts",
+        "warning" => "RULES.md#warnings-marks-that-cost-speed",
+        _ => "FORMATS.md#what-explain-says",
     }
 }
 
 /// How severe what breaks a rule is, in the word of the format.
 pub(crate) fn rule_level(code: Code) -> &'static str {
-    match code {
-        Code::NeverProduced
-        | Code::NotForwarded
-        | Code::SentBefore
-        | Code::Unreached
-        | Code::NoExit
-        | Code::TargetNotTaken
-        | Code::GoesIntoTask
-        | Code::JumpNotListed
-        | Code::NoReturn => "warning",
-        Code::More => "note",
+    match kind_of(code) {
+        "warning" => "warning",
+        "more" => "note",
         _ => "error",
     }
 }

@@ -1,6 +1,6 @@
 //! A log in the format SARIF 2.1.0 as a text.
 
-use crate::artifact::{Artifact, Artifacts, write_artifact};
+use crate::artifact::{STANDARD_INPUT, read_standard_input, write_artifact};
 use crate::columns::Columns;
 use crate::results::Results;
 use crate::rules::{rule_level, rule_section, rule_short};
@@ -63,14 +63,14 @@ fn write_tool(alloc: Global, out: &mut JsonText, rules: &[Code]) -> Written {
 }
 
 /// Adds the one run of the tool: its exit code, and standard input, if it is read.
-fn write_invocation(out: &mut JsonText, status: u8, reads_input: bool) -> Written {
+fn write_invocation(alloc: Global, out: &mut JsonText, status: u8, reads_input: bool) -> Written {
     out.list("invocations")?;
     out.begin()?;
     out.boolean("executionSuccessful", status < 2)?;
     out.number("exitCode", status as usize)?;
     if reads_input {
         out.key("stdin")?;
-        write_artifact(out, &Artifact::StandardInput)?;
+        write_artifact(alloc, out, STANDARD_INPUT)?;
     }
     out.end()?;
     out.end_list()
@@ -93,58 +93,44 @@ fn write_places(out: &mut JsonText, reads_input: bool) -> Written {
     out.text("columnKind", "unicodeCodePoints")
 }
 
-/// How many of the first few diagnostics have the text, the rule and the sentence of this one.
-fn count_alike(diagnostics: &[Diagnostic], count: usize, said: &Diagnostic) -> usize {
-    diagnostics
-        .iter()
-        .take(count)
-        .filter(|other| other.source == said.source
-            && other.code == said.code
-            && other.message.as_str() == said.message.as_str())
-        .count()
+/// Whether two diagnostics have the same text, rule and sentence.
+fn is_alike(said: &Diagnostic, other: &Diagnostic) -> bool {
+    said.source == other.source
+        && said.code == other.code
+        && said.message.as_str() == other.message.as_str()
 }
 
-/// Adds a result for each diagnostic of a program.
+/// Adds a result for each diagnostic of a program, with its number among those that have its text, its rule and its
+/// sentence.
 fn write_results(
     alloc: Global,
     out: &mut JsonText,
     program: &Logged<'_>,
-    artifacts: &Artifacts,
     rules: &[Code],
 ) -> Written {
     let mut results = Results {
         alloc,
         out,
         files: &program.files,
-        artifacts,
         rules,
         columns: Columns::new(alloc),
         source: Source::Program,
     };
     for (index, said) in program.diagnostics.iter().enumerate() {
-        let before = count_alike(program.diagnostics, index, said);
-        results.add(said, before.saturating_add(1))?;
+        let before = program.diagnostics.iter().take(index);
+        let alike = before.filter(|other| is_alike(other, said));
+        results.add(said, alike.count().saturating_add(1))?;
     }
     Ok(())
 }
 
-/// Adds that all that is to be written makes the marks right.
-fn write_properties(out: &mut JsonText) -> Written {
-    out.object("properties")?;
-    out.boolean("fixesMakeMarksRight", true)?;
-    out.end()
-}
-
 /// Whether all that helps say to write makes the marks of all programs right.
 fn are_mended(programs: &[Logged<'_>]) -> bool {
+    let is_right = |said: &Diagnostic| said.severity != Severity::Error;
     programs.iter().any(|one| one.mends)
-        && programs.iter().all(|one| {
-            one.mends
-                || one
-                    .diagnostics
-                    .iter()
-                    .all(|said| said.severity != Severity::Error)
-        })
+        && programs
+            .iter()
+            .all(|one| one.mends || one.diagnostics.iter().all(is_right))
 }
 
 /// The text of a SARIF log of what is reported about these programs, with this exit status: one line of JSON, with one run.
@@ -154,12 +140,12 @@ fn are_mended(programs: &[Logged<'_>]) -> bool {
 /// `AllocError` where memory was refused.
 pub fn log_text(alloc: Global, programs: &[Logged<'_>], status: u8) -> Result<Vec<u8>, AllocError> {
     let mut rules = Vec::new(alloc);
-    let mut places = Vec::new(alloc);
     for program in programs {
         add_rules(&mut rules, program.diagnostics)?;
-        places.push(Artifacts::new(alloc, &program.files)?)?;
     }
-    let reads_input = places.iter().any(|place| place.read_standard_input());
+    let reads_input = programs
+        .iter()
+        .any(|program| read_standard_input(&program.files));
     let mut out = JsonText::new(alloc);
     out.begin()?;
     out.text("$schema", "https://json.schemastore.org/sarif-2.1.0.json")?;
@@ -167,15 +153,17 @@ pub fn log_text(alloc: Global, programs: &[Logged<'_>], status: u8) -> Result<Ve
     out.list("runs")?;
     out.begin()?;
     write_tool(alloc, &mut out, &rules)?;
-    write_invocation(&mut out, status, reads_input)?;
+    write_invocation(alloc, &mut out, status, reads_input)?;
     write_places(&mut out, reads_input)?;
     out.list("results")?;
-    for (program, artifacts) in programs.iter().zip(places.iter()) {
-        write_results(alloc, &mut out, program, artifacts, &rules)?;
+    for program in programs {
+        write_results(alloc, &mut out, program, &rules)?;
     }
     out.end_list()?;
     if are_mended(programs) {
-        write_properties(&mut out)?;
+        out.object("properties")?;
+        out.boolean("fixesMakeMarksRight", true)?;
+        out.end()?;
     }
     out.end()?;
     out.end_list()?;

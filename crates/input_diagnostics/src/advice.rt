@@ -1,8 +1,9 @@
 //! Advice as rows of a table: what is said of a mistake, what to do, and what to write in the marked place.
 
-ghost use Rattle.std.specs.Prelude.{◌≡◌, ◌∷◌, [], IfOk};
+ghost use Rattle.std.specs.Prelude.{◌≡◌, IfOk};
 ghost use Rattle.input_diagnostics.specs.Advice.{IsErrorAt, span};
 
+use crate::lines::after;
 use diagnostics::code::Code;
 use diagnostics::diagnostic::{Diagnostic, Help, Replacement, Severity, Source, Span};
 use diagnostics::listed::Listed;
@@ -42,10 +43,8 @@ pub(crate) fn advice(says: &'static str, help: &'static str) -> Row {
 /// A row that says what to write.
 pub(crate) fn mend(says: &'static str, help: &'static str, fix: &'static str) -> Row {
     Row {
-        says,
-        help,
         fix: Some(fix),
-        mended: None,
+        ..advice(says, help)
     }
 }
 
@@ -71,14 +70,6 @@ fn filled(
 }
 
 impl Row {
-    /// The row where what it writes mends this place.
-    pub(crate) fn mending(self, place: Span) -> Row {
-        Row {
-            mended: Some(place),
-            ..self
-        }
-    }
-
     /// The error that this row is about, at a place.
     pub(crate) fn at(
         self,
@@ -129,6 +120,8 @@ pub(crate) fn span(line: usize, before: usize, width: usize) -> Span
 pub(crate) enum Group {
     /// With none.
     Alone,
+    /// With all lines of the text, which is a trace.
+    Trace,
     /// With those that end with CR.
     Returns,
     /// With those that have what only `replay --strict` reads.
@@ -139,23 +132,43 @@ pub(crate) enum Group {
     Incomplete,
 }
 
-/// What is wrong with a line: what is marked, by the bytes before it and its own, and what is said of it.
+/// What is wrong with a line: what is marked, by the bytes before it and its own, what is said of it, and the number
+/// that is meant, if there is one.
 #[derive(Clone, Copy)]
 pub(crate) struct Slip {
     pub(crate) before: usize,
     pub(crate) width: usize,
     pub(crate) row: Row,
     pub(crate) group: Group,
+    pub(crate) number: u32,
 }
 
 /// A slip of a line that is told alone.
 pub(crate) fn marked(before: usize, width: usize, row: Row) -> Slip {
-    let group = Group::Alone;
     Slip {
         before,
         width,
         row,
-        group,
+        group: Group::Alone,
+        number: 0,
+    }
+}
+
+impl Slip {
+    /// The slip, told together with others.
+    pub(crate) fn among(self, group: Group) -> Slip {
+        Slip { group, ..self }
+    }
+
+    /// The slip where this number is meant.
+    pub(crate) fn meaning(self, number: u32) -> Slip {
+        Slip { number, ..self }
+    }
+
+    /// The bytes of a line that are marked.
+    pub(crate) fn bytes(self, line: &[u8]) -> &[u8] {
+        let rest = after(line, self.before);
+        &rest[..self.width.min(rest.len())]
     }
 }
 
@@ -172,45 +185,27 @@ pub(crate) fn stray_space(line: &[u8]) -> Option<usize> {
     None
 }
 
-/// Whether a byte of a line is part of a word.
-fn is_in_word(line: &[u8], place: usize) -> bool {
-    line.get(place)
-        .is_some_and(|byte| !matches!(byte, b' ' | b'\t' | b','))
-}
-
 /// What is said of a tab or a comma: that a space is meant, where it separates two words.
 pub(crate) fn separator(line: &[u8], before: usize, says: &'static str) -> Slip {
-    let is_between = is_in_word(line, before.saturating_sub(1))
-        && is_in_word(line, before.saturating_add(1));
-    if is_between {
-        marked(before, 1, mend(says, "write a space in its place", " "))
+    let sides = [before.saturating_sub(1), before.saturating_add(1)];
+    let is_between = sides.iter().all(|place| match line.get(*place) {
+        Some(byte) => !matches!(*byte, b' ' | b'\t' | b','),
+        None => false,
+    });
+    let row = if is_between {
+        mend(says, "write a space in its place", " ")
     } else {
-        marked(before, 1, mend(says, "remove it", ""))
-    }
+        mend(says, "remove it", "")
+    };
+    marked(before, 1, row)
 }
 
 /// What is said of a line that ends with CR, if it does.
 pub(crate) fn return_slip(line: &[u8]) -> Option<Slip> {
-    if !line.ends_with(b"\r") {
-        return None;
-    }
+    let before = line.strip_suffix(b"\r")?.len();
     let row = advice(
         "the line ends with CR LF, and not with LF alone",
         "take the CR out of every line: tr -d '\\r' < OLD > NEW",
     );
-    Some(Slip {
-        before: line.len().saturating_sub(1),
-        width: 1,
-        row,
-        group: Group::Returns,
-    })
-}
-
-/// A list of one diagnostic.
-pub(crate) fn alone(alloc: Global, said: Diagnostic) -> Result<Vec<Diagnostic>, AllocError>
-    ensures { IfOk result (λ list. list.items ≡ said ∷ []) }
-{
-    let mut list = Vec::new(alloc);
-    list.push(said)?;
-    Ok(list)
+    Some(marked(before, 1, row).among(Group::Returns))
 }

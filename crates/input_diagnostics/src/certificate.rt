@@ -46,13 +46,14 @@ pub fn certificate_errors<'x>(
         Ok(cert) => {
             let findings = own_findings(alloc, program, &cert)?;
             let compared = Compared {
+                alloc,
                 program,
                 cert: &cert,
                 least,
                 digits: digits_in(text),
                 lines,
             };
-            let list = compared.errors(alloc, &findings)?;
+            let list = compared.errors(&findings)?;
             Ok(list)
         }
         Err(CertFault::OutOfMemory) => Err(AllocError),

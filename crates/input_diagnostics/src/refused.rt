@@ -6,10 +6,10 @@ ghost use Rattle.input_diagnostics.specs.Advice.{IsErrorIn, IsErrorOf};
 ghost use Rattle.input_diagnostics.specs.CertificateErrors.{IsAt};
 
 use crate::advice::{
-    ANEW, Group, MOST_SHOWN, Row, Slip, advice, alone, marked, mend, return_slip, separator, span,
+    ANEW, Group, MOST_SHOWN, Row, Slip, advice, marked, mend, return_slip, separator, span,
     stray_space,
 };
-use crate::lines::{lines_of, row_at};
+use crate::lines::{after, decimal_in, lines_of, number_in, row_at};
 use diagnostics::code::Code;
 use diagnostics::diagnostic::{Diagnostic, Source};
 use diagnostics::more::add_more;
@@ -24,18 +24,6 @@ use task_descriptor::program::Program;
 /// By how many lines, the first, a certificate is judged to be of another program: this bounds the time that it takes.
 const MOST_JUDGED: usize = 4_096;
 
-/// A text of a certificate that is refused, with its lines.
-#[derive(Drop)]
-struct Refused<'a> {
-    alloc: Global,
-    program: &'a Program,
-    rows: &'a [&'a [u8]],
-    /// How many digits a mask has.
-    digits: usize,
-    /// Whether the last line ends with LF.
-    is_ended: bool,
-}
-
 /// How many digits a mask has.
 pub(crate) fn digits_in(text: &[u8]) -> usize {
     if text.starts_with(b"cert 1\n") { 8 } else { 16 }
@@ -46,92 +34,28 @@ fn is_task_row(row: &[u8]) -> bool {
     row.starts_with(b"task ")
 }
 
-/// What stands after the first `count` bytes.
-fn after(row: &[u8], count: usize) -> &[u8] {
-    &row[count.min(row.len())..]
-}
-
-/// Whether the program has a task of this name.
-fn is_task(program: &Program, name: &[u8]) -> bool {
-    program.tasks().iter().any(|task| task.name.bytes() == name)
-}
-
-/// The index that a word writes, if it writes one.
-fn index_in(word: &[u8]) -> Option<u32> {
-    if word.is_empty() || word.len() > 5 || matches!(word, [b'0', _, ..]) {
-        return None;
-    }
-    let mut number: u32 = 0;
-    for digit in word {
-        if !digit.is_ascii_digit() {
-            return None;
-        }
-        let value = u32::from(digit.saturating_sub(b'0'));
-        number = number.saturating_mul(10).saturating_add(value);
-    }
-    Some(number)
+/// Whether a line is the line of a task that the program has.
+fn is_known(program: &Program, row: &[u8]) -> bool {
+    let name = after(row, 5);
+    is_task_row(row) && program.tasks().iter().any(|task| task.name.bytes() == name)
 }
 
 /// The index of an entry's line; 0 where it has none.
 fn index_of(row: &[u8]) -> u32 {
-    index_in(first_word(row)).unwrap_or(0)
-}
-
-/// Whether a text has digits of masks alone.
-fn is_all_digits(text: &[u8]) -> bool {
-    text.iter()
-        .all(|byte| matches!(*byte, b'0'..=b'9' | b'a'..=b'f'))
-}
-
-/// A mask in small letters without the `0x` in front of it.
-fn bare(small: &[u8]) -> &[u8] {
-    if small.starts_with(b"0x") {
-        after(small, 2)
-    } else {
-        small
-    }
-}
-
-/// Whether digits are a mask of `digits` digits once there are zeros in front of them.
-fn is_incomplete(digits: usize, bare: &[u8]) -> bool {
-    let high = &bare[..bare.len().saturating_sub(8)];
-    (1..=digits).contains(&bare.len())
-        && is_all_digits(bare)
-        && high.iter().all(|digit| *digit == b'0')
-}
-
-/// Digits with zeros in front of them, `digits` digits in all.
-fn completed(alloc: Global, digits: usize, bare: &[u8]) -> Result<Vec<u8>, AllocError> {
-    let mut whole = Vec::new(alloc);
-    whole.resize(digits.saturating_sub(bare.len()), b'0')?;
-    whole.extend_from_slice(bare)?;
-    Ok(whole)
-}
-
-/// What is said of a line that has to have the name of the next task of the program.
-fn name_row(says: &'static str, has_next: bool) -> Row {
-    if has_next {
-        mend(says, "write {fix}", "{next}")
-    } else {
-        advice(says, "take out this line and those after it")
-    }
+    decimal_in(first_word(row), 5).unwrap_or(0)
 }
 
 /// What a line has that no line may have: a comment, or else a tab, or else a space that separates no two words.
 fn common_slip(row: &[u8]) -> Option<Slip> {
     if let Some(before) = row.iter().position(|byte| *byte == b'#') {
-        let is_blank = row[..before].iter().all(|byte| *byte == b' ');
-        let help = if is_blank {
+        let help = if row[..before].iter().all(|byte| *byte == b' ') {
             "remove the line"
         } else {
             "remove it, with any spaces before it"
         };
-        return Some(Slip {
-            before,
-            width: row.len().saturating_sub(before),
-            row: advice("a certificate has no comments", help),
-            group: Group::Comments,
-        });
+        let told = advice("a certificate has no comments", help);
+        let width = row.len().saturating_sub(before);
+        return Some(marked(before, width, told).among(Group::Comments));
     }
     if let Some(before) = row.iter().position(|byte| *byte == b'\t') {
         let says = "one space separates two words, not a tab";
@@ -143,41 +67,43 @@ fn common_slip(row: &[u8]) -> Option<Slip> {
 }
 
 /// What is said of the mask of a line, after `before` bytes, where masks have `digits` digits.
-fn mask_slip(alloc: Global, digits: usize, row: &[u8], before: usize) -> Result<Slip, AllocError> {
+fn mask_slip(digits: usize, row: &[u8], before: usize) -> Slip {
     let mask = after(row, before);
-    let small = mask.to_ascii_lowercase(alloc)?;
-    let width = mask.len();
-    if width == digits && is_all_digits(mask) {
-        return Ok(marked(
-            before,
-            width,
-            advice(
-                "the mask has a bit above 33, the number of the last register",
-                "write 00000000 to 00000003 as the first eight digits",
-            ),
-        ));
-    }
-    if width == digits && is_all_digits(&small) {
-        let row = mend("the mask has capital letters", "write {fix}", "{small}");
-        return Ok(marked(before, width, row));
-    }
+    let is_mask = mask.iter().all(|byte| byte.is_ascii_hexdigit());
+    let has_capitals = mask.iter().any(|byte| byte.is_ascii_uppercase());
+    let bare = match mask {
+        [b'0', b'x' | b'X', digits @ ..] => digits,
+        _ => mask,
+    };
     let says = "this is not a mask of {digits} digits";
-    if digits == 8 && width == 16 && is_all_digits(&small) {
-        let help =
-            "write cert 2 in place of cert 1, and each mask with 16 digits, since HI and LO have no place in 8; or make a new one: multiscalar annotate --emit keep PROGRAM > CERT";
-        return Ok(marked(before, width, advice(says, help)));
-    }
-    if is_incomplete(digits, bare(&small)) {
-        return Ok(Slip {
-            before,
-            width,
-            row: mend(says, "write {fix}", "{whole}"),
-            group: Group::Incomplete,
-        });
-    }
-    let help =
-        "write {digits} digits, 0 to 9 and a to f in lower case, with zeros in front and no bit above 33";
-    Ok(marked(before, width, advice(says, help)))
+    let row = if is_mask && mask.len() == digits && has_capitals {
+        mend("the mask has capital letters", "write {fix}", "{small}")
+    } else if is_mask && mask.len() == digits {
+        advice(
+            "the mask has a bit above 33, the number of the last register",
+            "write 00000000 to 00000003 as the first eight digits",
+        )
+    } else if is_mask && mask.len() == 16 {
+        advice(
+            says,
+            "write cert 2 in place of cert 1, and each mask with 16 digits, since HI and LO have no place in 8; or make a new one: multiscalar annotate --emit keep PROGRAM > CERT",
+        )
+    } else if let (true, Some(number)) = (bare.len() <= digits, number_in(bare, 16)) {
+        let zeros = if digits == 16 {
+            "00000000{hex}"
+        } else {
+            "{hex}"
+        };
+        return marked(before, mask.len(), mend(says, "write {fix}", zeros))
+            .meaning(number)
+            .among(Group::Incomplete);
+    } else {
+        advice(
+            says,
+            "write {digits} digits, 0 to 9 and a to f in lower case, with zeros in front and no bit above 33",
+        )
+    };
+    marked(before, mask.len(), row)
 }
 
 /// The first line whose index is not above that of the entry before, or none of an instruction.
@@ -196,85 +122,100 @@ fn shape_line(rows: &[&[u8]]) -> usize {
     1
 }
 
+/// A text of a certificate that is refused, with its lines.
+#[derive(Drop)]
+struct Refused<'a> {
+    alloc: Global,
+    rows: &'a [&'a [u8]],
+    /// How many digits a mask has.
+    digits: usize,
+    /// Whether the last line ends with LF.
+    is_ended: bool,
+    /// The task that the line has to begin for which the text is refused; `None` where no task is left.
+    next: Option<&'a str>,
+    /// How many tasks the first lines name.
+    named: usize,
+    /// How many of them the program has.
+    known: usize,
+}
+
 impl<'a> Refused<'a> {
-    /// The name of the task that a line has to begin; none where no task is left.
-    fn next_name(&self, number: usize) -> Option<&str> {
-        let mut tasks = 0usize;
-        for row in &self.rows[..number.saturating_sub(1).min(self.rows.len())] {
-            if is_task_row(row) {
-                tasks = tasks.saturating_add(1);
+    /// What is said of a line that has to have the name of the next task of the program.
+    fn name_row(&self, says: &'static str) -> Row {
+        match self.next {
+            Some(_) => mend(says, "write {fix}", "{next}"),
+            None => advice(says, "take out this line and those after it"),
+        }
+    }
+
+    /// Why a line has no form that a line may have, where it has nothing that no line may have.
+    fn form_slip(&self, number: usize, row: &[u8]) -> Slip {
+        let space = row.iter().position(|byte| *byte == b' ');
+        let width = space.unwrap_or(row.len());
+        if is_task_row(row) {
+            let told = self.name_row("{word} cannot be the name of a task");
+            return marked(5, row.len().saturating_sub(5), told);
+        }
+        if number == 2 && !row.is_empty() {
+            let help = match self.next {
+                Some(_) => "write task {next} on a line before it",
+                None => ANEW,
+            };
+            return marked(
+                0,
+                row.len(),
+                advice("the line of the first task comes first", help),
+            );
+        }
+        if space.is_some() && decimal_in(first_word(row), 5).is_some() {
+            return mask_slip(self.digits, row, width.saturating_add(1));
+        }
+        let (says, help) = if row.is_empty() {
+            ("the line is empty", "take it out")
+        } else if space.is_some() {
+            (
+                "{word} is not the index of an instruction",
+                "write an index in decimal, without leading zeros, at most 4095",
+            )
+        } else {
+            (
+                "this is not a line of a certificate",
+                "a line is task NAME, or an index, one space and a mask",
+            )
+        };
+        marked(0, width, advice(says, help))
+    }
+
+    /// Why the line has no form that a line may have for which the text is refused.
+    fn line_slip(&self, number: usize) -> Slip {
+        let row = row_at(self.rows, number);
+        match return_slip(row).or(common_slip(row)) {
+            Some(slip) => slip,
+            None if number < self.rows.len() || self.is_ended => self.form_slip(number, row),
+            None => {
+                let told = advice("the last line does not end with LF", "end it with LF");
+                marked(row.len(), 0, told)
             }
         }
-        let task = self.program.tasks().get(tasks)?;
-        Some(task.name.as_str())
     }
 
-    /// Why a line has no form that a line may have.
-    fn slip_of(
-        &self,
-        number: usize,
-        row: &[u8],
-        is_ended: bool,
-        has_next: bool,
-    ) -> Result<Slip, AllocError> {
-        if let Some(slip) = common_slip(row) {
-            return Ok(slip);
-        }
-        let width = row.len();
-        if !is_ended {
-            let row = advice("the last line does not end with LF", "end it with LF");
-            return Ok(marked(width, 0, row));
-        }
-        if is_task_row(row) {
-            let row = name_row("{name} cannot be the name of a task", has_next);
-            return Ok(marked(5, width.saturating_sub(5), row));
-        }
-        if row.is_empty() {
-            return Ok(marked(0, 0, advice("the line is empty", "take it out")));
-        }
-        if number == 2 {
-            let help = if has_next {
-                "write task {next} on a line before it"
-            } else {
-                ANEW
-            };
-            let row = advice("the line of the first task comes first", help);
-            return Ok(marked(0, width, row));
-        }
-        let Some(space) = row.iter().position(|byte| *byte == b' ') else {
-            let help = "a line is task NAME, or an index, one space and a mask";
-            let row = advice("this is not a line of a certificate", help);
-            return Ok(marked(0, width, row));
-        };
-        if index_in(&row[..space]).is_some() {
-            return mask_slip(self.alloc, self.digits, row, space.saturating_add(1));
-        }
-        let says = "{word} is not the index of an instruction";
-        let help = "write an index in decimal, without leading zeros, at most 4095";
-        Ok(marked(0, space, advice(says, help)))
-    }
-
-    /// The error for a line with this slip, before which the next task has this name.
-    fn error(
-        &self,
-        code: Code,
-        number: usize,
-        slip: Slip,
-        next: Option<&str>,
-    ) -> Result<Diagnostic, AllocError>
-        ensures { IfOk result (IsErrorIn Certificate number) }
+    /// The error for a line with this slip.
+    fn error(&self, code: Code, number: usize, slip: Slip) -> Result<Diagnostic, AllocError>
+        ensures line { IfOk result (IsErrorIn Certificate number) }
+        ensures text { IfOk result (IsErrorOf Certificate) }
     {
         let alloc = self.alloc;
-        let row = row_at(self.rows, number);
-        let small = after(row, slip.before).to_ascii_lowercase(alloc)?;
-        let whole = completed(alloc, self.digits, bare(&small))?;
+        let marked = slip.bytes(row_at(self.rows, number));
+        let small = marked.to_ascii_lowercase(alloc)?;
+        let (digits, named, known, hex) = (self.digits, self.named, self.known, slip.number);
         let words = [
-            ("word", quoted(alloc, first_word(row))?),
-            ("name", quoted(alloc, after(row, 5))?),
-            ("next", Words::of(alloc, next.unwrap_or(""))?),
+            ("word", quoted(alloc, marked)?),
             ("small", as_shown(alloc, &small)?),
-            ("whole", as_shown(alloc, &whole)?),
-            ("digits", words!(in alloc; "{}", self.digits)?),
+            ("next", Words::of(alloc, self.next.unwrap_or(""))?),
+            ("digits", words!(in alloc; "{digits}")?),
+            ("named", words!(in alloc; "{named}")?),
+            ("known", words!(in alloc; "{known}")?),
+            ("hex", words!(in alloc; "{hex:08x}")?),
         ];
         let at = span(number, slip.before, slip.width);
         let said = slip.row.at(alloc, Source::Certificate, code, at, &words)?;
@@ -284,22 +225,18 @@ impl<'a> Refused<'a> {
     /// The errors for the lines after one that are told together with it, and how many more there are: five comments
     /// are shown in all.
     fn alike(&self, number: usize, group: Group) -> Result<Vec<Diagnostic>, AllocError> {
-        let most = if group == Group::Comments {
-            4
-        } else {
-            MOST_SHOWN - 1
+        let most = match group {
+            Group::Comments => 4,
+            _ => MOST_SHOWN - 1,
         };
         let mut list = Vec::new(self.alloc);
         let mut count = 0usize;
-        for (before, row) in self.rows.iter().enumerate() {
+        for (before, row) in self.rows.iter().enumerate().skip(number) {
             let other = before.saturating_add(1);
-            if other <= number {
-                continue;
-            }
-            let slip = self.slip_of(other, row, true, false)?;
+            let slip = common_slip(row).unwrap_or(self.form_slip(other, row));
             if slip.group == group {
                 if count < most {
-                    list.push(self.error(Code::Line, other, slip, None)?)?;
+                    list.push(self.error(Code::Line, other, slip)?)?;
                 }
                 count = count.saturating_add(1);
             }
@@ -311,16 +248,11 @@ impl<'a> Refused<'a> {
     }
 
     /// The errors for a line with this slip, and for those told together with it.
-    fn slip_errors(
-        &self,
-        code: Code,
-        number: usize,
-        slip: Slip,
-        next: Option<&str>,
-    ) -> Result<Vec<Diagnostic>, AllocError>
-        ensures { IfOk result (λ list. IsSomeAnd (slice_get list.items 0) (IsErrorIn Certificate number)) }
+    fn errors(&self, code: Code, number: usize, slip: Slip) -> Result<Vec<Diagnostic>, AllocError>
+        ensures line { IfOk result (λ list. IsSomeAnd (slice_get list.items 0) (IsErrorIn Certificate number)) }
+        ensures text { IfOk result (λ list. IsSomeAnd (slice_get list.items 0) (IsErrorOf Certificate)) }
     {
-        let mut list = alone(self.alloc, self.error(code, number, slip, next)?)?;
+        let mut list = vec![in self.alloc; self.error(code, number, slip)?]?;
         let mut rest = match slip.group {
             Group::Comments | Group::Incomplete => self.alike(number, slip.group)?,
             _ => Vec::new(self.alloc),
@@ -329,133 +261,62 @@ impl<'a> Refused<'a> {
         Ok(list)
     }
 
-    /// The errors for a line that has no form that a line may have, and for those told together with it.
-    fn line_errors(&self, number: usize) -> Result<Vec<Diagnostic>, AllocError>
-        ensures { IfOk result (λ list. IsSomeAnd (slice_get list.items 0) (IsErrorIn Certificate number)) }
-    {
-        let row = row_at(self.rows, number);
-        let next = self.next_name(number);
-        let is_ended = number < self.rows.len() || self.is_ended;
-        let slip = match return_slip(row) {
-            Some(slip) => slip,
-            None => self.slip_of(number, row, is_ended, next.is_some())?,
-        };
-        let list = self.slip_errors(Code::Line, number, slip, next)?;
-        Ok(list)
-    }
-
-    /// Whether the text is a program: some line begins with `.task` or `.start`.
-    fn is_program(&self) -> bool {
-        self.rows.iter().any(|row| row.starts_with(b".task ") || row.starts_with(b".start "))
-    }
-
     /// What is wrong with the first line, of a text that does not begin as a certificate does.
     fn header_slip(&self) -> Slip {
         let row = row_at(self.rows, 1);
-        if self.rows.is_empty() {
-            return marked(0, 0, advice("the certificate is empty", ANEW));
-        }
-        if let Some(slip) = return_slip(row) {
+        let (mut rows, mut others) = (self.rows.iter(), self.rows.iter());
+        let is_program = rows.any(|row| row.starts_with(b".task ") || row.starts_with(b".start "));
+        let is_begun = !is_program && others.any(|row| row.starts_with(b"cert"));
+        let common = if is_begun { common_slip(row) } else { None };
+        if let Some(slip) = return_slip(row).or(common) {
             return slip;
         }
-        if self.is_program() {
-            let says = "this is a program, not a certificate";
-            let help = "make its certificate: multiscalar annotate --emit keep PROGRAM > CERT";
-            return marked(0, row.len(), advice(says, help));
-        }
-        if self.rows.iter().any(|row| row.starts_with(b"cert")) {
-            if let Some(slip) = common_slip(row) {
-                return slip;
-            }
-        }
-        let says = if row == b"cert 1".as_slice() || row == b"cert 2".as_slice() {
-            "the first line does not end with LF"
-        } else {
-            "the first line is neither cert 2 nor cert 1"
-        };
-        let help =
+        let begin =
             "begin with the line cert 2, or cert 1 if masks have 8 digits, and end it with LF";
+        let (says, help) = if self.rows.is_empty() {
+            ("the certificate is empty", ANEW)
+        } else if is_program {
+            (
+                "this is a program, not a certificate",
+                "make its certificate: multiscalar annotate --emit keep PROGRAM > CERT",
+            )
+        } else if row == b"cert 1".as_slice() || row == b"cert 2".as_slice() {
+            ("the first line does not end with LF", begin)
+        } else {
+            ("the first line is neither cert 2 nor cert 1", begin)
+        };
         marked(0, row.len(), advice(says, help))
     }
 
-    /// The error for a line of another task than the next one, or for a certificate of another program: it names
+    /// What is wrong with a line of another task than the next one, or of a certificate of another program: it names
     /// several tasks that the program has not, and more than it has.
-    fn task_errors(&self, number: usize) -> Result<Vec<Diagnostic>, AllocError>
-        ensures { IfOk result (λ list. IsSomeAnd (slice_get list.items 0) (IsErrorIn Certificate number)) }
-    {
-        let alloc = self.alloc;
-        let (mut named, mut known) = (0usize, 0usize);
-        for row in &self.rows[..MOST_JUDGED.min(self.rows.len())] {
-            if is_task_row(row) {
-                named = named.saturating_add(1);
-                if is_task(self.program, after(row, 5)) {
-                    known = known.saturating_add(1);
-                }
-            }
-        }
-        let unknown = named.saturating_sub(known);
-        let row = row_at(self.rows, number);
-        let next = self.next_name(number);
-        let says = match next {
+    fn task_slip(&self, row: &[u8], is_known: bool) -> Slip {
+        let unknown = self.named.saturating_sub(self.known);
+        let says = match self.next {
             Some(_) => "the program's next task is {next}",
             None => "the program has no further task",
         };
-        let told = if unknown > 1 && known < unknown {
+        let told = if unknown > 1 && self.known < unknown {
             let says =
                 "this looks like a certificate of another program: the program has {known} of the {named} tasks that it names";
             advice(says, ANEW)
-        } else if is_task(self.program, after(row, 5)) {
+        } else if is_known {
             advice(says, ANEW)
         } else {
-            name_row(says, next.is_some())
+            self.name_row(says)
         };
-        let words = [
-            ("next", Words::of(alloc, next.unwrap_or(""))?),
-            ("known", words!(in alloc; "{known}")?),
-            ("named", words!(in alloc; "{named}")?),
-        ];
-        let at = span(number, 5, row.len().saturating_sub(5));
-        let said = told.at(alloc, Source::Certificate, Code::TaskName, at, &words)?;
-        let list = alone(alloc, said)?;
-        Ok(list)
+        marked(5, row.len().saturating_sub(5), told)
     }
+}
 
-    /// The error for a certificate that ends before a task.
-    fn missing_errors(&self) -> Result<Vec<Diagnostic>, AllocError>
-        ensures { IfOk result (λ list. IsSomeAnd (slice_get list.items 0) (IsErrorOf Certificate)) }
-    {
-        let number = self.rows.len();
-        let next = self.next_name(number.saturating_add(1));
-        let row = advice("the certificate ends before task {next}", ANEW);
-        let words = [("next", Words::of(self.alloc, next.unwrap_or(""))?)];
-        let at = span(number, row_at(self.rows, number).len(), 0);
-        let said = row.at(
-            self.alloc,
-            Source::Certificate,
-            Code::MissingTask,
-            at,
-            &words,
-        )?;
-        let list = alone(self.alloc, said)?;
-        Ok(list)
-    }
-
-    /// The error for lists that do not rise.
-    fn shape_errors(&self) -> Result<Vec<Diagnostic>, AllocError>
-        ensures { IfOk result (λ list. IsSomeAnd (slice_get list.items 0) (IsErrorOf Certificate)) }
-    {
-        let number = shape_line(self.rows);
-        let row = row_at(self.rows, number);
-        let says = if index_of(row) >= 4096 {
-            "an index is at most 4095"
-        } else {
-            "this index is not above the one on the line before"
-        };
-        let at = span(number, 0, first_word(row).len());
-        let said = advice(says, ANEW).at(self.alloc, Source::Certificate, Code::Shape, at, &[])?;
-        let list = alone(self.alloc, said)?;
-        Ok(list)
-    }
+/// What is wrong with a line of a list that does not rise.
+fn shape_slip(row: &[u8]) -> Slip {
+    let says = if index_of(row) >= 4096 {
+        "an index is at most 4095"
+    } else {
+        "this index is not above the one on the line before"
+    };
+    marked(0, first_word(row).len(), advice(says, ANEW))
 }
 
 /// The errors for the text of a certificate that is refused with this fault: the first is that of the refusal.
@@ -468,19 +329,39 @@ pub(crate) fn refused_error(
     ensures { IfOk result (λ list. IsSomeAnd (slice_get list.items 0) (IsAt fault)) }
 {
     let rows = lines_of(alloc, text)?;
+    let front = match fault {
+        CertFault::Line(number) | CertFault::TaskName(number) => number.saturating_sub(1),
+        _ => rows.len(),
+    };
+    let tasks = rows.iter().take(front).filter(|row| is_task_row(row));
+    let next = program.tasks().get(tasks.count());
+    let judged = &rows[..MOST_JUDGED.min(rows.len())];
     let refused = Refused {
         alloc,
-        program,
         rows: &rows,
         digits: digits_in(text),
         is_ended: text.ends_with(b"\n"),
+        next: next.map(|task| task.name.as_str()),
+        named: judged.iter().filter(|row| is_task_row(row)).count(),
+        known: judged.iter().filter(|row| is_known(program, row)).count(),
     };
     match fault {
-        CertFault::Header => refused.slip_errors(Code::Header, 1, refused.header_slip(), None),
-        CertFault::Line(number) => refused.line_errors(number),
-        CertFault::TaskName(number) => refused.task_errors(number),
-        CertFault::MissingTask => refused.missing_errors(),
-        CertFault::Shape => refused.shape_errors(),
+        CertFault::Header => refused.errors(Code::Header, 1, refused.header_slip()),
+        CertFault::Line(number) => refused.errors(Code::Line, number, refused.line_slip(number)),
+        CertFault::TaskName(number) => {
+            let row = row_at(&rows, number);
+            let slip = refused.task_slip(row, is_known(program, row));
+            refused.errors(Code::TaskName, number, slip)
+        }
+        CertFault::MissingTask => {
+            let row = advice("the certificate ends before task {next}", ANEW);
+            let end = row_at(&rows, rows.len()).len();
+            refused.errors(Code::MissingTask, rows.len(), marked(end, 0, row))
+        }
+        CertFault::Shape => {
+            let number = shape_line(&rows);
+            refused.errors(Code::Shape, number, shape_slip(row_at(&rows, number)))
+        }
         CertFault::OutOfMemory => Err(AllocError),
     }
 }

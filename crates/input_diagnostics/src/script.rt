@@ -1,17 +1,16 @@
 //! Diagnostics for the text of an event script.
 
-ghost use Rattle.std.specs.Prelude.{◌≡◌, IfOk, IsSomeAnd, slice_get};
+ghost use Rattle.std.specs.Prelude.{IfOk};
 ghost use Rattle.diagnostics.specs.declared.diagnostic.Source.TheVariants.{Script};
 ghost use Rattle.input_diagnostics.specs.Advice.{IsErrorIn};
 ghost use Rattle.input_diagnostics.specs.ScriptErrors.{AreScriptErrors, BeginsWithFirst};
 
 use crate::advice::{
-    Group, MOST_SHOWN, Row, Slip, advice, alone, marked, mend, return_slip, separator, span,
-    stray_space,
+    Group, MOST_SHOWN, Slip, advice, marked, mend, return_slip, separator, span, stray_space,
 };
 use crate::expectation::expectation_said;
-use crate::lines::{lines_of, row_at};
-use crate::meant::{meant, names_of, register_meant};
+use crate::lines::{decimal_in, lines_of, row_at};
+use crate::meant::{meant, register_meant};
 use crate::mistaken::VERBS;
 use diagnostics::code::Code;
 use diagnostics::diagnostic::{Diagnostic, Source};
@@ -25,50 +24,72 @@ use event_script::laws::refused_for_the_first;
 use std::alloc::{AllocError, Global};
 use task_descriptor::program::Program;
 
-/// The words that events begin with, and how such an event is written.
-const EVENTS: [(&str, &str); 8] = [
-    ("assign", "write assign and the name of a task"),
-    ("exec", "write exec and a position, as in exec 0"),
-    (
-        "transfer",
-        "write transfer, a position and a register, as in transfer 1 $8",
-    ),
-    (
-        "drain",
-        "write drain, a position and a register, as in drain 0 $8",
-    ),
-    ("squash", "write squash and a position, as in squash 1"),
-    ("retire", "write retire alone"),
-    ("fault", "write fault alone"),
-    ("drop", "write drop and a position, as in drop 1"),
+/// How each event is written, in the order of the words that they begin with.
+const FORMS: [&str; 8] = [
+    "write assign and the name of a task",
+    "write exec and a position, as in exec 0",
+    "write transfer, a position and a register, as in transfer 1 $8",
+    "write drain, a position and a register, as in drain 0 $8",
+    "write squash and a position, as in squash 1",
+    "write retire alone",
+    "write fault alone",
+    "write drop and a position, as in drop 1",
 ];
 
-/// How many bytes stand in front of the spaces before the first `:` or `#`.
-fn event_end(line: &[u8]) -> Option<usize> {
+/// What is said of a word that is wrong, and what to do.
+fn word_advice(fault: EventFault, verb: &[u8]) -> (&'static str, &'static str) {
+    let event = VERBS.iter().position(|other| verb == other.as_bytes());
+    let form = FORMS.get(event.unwrap_or(FORMS.len())).copied().unwrap_or(
+        "an event begins with assign, exec, transfer, drain, squash, retire, fault or drop",
+    );
+    let name = "write the name of a task of the program";
+    match fault {
+        EventFault::NoEvent => ("{word} is not an event", form),
+        EventFault::TooFew => ("a word is missing here", form),
+        EventFault::TooMany(_) => ("this is more than the event takes", form),
+        EventFault::NoPosition => (
+            "{word} is not a position",
+            "write a number from 0 to 999 without leading zeros",
+        ),
+        EventFault::NoRegister => (
+            "{word} is not a register",
+            "write $ and the register's number, from $0 to $33, without leading zeros",
+        ),
+        EventFault::NoName => ("{word} cannot be the name of a task", name),
+        EventFault::NoTask => ("the program has no task {word}", name),
+    }
+}
+
+/// How many bytes stand in front of what only `replay --strict` reads: a step, or else spaces and the first `:` or `#`.
+fn strict_part(line: &[u8]) -> Option<usize> {
+    if first_word(line) == b"step".as_slice() {
+        return Some(0);
+    }
     let end = line.iter().position(|byte| *byte == b':' || *byte == b'#')?;
     let kept = line[..end].iter().rposition(|byte| *byte != b' ');
     Some(kept.map_or(0, |last| last.saturating_add(1)))
 }
 
-/// What is wrong with a line that spells no event for this reason: the first that holds of an empty line, a byte order
-/// mark, what only `replay --strict` reads, a tab, a comma, a space too many, and a word.
-fn slip_of(
-    alloc: Global,
-    line: &[u8],
-    fault: EventFault,
-    is_near: bool,
-) -> Result<Slip, AllocError> {
-    let strict = if first_word(line) == b"step".as_slice() {
-        Some(0)
-    } else {
-        event_end(line)
-    };
+/// What is wrong with a line as a whole: the first that holds of a trace's line, CR, an empty line, a byte order mark,
+/// what only `replay --strict` reads, a tab, a comma, and a space too many.
+fn line_slip(number: usize, line: &[u8]) -> Option<Slip> {
+    let strict = strict_part(line);
+    if number == 1 && line.starts_with(b"1 ") && strict.is_some() {
+        let row = advice(
+            "this is a trace, not a script of events",
+            "run --emit script writes one; add --with-values to judge it with replay --strict",
+        );
+        return Some(marked(0, line.len(), row).among(Group::Trace));
+    }
+    if let Some(slip) = return_slip(line) {
+        return Some(slip);
+    }
     if line.is_empty() {
-        return Ok(marked(0, 0, advice("the line is empty", "take the line out")));
+        return Some(marked(0, 0, advice("the line is empty", "take the line out")));
     }
     if line.starts_with(b"\xef\xbb\xbf") {
-        let says = "the line begins with a byte order mark";
-        return Ok(marked(0, 3, mend(says, "remove it", "")));
+        let row = mend("the line begins with a byte order mark", "remove it", "");
+        return Some(marked(0, 3, row));
     }
     if let Some(before) = strict {
         let row = advice(
@@ -76,84 +97,16 @@ fn slip_of(
             "judge the script with replay --strict; to explain it, take them out of each line",
         );
         let width = line.len().saturating_sub(before);
-        return Ok(Slip {
-            before,
-            width,
-            row,
-            group: Group::Strict,
-        });
+        return Some(marked(before, width, row).among(Group::Strict));
     }
     if let Some(before) = line.iter().position(|byte| *byte == b'\t') {
-        return Ok(separator(line, before, "an event has no tab"));
+        return Some(separator(line, before, "an event has no tab"));
     }
     if let Some(before) = line.iter().position(|byte| *byte == b',') {
-        return Ok(separator(line, before, "an event has no comma"));
+        return Some(separator(line, before, "an event has no comma"));
     }
-    if let Some(before) = stray_space(line) {
-        return Ok(marked(
-            before,
-            1,
-            mend("one space too many", "remove this space", ""),
-        ));
-    }
-    let (before, word) = fault.part_of(line);
-    let is_register = register_meant(alloc, word)?.is_some();
-    if matches!(fault, EventFault::NoPosition) && is_register && is_number(third(line)) {
-        let says = "the position comes before the register";
-        let row = mend(says, "write {fix}", "{verb} {third} ${register}");
-        return Ok(marked(0, line.len(), row));
-    }
-    Ok(marked(
-        before,
-        word.len(),
-        word_row(fault, line, is_register, is_near),
-    ))
-}
-
-/// What is said of a word; `is_register`: it is a register's name in a program; `is_near`: it is nearly one that fits.
-fn word_row(fault: EventFault, line: &[u8], is_register: bool, is_near: bool) -> Row {
-    let form = form_help(first_word(line));
-    match fault {
-        EventFault::NoEvent if is_near => {
-            mend("{word} is not an event", "did you mean {fix}?", "{near}")
-        }
-        EventFault::NoTask if is_near => {
-            mend(
-                "the program has no task {word}",
-                "did you mean {fix}?",
-                "{near}",
-            )
-        }
-        EventFault::NoRegister if is_register => {
-            mend(
-                "an event names a register by its number",
-                "write {fix}",
-                "${register}",
-            )
-        }
-        EventFault::NoEvent => advice("{word} is not an event", form),
-        EventFault::TooFew => advice("a word is missing here", form),
-        EventFault::TooMany(_) => advice("this is more than the event takes", form),
-        EventFault::NoPosition => advice(
-            "{word} is not a position",
-            "write a number from 0 to 999 without leading zeros",
-        ),
-        EventFault::NoRegister => advice(
-            "{word} is not a register",
-            "write $ and the register's number, from $0 to $33, without leading zeros",
-        ),
-        EventFault::NoName => advice("{word} cannot be the name of a task", NAME_HELP),
-        EventFault::NoTask => advice("the program has no task {word}", NAME_HELP),
-    }
-}
-
-const NAME_HELP: &str = "write the name of a task of the program";
-
-/// How an event is written that begins with this word.
-fn form_help(verb: &[u8]) -> &'static str {
-    let other = "an event begins with assign, exec, transfer, drain, squash, retire, fault or drop";
-    let event = EVENTS.iter().find(|event| event.0.as_bytes() == verb);
-    event.map_or(other, |event| event.1)
+    let row = mend("one space too many", "remove this space", "");
+    Some(marked(stray_space(line)?, 1, row))
 }
 
 /// The third word of a line.
@@ -161,118 +114,104 @@ fn third(line: &[u8]) -> &[u8] {
     EventFault::NoRegister.part_of(line).1
 }
 
-/// Whether a word is a position: 1 to 3 digits without leading zeros.
-fn is_number(word: &[u8]) -> bool {
-    (1..=3).contains(&word.len())
-        && !matches!(word, [b'0', _, ..])
-        && word.iter().all(|digit| digit.is_ascii_digit())
-}
-
-/// The word that is meant by a wrong verb or a wrong name; empty where none is.
-fn near_word(
+/// What is said of the word of a line that has this fault; `is_near`: it is nearly one that fits.
+fn word_slip(
     alloc: Global,
-    names: &[&str],
-    word: &[u8],
-    fault: EventFault,
-) -> Result<Words, AllocError> {
-    match fault {
-        EventFault::NoTask => Words::of(alloc, meant(word, names).unwrap_or("")),
-        EventFault::NoEvent => Words::of(alloc, meant(word, &VERBS).unwrap_or("")),
-        _ => Words::of(alloc, ""),
-    }
-}
-
-/// The error for a line that spells no event, and with which others it is told.
-fn line_error(
-    alloc: Global,
-    program: &Program,
-    names: &[&str],
     line: &[u8],
-    bad: &BadLine,
-) -> Result<(Diagnostic, Group), AllocError>
-    ensures { IfOk result (λ said. IsErrorIn Script bad.now.line said.0) }
-{
-    let (_, wrong) = bad.fault.part_of(line);
-    let near = near_word(alloc, names, wrong, bad.fault)?;
-    let slip = match return_slip(line) {
-        Some(slip) => slip,
-        None => slip_of(alloc, line, bad.fault, !near.as_str().is_empty())?,
-    };
-    let (slip, expected) = match slip.group {
-        Group::Strict => match expectation_said(alloc, program, line)? {
-            Some(said) => said,
-            None => (slip, Words::of(alloc, "")?),
-        },
-        _ => (slip, Words::of(alloc, "")?),
-    };
-    let register = match register_meant(alloc, wrong)? {
-        Some(register) => words!(in alloc; "{}", register.get())?,
-        None => Words::of(alloc, "")?,
-    };
-    let words = [
-        ("word", quoted(alloc, wrong)?),
-        ("near", near),
-        ("verb", as_shown(alloc, first_word(line))?),
-        ("third", as_shown(alloc, third(line))?),
-        ("register", register),
-        ("expected", expected),
-    ];
-    let is_task = matches!(bad.fault, EventFault::NoTask) && slip.group != Group::Returns;
-    let code = if is_task {
-        Code::ScriptTaskName
-    } else {
-        Code::ScriptLine
-    };
-    let at = span(bad.line, slip.before, slip.width);
-    let said = slip.row.at(alloc, Source::Script, code, at, &words)?;
-    Ok((said, slip.group))
-}
-
-/// Adds the errors for further lines that spell no event, after one of this group: only one for all lines that end
-/// with CR, and one for all that have what only `replay --strict` reads, where that can be read.
-fn add_others(
-    alloc: Global,
-    list: &mut Vec<Diagnostic>,
-    program: &Program,
-    names: &[&str],
-    rows: &[&[u8]],
-    bad: &[BadLine],
-    group: Group,
-) -> Result<(), AllocError> {
-    let mut has_returns = group == Group::Returns;
-    let mut has_strict = group == Group::Strict;
-    for bad in bad {
-        let (said, group) = line_error(alloc, program, names, row_at(rows, bad.line), bad)?;
-        let is_told = match group {
-            Group::Returns => has_returns,
-            Group::Strict => has_strict,
-            _ => false,
-        };
-        if !is_told {
-            list.push(said)?;
-        }
-        has_returns = has_returns || group == Group::Returns;
-        has_strict = has_strict || group == Group::Strict;
+    fault: EventFault,
+    is_near: bool,
+) -> Result<Slip, AllocError> {
+    let (before, word) = fault.part_of(line);
+    let (says, help) = word_advice(fault, first_word(line));
+    let width = word.len();
+    if is_near {
+        return Ok(marked(before, width, mend(says, "did you mean {fix}?", "{near}")));
     }
-    Ok(())
+    let slip = marked(before, width, advice(says, help));
+    let Some(register) = register_meant(alloc, word)? else {
+        return Ok(slip);
+    };
+    let number = u32::from(register.get());
+    match fault {
+        EventFault::NoPosition if decimal_in(third(line), 3).is_some() => {
+            let says = "the position comes before the register";
+            let row = mend(says, "write {fix}", "{verb} {third} ${number}");
+            Ok(marked(0, line.len(), row).meaning(number))
+        }
+        EventFault::NoRegister => {
+            let says = "an event names a register by its number";
+            let row = mend(says, "write {fix}", "${number}");
+            Ok(marked(before, width, row).meaning(number))
+        }
+        _ => Ok(slip),
+    }
 }
 
-/// The error for a trace that begins with this line.
-fn trace_error(alloc: Global, line: &[u8]) -> Result<Diagnostic, AllocError>
-    ensures { IfOk result (IsErrorIn Script 1) }
-{
-    let row = advice(
-        "this is a trace, not a script of events",
-        "run --emit script writes one; add --with-values to judge it with replay --strict",
-    );
-    let at = span(1, 0, line.len());
-    let said = row.at(alloc, Source::Script, Code::ScriptLine, at, &[])?;
-    Ok(said)
+/// A script for a program whose tasks have these names.
+#[derive(Drop)]
+struct ScriptText<'a> {
+    alloc: Global,
+    program: &'a Program,
+    names: &'a [&'a str],
+    rows: &'a [&'a [u8]],
 }
 
-/// Whether a text that begins with this line is a trace.
-fn is_trace(line: &[u8]) -> bool {
-    line.starts_with(b"1 ") && event_end(line).is_some()
+impl<'a> ScriptText<'a> {
+    /// The error for a line that spells no event, and with which others it is told.
+    fn error(&self, bad: &BadLine) -> Result<(Diagnostic, Group), AllocError>
+        ensures { IfOk result (λ said. IsErrorIn Script bad.now.line said.0) }
+    {
+        let alloc = self.alloc;
+        let line = row_at(self.rows, bad.line);
+        let (_, wrong) = bad.fault.part_of(line);
+        let near = match bad.fault {
+            EventFault::NoTask => meant(alloc, wrong, self.names)?,
+            EventFault::NoEvent => meant(alloc, wrong, &VERBS)?,
+            _ => Words::of(alloc, "")?,
+        };
+        let slip = match line_slip(bad.line, line) {
+            None => word_slip(alloc, line, bad.fault, !near.as_str().is_empty())?,
+            Some(slip) if slip.group == Group::Strict => {
+                let said = expectation_said(alloc, self.program, line)?;
+                said.unwrap_or(slip)
+            }
+            Some(slip) => slip,
+        };
+        let number = slip.number;
+        let words = [
+            ("word", quoted(alloc, slip.bytes(line))?),
+            ("near", near),
+            ("verb", as_shown(alloc, first_word(line))?),
+            ("third", as_shown(alloc, third(line))?),
+            ("number", words!(in alloc; "{number}")?),
+            ("hex", words!(in alloc; "{number:08x}")?),
+        ];
+        let code = match bad.fault {
+            EventFault::NoTask if slip.group != Group::Returns => Code::ScriptTaskName,
+            _ => Code::ScriptLine,
+        };
+        let at = span(bad.line, slip.before, slip.width);
+        let said = slip.row.at(alloc, Source::Script, code, at, &words)?;
+        Ok((said, slip.group))
+    }
+
+    /// Adds the errors for further lines that spell no event, after one of this group: one for all lines of a group.
+    fn add_others(
+        &self,
+        list: &mut Vec<Diagnostic>,
+        bad: &[BadLine],
+        group: Group,
+    ) -> Result<(), AllocError> {
+        let mut told = vec![in self.alloc; group]?;
+        for bad in bad {
+            let (said, group) = self.error(bad)?;
+            if group == Group::Alone || !told.iter().any(|other| *other == group) {
+                list.push(said)?;
+                told.push(group)?;
+            }
+        }
+        Ok(())
+    }
 }
 
 /// The errors for the lines that spell no event, of which these are the first, and how many more there are of `count`.
@@ -289,19 +228,23 @@ fn errors_in(
         return Ok(Vec::new(alloc));
     };
     let rows = lines_of(alloc, text)?;
-    let line = row_at(&rows, first.line);
-    if first.line == 1 && is_trace(line) {
-        let list = alone(alloc, trace_error(alloc, line)?)?;
-        return Ok(list);
-    }
-    let names = names_of(alloc, program.tasks())?;
-    let (said, group) = line_error(alloc, program, &names, line, first)?;
-    let mut list = alone(alloc, said)?;
+    let tasks = program.tasks().iter();
+    let names: Vec<&str> = tasks.map(|task| task.name.as_str()).collect(alloc)?;
+    let script = ScriptText {
+        alloc,
+        program,
+        names: &names,
+        rows: &rows,
+    };
+    let (said, group) = script.error(first)?;
+    let mut list = vec![in alloc; said]?;
     let mut rest = Vec::new(alloc);
-    add_others(alloc, &mut rest, program, &names, &rows, others, group)?;
-    let more = count.saturating_sub(MOST_SHOWN);
-    let (one, many) = ("line that spells no event", "lines that spell no event");
-    add_more(alloc, &mut rest, Source::Script, more, one, many)?;
+    if group != Group::Trace {
+        script.add_others(&mut rest, others, group)?;
+        let more = count.saturating_sub(MOST_SHOWN);
+        let (one, many) = ("line that spells no event", "lines that spell no event");
+        add_more(alloc, &mut rest, Source::Script, more, one, many)?;
+    }
     list.append(&mut rest)?;
     Ok(list)
 }
