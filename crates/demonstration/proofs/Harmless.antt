@@ -1,5 +1,5 @@
 -- Where nothing is found the state shows no departure.
-use Rattle.demonstration.proofs.Imports.{◌≡◌, ℕ, suc, ◌+◌, ◌<◌, Bool, true, false, nat_eq, if◌then◌else◌, Option, Some, None, List, length, slice_get, refl, sym, ap, ◌∙◌, subst, arith, inl, inr, eqb-true, eq-eqb, cases_lt, false≢true, Read, Listing, Active, State, value, plain_of, Standing, wrong_word, AreRight, DoesNoHarm, HoldsWrong, IsCutAt, NamesItsPlace, ReadsRight, seen}
+use Rattle.demonstration.proofs.Imports.{◌≡◌, ℕ, suc, ◌+◌, ◌<◌, Bool, true, false, nat_eq, if◌then◌else◌, eqb-true, eq-eqb, false≢true, wrong_word, Option, Some, None, List, length, slice_get, refl, sym, ap, ◌∙◌, subst, arith, inl, inr, cases_lt, Read, Listing, Active, State, value, plain_of, HoldsWrong, IsCutAt, NamesItsPlace, plain_beside, seen}
 use Rattle.mips_plain.specs.PlainMachine.{State as PlainState}
 use Rattle.mips_plain.specs.declared.outcome.Outcome.TheVariants as outcome
 use Rattle.machine_model.specs.declared.event.Standing.TheVariants as standing
@@ -47,30 +47,27 @@ holds_so s plain n head word right is is_right wrong =
 
 -- the end of the run
 
-pub not_cut : (p : Listing) (how : Standing) (reads : List Read) (plain : PlainState) (at count : ℕ) (last : Read) → how ≡ standing.Unlisted at → length reads ≡ suc count → slice_get reads count ≡ Some last → ((plain.outcome ≡ outcome.Running) × (plain.pc ≡ at) × NamesItsPlace p last.pc → ⊥) → (from to : ℕ) → IsCutAt p how reads plain from to → ⊥
-not_cut p how reads plain at count last ends long there never = λ from to cut.
+pub cut_so : (p : Listing) (s : State) (reads : List Read) (plain : PlainState) (at count : ℕ) (last : Read) → reads ≡ seen s → plain ≡ plain_of p (length reads) → s.outcome ≡ standing.Unlisted at → length reads ≡ suc count → slice_get reads count ≡ Some last → plain.outcome ≡ outcome.Running → plain.pc ≡ at → NamesItsPlace p last.pc → IsCutAt p s last.pc at
+cut_so p s reads plain at count last same is ends long there goes_on is_there names =
+    let beside : plain ≡ plain_beside p s = is ∙ ap (λ (xs : List Read). plain_of p (length xs)) same in
+    record {
+      ends = ends;
+      count = count;
+      last = last;
+      is_last = ap (λ (xs : List Read). length xs) (sym same) ∙ long;
+      is_read = ap (λ (xs : List Read). slice_get xs count) (sym same) ∙ there;
+      is_from = refl;
+      names = names;
+      goes_on = ap (λ (x : PlainState). x.outcome) (sym beside) ∙ goes_on;
+      is_there = ap (λ (x : PlainState). x.pc) (sym beside) ∙ is_there;
+    }
+
+pub not_cut : (p : Listing) (s : State) (reads : List Read) (plain : PlainState) (at count : ℕ) (last : Read) → reads ≡ seen s → plain ≡ plain_of p (length reads) → s.outcome ≡ standing.Unlisted at → length reads ≡ suc count → slice_get reads count ≡ Some last → (plain.outcome ≡ outcome.Running → plain.pc ≡ at → NamesItsPlace p last.pc → ⊥) → (from to : ℕ) → IsCutAt p s from to → ⊥
+not_cut p s reads plain at count last same_reads is ends long there never = λ from to cut.
+    let beside : plain ≡ plain_beside p s = is ∙ ap (λ (xs : List Read). plain_of p (length xs)) same_reads in
     let same : at ≡ to = (let both = sym ends ∙ cut.ends in cc) in
-    let counts : count ≡ cut.count = (let other = cut.is_last in omega arith) in
-    let lasts : last ≡ cut.last = (let both = sym there ∙ ap (slice_get reads) counts ∙ cut.is_read in cc) in
-    never (cut.goes_on, cut.is_there ∙ sym same, subst (NamesItsPlace p) (sym cut.is_from ∙ ap (λ (r : Read). r.pc) (sym lasts)) cut.names)
-
--- all together
-
-module _ (p : Listing) (s : State) (reads : List Read) (plain : PlainState) (same : reads ≡ seen s) (right : AreRight p reads) (is : plain ≡ plain_of p (length reads))
-    (whole : (from at : ℕ) → IsCutAt p s.outcome reads plain from at → ⊥) where
-  full : plain ≡ plain_of p (length (seen s))
-  full = is ∙ ap (λ (xs : List Read). plain_of p (length xs)) same
-
-  pub reads_right_so : ReadsRight p s
-  reads_right_so = record {
-    right = subst (AreRight p) same right;
-    whole = λ from at cut. whole from at
-        (subst (λ (xs : List Read). IsCutAt p s.outcome xs plain from at) (sym same)
-        (subst (λ (x : PlainState). IsCutAt p s.outcome (seen s) x from at) (sym full) cut));
-  }
-
-  pub no_harm_so : ((r word right : ℕ) → r < 34 → HoldsWrong s plain r word right → ⊥) → DoesNoHarm p s
-  no_harm_so words = record {
-    reads = reads_right_so;
-    words = λ h. words h.register h.word h.right h.below (subst (λ (x : PlainState). HoldsWrong s x h.register h.word h.right) (sym full) h.holds);
-  }
+    let other : length reads ≡ suc cut.count = ap (λ (xs : List Read). length xs) same_reads ∙ cut.is_last in
+    let counts : count ≡ cut.count = omega arith in
+    let lasts : last ≡ cut.last = (let both = sym there ∙ ap (slice_get reads) counts ∙ ap (λ (xs : List Read). slice_get xs cut.count) same_reads ∙ cut.is_read in cc) in
+    never (ap (λ (x : PlainState). x.outcome) beside ∙ cut.goes_on) (ap (λ (x : PlainState). x.pc) beside ∙ cut.is_there ∙ sym same)
+    (subst (NamesItsPlace p) (sym cut.is_from ∙ ap (λ (r : Read). r.pc) (sym lasts)) cut.names)

@@ -13,16 +13,15 @@ pub use Rattle.machine_model.specs.declared.event.Event.{Event}
 pub use Rattle.machine_model.specs.declared.event.Refused.{Refused}
 pub use Rattle.open_machine.specs.Machines.{Applies, IsAnswered, OpenView, answer_to, state, units_of}
 pub use Rattle.demonstration.specs.Driven.{DrivenView, IsDriven, driven_of}
-pub use Rattle.demonstration.specs.Rounds.{answer_in, each_tried, guess_tried, has_open_tail, head_tried, known_tasks, next_place, of_register, round_within, run_of, units_tried, where_ok}
-unfoldable pub use Rattle.demonstration.specs.Rounds.{begun, first_begins, of_unit, of_units, registers, round, rounds, state_after, tried}
+pub use Rattle.demonstration.specs.Rounds.{each_tried, guess_tried, has_open_tail, known_tasks, next_place, run_of, units_tried}
+unfoldable pub use Rattle.demonstration.specs.Rounds.{begun, first_begins, is_allowed, register_tried, registers, round, rounds, state_after, tried, unit_tried}
 pub use Rattle.std.proofs.lemmas.Bool.{cases_lt, cond-false, cond-true, eq-eqb, false≢true, le-ltb, lt-ltb, or_cases, or_left, or_right}
 pub use Rattle.mips_plain.specs.PlainMachine.{Input, fetched, pc_after, read_at, reads_when, step_when}
 unfoldable pub use Rattle.mips_plain.specs.PlainMachine.{fetch, plain, reads}
 pub use Rattle.mips_plain.specs.declared.outcome.Read.{Read}
 pub use Rattle.machine_model.specs.Claims.{Claims, by_head, count_c, count_h, plain_of, reads_of}
 pub use Rattle.machine_model.specs.declared.event.Standing.{Standing}
-pub use Rattle.demonstration.specs.Judging.{IsRefusedAt, IsRight, reads_agree, wrong_word}
-pub use Rattle.demonstration.specs.Shown.{AreRight, DoesHarm, DoesNoHarm, HasWrongWord, HoldsWrong, IsCutAt, IsShown, NamesItsPlace, ReadsRight, Shows, WordsRight, harmed_task, plain_read, read_by_head, reading_task, seen}
+pub use Rattle.demonstration.specs.Shown.{AreRight, DoesHarm, DoesNoHarm, HoldsWrong, IsCutAt, IsRefusedAt, IsRight, IsShown, NamesItsPlace, ReadsRight, Shows, WordsRight, harmed_task, plain_beside, plain_read, read_by_head, reading_task, reads_agree, seen, wrong_word}
 pub use Rattle.std.proofs.lemmas.List.{get_or_default, length-map, take_more}
 pub use Rattle.std.proofs.lemmas.Option.{slice_get_past, slice_get_read, slice_get_within}
 pub use Rattle.mips_instructions.specs.Words.{address, index_of}
@@ -33,11 +32,12 @@ pub use Rattle.machine_model.specs.Step.{Faults, Next, exec_leaves, follows, is_
 pub use Rattle.demonstration.specs.declared.judge.Evidence.{Evidence}
 pub use Rattle.demonstration.specs.declared.judge.Harm.{Harm}
 pub use Rattle.demonstration.specs.declared.judge.WrongWord.{WrongWord}
-pub use Rattle.std.specs.List.{last_or, list_any, range_with_len}
+pub use Rattle.std.specs.Result.{is_ok}
+pub use Rattle.std.specs.List.{fold, last_or, list_any, range_with_len}
 pub use Rattle.machine_model.specs.declared.event.Event.TheVariants.{Assign, Drain, Drop, Exec, Fault, Retire, Squash, Transfer}
 pub use Rattle.mips_plain.specs.declared.outcome.Outcome.TheVariants.{Halted, Running, Trapped}
 pub use Rattle.mips_plain.specs.PlainView.{IsAfter, Makes, PlainView, machine_state}
-pub use Rattle.demonstration.specs.Found.{IsDemonstration, IsRightAlone, IsSearched}
+pub use Rattle.demonstration.specs.Found.{IsDemonstration, IsNoneFound, IsRightAlone, IsSearched}
 pub use Rattle.mips_instructions.specs.Instruction.{computed, dests, does_nothing, reg_a, reg_b, taken, turn}
 pub use Rattle.mips_plain.specs.Effect.{loaded, may_run_ahead, outcome_after, outcome_by, outcome_of_load, word_by, written}
 pub use Rattle.task_graph.specs.Edges.{Path, is_indirect, onward, stay}

@@ -1,34 +1,64 @@
 -- What the judge finds at each event and at each read.
-use Rattle.demonstration.proofs.Imports.{◌≡◌, ℕ, zero, suc, ◌+◌, ◌<◌, ◌≤◌, Bool, true, false, not, IsTrue, ◌&&◌, nat_eq, Option, Some, None, Ok, Err, map, List, [], ◌∷◌, ◌++◌, length, take, get_or, slice_get, slice_index_or, option_to_list, refl, sym, ap, ◌∙◌, subst, arith, inl, inr, add-one, cond-true, cond-false, eq-eqb, lt-ltb, le-ltb, cases_lt, false≢true, take_more, get_or_default, length-map, slice_get_read, option_and_then, index_of, Op, Input, fetch, plain, read_at, reads_when, Outcome, Read, Listing, IsWellFormed, if_instruction, input, instruction_at, Marked, State, opening, Next, answer, Replays, reads_of, AnswerIsNext, NextIsAfter, ReplayCut, Event, Refused, OpenView, state, units_of, answer_to, IsAnswered, Evidence, Harm, WrongWord, DoesHarm, DoesNoHarm, IsShown, ReadsRight, Shows, harmed_task, plain_read, IsRefusedAt, IsRight, reads_agree}
+use Rattle.demonstration.proofs.Imports.{IfNone, DrivenView, IsRefusedAt, Replays, tried, ◌&&◌, nat_eq, eq-eqb, reads_agree, ◌≡◌, ℕ, zero, suc, ◌+◌, ◌<◌, ◌≤◌, false, is_ok, Option, Some, None, map, Result, List, [], ◌∷◌, ◌++◌, length, take, get_or, slice_get, slice_index_or, option_to_list, refl, sym, ap, ◌∙◌, subst, arith, inl, inr, add-one, cond-true, cond-false, lt-ltb, le-ltb, cases_lt, false≢true, take_more, get_or_default, length-map, slice_get_read, option_and_then, index_of, Op, Input, fetch, plain, read_at, reads_when, Outcome, Read, Listing, IsWellFormed, if_instruction, input, instruction_at, Marked, State, Next, most_events, reads_of, AnswerIsNext, NextIsAfter, Event, Refused, is_allowed, state_after, plain_read, not, Bool, true, IsTrue}
 use Rattle.std.proofs.lemmas.Bool.{eqb-true}
 use Rattle.mips_plain.specs.PlainMachine.{State as PlainState}
 use Rattle.mips_plain.specs.declared.outcome.Outcome.TheVariants as outcome
 use Rattle.machine_model.specs.declared.event.Refused.TheVariants as refused
 use Rattle.demonstration.specs.declared.judge.Harm.TheVariants as harm
 use Rattle.demonstration.specs.declared.judge.Judgement.TheVariants as judged
+use Rattle.demonstration.proofs.Driving.{now_tried}
 use Rattle.demonstration.proofs.PlainReads.{reads_next}
 
-pub one_more_event : ReplayCut → (p : Listing) (units : ℕ) (events : List Event) (index : ℕ) (e : Event) (s s' : State) → index < length events → e ≡ get_or events index e → Replays p units (take index events) s → Next p units s e s' → Replays p units (take (index + 1) events) s'
-one_more_event cut p units events index e s s' below is replay next =
-    subst (λ (es : List Event). Replays p units es s')
-    (sym (take_more events index e below ∙ ap (λ (x : Event). take index events ++ x ∷ []) (sym is)))
-    ((cut p units (opening p) s' (take index events) (e ∷ [])).1 (s, replay, (s', next, refl)))
+-- an event that is not allowed has no next state, where there is room
+pub refused_so : AnswerIsNext → NextIsAfter → (p : Listing) (units : ℕ) (run : List Event) (e : Event) → IsWellFormed p → is_allowed p units run e ≡ false → (after : State) → length run < most_events → Next p units (state_after p run) e after → ⊥
+unfolding is_allowed
+refused_so law is_after p units run e well never after room next =
+    let leaves = subst (λ (t : State). Next p units (state_after p run) e t) (is_after p units (state_after p run) after e next) next in
+    false≢true (sym never ∙ ap (λ (a : Result (Unit {0}) Refused). is_ok a) ((law p units (state_after p run) (length run) e well).1 (leaves, room)))
 
-never_allowed : (m : OpenView) (e : Event) (why : Refused) → (why ≡ refused.OutOfMemory → ⊥) → IsAnswered m e (Err why) → answer_to m e ≡ Ok tt → ⊥
-never_allowed m e why other (inl same) ok = (let clash = same ∙ ok in cc)
-never_allowed m e why other (inr memory) ok = other (let same = memory.0 in cc)
+whole : {X : Type 0} (n : ℕ) (xs : List X) → length xs ≤ n → take n xs ≡ xs
+whole zero [] few = refl
+whole zero (x ∷ xs) few = absurd (omega arith)
+whole (suc n) [] few = refl
+whole {X = X} (suc n) (x ∷ xs) few = ap (λ (rest : List X). x ∷ rest) (whole n xs (omega arith))
 
-pub refused_at : AnswerIsNext → NextIsAfter → (m : OpenView) (p : Listing) (units : ℕ) (events : List Event) (index : ℕ) (e : Event) (why : Refused) → IsWellFormed p → m.program ≡ p → units_of m ≡ units → m.count ≡ index → slice_get events index ≡ Some e → Replays p units (take index events) (state m) → (why ≡ refused.OutOfMemory → ⊥) → IsAnswered m e (Err why) → IsRefusedAt p units events index
-refused_at law is_after m p units events index e why well program many count there replay other answered = record {
-  before = state m;
-  allowed = replay;
-  event = e;
-  is_event = there;
-  refused = λ left room next.
-      never_allowed m e why other answered
-      ((λ j. answer (program j) (many j) (state m) (count j) e)
-      ∙ (law p units (state m) index e well).1 (subst (λ (t : State). Next p units (state m) e t) (is_after p units (state m) left e next) next, room));
-}
+length_taken : {X : Type 0} (n : ℕ) (xs : List X) → n ≤ length xs → length (take n xs) ≡ n
+length_taken zero xs few = refl
+length_taken (suc n) [] few = absurd (omega arith)
+length_taken (suc n) (x ∷ xs) few = ap suc (length_taken n xs (omega arith))
+
+-- a machine after some of the events, each of which was allowed
+module _ (p : Listing) (units : ℕ) (events : List Event) (index : ℕ) (d : DrivenView) (same : d ≡ record { program = p; units = units; run = take index events }) where
+  pub refused_at : AnswerIsNext → NextIsAfter → (e : Event) → IsWellFormed p → slice_get events index ≡ Some e → index < length events → Replays d.program d.units d.run (state_after d.program d.run) → is_allowed d.program d.units d.run e ≡ false → IsRefusedAt p units events index
+  refused_at law is_after e well there below replays never = record {
+    before = state_after p (take index events);
+    allowed = subst (λ (x : DrivenView). Replays x.program x.units x.run (state_after x.program x.run)) same replays;
+    event = e;
+    is_event = there;
+    refused = λ after room next.
+        refused_so law is_after p units (take index events) e well (ap (λ (x : DrivenView). is_allowed x.program x.units x.run e) (sym same) ∙ never) after
+        (let long = length_taken index events (omega arith) in omega arith) next;
+  }
+
+  pub one_more_event : (new : DrivenView) (e : Event) → new ≡ record d { run = tried d.program d.units d.run e } → is_allowed d.program d.units d.run e ≡ true → index < length events → e ≡ get_or events index e → new ≡ record { program = p; units = units; run = take (index + 1) events }
+  one_more_event new e is may below here =
+      is
+      ∙ ap (λ (x : DrivenView). record x { run = tried x.program x.units x.run e }) same
+      ∙ ap (λ (run : List Event). record { program = p; units = units; run = run })
+      (now_tried p units (take index events) e (ap (λ (x : DrivenView). is_allowed x.program x.units x.run e) (sym same) ∙ may)
+      ∙ ap (λ (x : Event). take index events ++ x ∷ []) here ∙ sym (take_more events index e below))
+
+  all_run : length events ≤ index → d ≡ record { program = p; units = units; run = events }
+  all_run all = same ∙ ap (λ (run : List Event). record { program = p; units = units; run = run }) (whole index events all)
+
+  pub replays_all : length events ≤ index → Replays d.program d.units d.run (state_after d.program d.run) → Replays p units events (state_after p events)
+  replays_all all replays = subst (λ (x : DrivenView). Replays x.program x.units x.run (state_after x.program x.run)) (all_run all) replays
+
+  pub state_all : (s : State) → length events ≤ index → s ≡ state_after d.program d.run → s ≡ state_after p events
+  state_all s all is = is ∙ ap (λ (x : DrivenView). state_after x.program x.run) (all_run all)
+
+  pub few_all : length events ≤ index → length d.run ≤ most_events → length events ≤ most_events
+  few_all all few = subst (λ (x : DrivenView). length x.run ≤ most_events) (all_run all) few
 
 -- the item at an index that is there
 pub item_at : {X : Type 0} (xs : List X) (i : ℕ) (d : X) → i < length xs → slice_get xs i ≡ Some (slice_index_or xs i d)
@@ -40,11 +70,6 @@ at_end : {X : Type 0} (xs : List X) (o : Option X) → slice_get (xs ++ option_t
 at_end [] None = refl
 at_end [] (Some x) = refl
 at_end (y ∷ ys) o = at_end ys o
-
-length_taken : {X : Type 0} (n : ℕ) (xs : List X) → n ≤ length xs → length (take n xs) ≡ n
-length_taken zero xs few = refl
-length_taken (suc n) [] few = absurd (omega arith)
-length_taken (suc n) (x ∷ xs) few = ap suc (length_taken n xs (omega arith))
 
 pub count_so_far : (p : Listing) (reads : List Read) (number : ℕ) → number ≤ length reads → take number reads ≡ reads_of p number → length (reads_of p number) ≡ number
 count_so_far p reads number few same = ap (λ (xs : List Read). length xs) (sym same) ∙ length_taken number reads few
@@ -144,19 +169,5 @@ pub not_so : (b : Bool) → IsTrue (not b) → b ≡ false
 not_so true so = absurd (cc)
 not_so false so = refl
 
--- a harm that was found, with its task
-pub shows_so : (p : Listing) (s : State) (it : Harm) (told : Evidence) → DoesHarm p s it → ((held : WrongWord) → it ≡ harm.Held held → ReadsRight p s) → told.harm ≡ it → told.task ≡ harmed_task s it → Shows p s told
-shows_so p s it told does alone same_harm same_task = record {
-  harms = subst (DoesHarm p s) (sym same_harm) does;
-  task = same_task ∙ ap (harmed_task s) (sym same_harm);
-  alone = λ held is. alone held (sym same_harm ∙ is);
-}
-
--- and the judgement that says so
-pub shown_so : (p : Listing) (units : ℕ) (events : List Event) (s : State) (told said : Evidence) → Replays p units events s → Shows p s told → judged.Shown told ≡ judged.Shown said → IsShown p units events said
-shown_so p units events s told said replay shows same =
-    let is : told ≡ said = cc in
-    subst (IsShown p units events) is (record { after = s; allowed = replay; harms = shows.harms; task = shows.task })
-
-pub right_so : (p : Listing) (units : ℕ) (events : List Event) (s : State) → Replays p units events s → DoesNoHarm p s → IsRight p units events
-right_so p units events s replay right = record { after = s; allowed = replay; right = right }
+pub none_is : {X : Type 0} (P : Type 0) (o : Option X) → o ≡ None → IfNone o P → P
+none_is P o is given = subst (λ x. IfNone x P) is given

@@ -1,5 +1,5 @@
 -- What the search finds, and what it has seen where it finds nothing.
-use Rattle.demonstration.proofs.Imports.{◌≡◌, ℕ, ◌+◌, ◌^◌, ◌<◌, ◌≤◌, min, true, false, is_some, Option, Some, None, List, [], length, take, Result, Ok, Err, IfOk, IfSome, IfNone, refl, sym, ap, ◌∙◌, subst, arith, inl, inr, cases_lt, Input, PlainView, IsAfter, Makes, Listing, State, opening, plain_of, Replays, Event, DrivenView, IsDemonstration, IsRightAlone, IsSearched, each_tried, known_tasks, run_of, state_after, HasWrongWord, HoldsWrong, IsShown, ReadsRight, Shows, WordsRight, seen, Evidence, WrongWord}
+use Rattle.demonstration.proofs.Imports.{Result, Ok, Err, IfOk, IsTrue, min, known_tasks, IsNoneFound, IsRightAlone, ◌≡◌, ℕ, ◌+◌, ◌^◌, ◌<◌, ◌≤◌, true, false, is_some, Option, Some, None, List, [], ◌∷◌, length, length-append, take, IfSome, IfNone, refl, sym, ap, ◌∙◌, subst, arith, inl, inr, cases_lt, Input, PlainView, IsAfter, Makes, Listing, Active, State, opening, by_head, plain_of, Replays, Event, DrivenView, each_tried, run_of, state_after, HoldsWrong, IsShown, ReadsRight, Shows, WordsRight, read_by_head, seen, Evidence, WrongWord}
 use Rattle.mips_plain.specs.PlainMachine.{State as PlainState}
 use Rattle.mips_plain.specs.declared.outcome.OutOfMemory.{OutOfMemory}
 use Rattle.demonstration.specs.declared.search.Demonstration.{Demonstration}
@@ -15,6 +15,14 @@ room_to_run i made missing count plain is sum below = (let counted = is.count in
 pub caught_up : (i : Input) (made missing count : ℕ) (old new : PlainView) → IsAfter i made old → made + missing ≡ count → Makes missing old new → IsAfter i count new
 caught_up i made missing count old new is sum makes = subst (λ (n : ℕ). IsAfter i n new) sum (makes i made is)
 
+by_head_is : (us : List Active) → by_head us ≡ length (read_by_head us)
+by_head_is [] = refl
+by_head_is (u ∷ us) = refl
+
+-- the head's reads come after those of the retired tasks
+pub executed_is : (s : State) → length s.reads + by_head s.queue ≡ length (seen s)
+executed_is s = ap (λ (n : ℕ). length s.reads + n) (by_head_is s.queue) ∙ sym (length-append s.reads (read_by_head s.queue))
+
 -- the words of the head, after one event and the next
 
 abbrev pub after_some : Listing → List Event → (count : ℕ) → State
@@ -24,31 +32,23 @@ pub words_at_first : (p : Listing) (events : List Event) (count : ℕ) → count
 words_at_first p events count none =
     let first : count ≡ 0 = omega arith in
     subst (λ (n : ℕ). WordsRight p (after_some p events n)) (sym first)
-    (subst (WordsRight p) (sym (after_none p)) (λ h. no_head (opening p) (plain_of p (length (seen (opening p)))) refl h.register h.word h.right h.holds))
+    (subst (WordsRight p) (sym (after_none p)) (λ r word right below holds. no_head (opening p) (plain_of p (length (seen (opening p)))) refl r word right holds))
 
+-- the plain machine has made as many steps as the machine has executed instructions
 pub words_so : (p : Listing) (s : State) (plain : PlainState) (n : ℕ) → n ≡ length (seen s) → plain ≡ plain_of p n → ((r word right : ℕ) → r < 34 → HoldsWrong s plain r word right → ⊥) → WordsRight p s
-words_so p s plain n count is none = λ h.
-    none h.register h.word h.right h.below
-    (subst (λ (x : PlainState). HoldsWrong s x h.register h.word h.right) (sym (is ∙ ap (plain_of p) count)) h.holds)
-
-pub has_wrong_so : (p : Listing) (s : State) (plain : PlainState) (n r word right : ℕ) → n ≡ length (seen s) → plain ≡ plain_of p n → r < 34 → HoldsWrong s plain r word right → HasWrongWord p s
-has_wrong_so p s plain n r word right count is below holds = record {
-  register = r;
-  below = below;
-  word = word;
-  right = right;
-  holds = subst (λ (x : PlainState). HoldsWrong s x r word right) (is ∙ ap (plain_of p) count) holds;
-}
-
-pub has_wrong_if : (p : Listing) (s : State) (plain : PlainState) (n : ℕ) (found : Option WrongWord) → is_some found ≡ true → n ≡ length (seen s) → plain ≡ plain_of p n
-    → IfSome found (λ held. held.register < 34) → IfSome found (λ held. HoldsWrong s plain held.register held.word held.right) → HasWrongWord p s
-has_wrong_if p s plain n None some count is below holds = absurd (cc)
-has_wrong_if p s plain n (Some held) some count is below holds = has_wrong_so p s plain n held.register held.word held.right count is below holds
+words_so p s plain n count is none = λ r word right below holds.
+    none r word right below (subst (λ (x : PlainState). HoldsWrong s x r word right) (sym (is ∙ ap (plain_of p) count)) holds)
 
 pub words_if : (p : Listing) (s : State) (plain : PlainState) (n : ℕ) (found : Option WrongWord) → is_some found ≡ false → n ≡ length (seen s) → plain ≡ plain_of p n
     → IfNone found ((r word right : ℕ) → r < 34 → HoldsWrong s plain r word right → ⊥) → WordsRight p s
 words_if p s plain n None none count is words = words_so p s plain n count is words
 words_if p s plain n (Some held) none count is words = absurd (cc)
+
+pub wrong_if : (p : Listing) (s : State) (plain : PlainState) (n : ℕ) (found : Option WrongWord) → is_some found ≡ true → n ≡ length (seen s) → plain ≡ plain_of p n
+    → IfSome found (λ held. held.register < 34) → IfSome found (λ held. HoldsWrong s plain held.register held.word held.right) → WordsRight p s → ⊥
+wrong_if p s plain n None some count is below holds = absurd (cc)
+wrong_if p s plain n (Some held) some count is below holds = λ words.
+    words held.register held.word held.right below (subst (λ (x : PlainState). HoldsWrong s x held.register held.word held.right) (is ∙ ap (plain_of p) count) holds)
 
 pub words_more : (p : Listing) (events : List Event) (index : ℕ) → ((count : ℕ) → count ≤ index → WordsRight p (after_some p events count)) → WordsRight p (after_some p events (index + 1)) → (count : ℕ) → count ≤ index + 1 → WordsRight p (after_some p events count)
 words_more p events index before now = λ count few. elim (cases_lt count (index + 1)) [
@@ -64,8 +64,7 @@ shown_of p d units events it program many same replays shows = record {
       subst (λ (n : ℕ). Replays p n events (state_after p d.run)) (sym many)
       (subst (λ (es : List Event). Replays p d.units es (state_after p d.run)) (sym same)
       (subst (λ (q : Listing). Replays q d.units d.run (state_after q d.run)) program replays));
-  harms = shows.harms;
-  task = shows.task;
+  shows = shows;
 }
 
 -- the runs on more and more units
@@ -90,18 +89,24 @@ right_from p guesses steps least n most before rest = λ units low few. elim (ca
   | inr past ↦ rest units past
 ]
 
--- all together
+pub none_found : (p : Listing) (guesses : List ℕ) (most_units steps : ℕ) → guesses ≡ known_tasks p steps → ((units : ℕ) → min most_units 2 ≤ units → units ≤ most_units → ReadsRight p (state_after p (run_of p units guesses steps)))
+    → IsRightAlone p (run_of p 1 [] steps) → IsNoneFound p most_units steps
+none_found p guesses most_units steps known right alone = record {
+  guessed = λ units low few. subst (λ (g : List ℕ). ReadsRight p (state_after p (run_of p units g steps))) known (right units low few);
+  alone = alone;
+}
 
-abbrev pub IsGuessedRight : Listing → (guesses : List ℕ) → (most_units steps : ℕ) → Type 0
-IsGuessedRight p guesses most_units steps =
-    (units : ℕ) → min most_units 2 ≤ units → units ≤ most_units → ReadsRight p (state_after p (run_of p units guesses steps))
+-- on one unit
 
-pub searched_so : (p : Listing) (guesses : List ℕ) (most_units steps : ℕ) (found : Result (Option Demonstration) OutOfMemory) → 0 < most_units → guesses ≡ known_tasks p steps → IsGuessedRight p guesses most_units steps
-    → IfOk found (λ answer. IfSome answer (λ d. IsDemonstration p d × (d.units ≡ 1)))
-    → IfOk found (λ answer. IfNone answer (IsRightAlone p (run_of p 1 [] steps)))
-    → IfOk found (IsSearched p most_units steps)
-searched_so p guesses most_units steps (Ok None) some known right shown alone =
-    record { guessed = subst (λ (g : List ℕ). IsGuessedRight p g most_units steps) known right; alone = alone }
-searched_so p guesses most_units steps (Ok (Some d)) some known right shown alone =
-    (shown.0, let one = shown.1 in omega arith)
-searched_so p guesses most_units steps (Err fault) some known right shown alone = tt
+pub alone_if : (p : Listing) (run : List Event) (found : Result (Option Demonstration) OutOfMemory) → IfOk found (λ answer. IfNone answer (ReadsRight p (state_after p run)))
+    → IfOk found (λ answer. IfNone answer (IsTrue true → WordsRight p (state_after p run))) → ((count : ℕ) → count ≤ length run → WordsRight p (state_after p (each_tried p 1 [] (take count run))))
+    → IfOk found (λ answer. IfNone answer (IsRightAlone p run))
+alone_if p run (Ok None) reads words each = record { right = record { reads = reads; words = words refl }; words = each }
+alone_if p run (Ok (Some d)) reads words each = tt
+alone_if p run (Err fault) reads words each = tt
+
+pub never_if : (p : Listing) (run few : List Event) (found : Result (Option Demonstration) OutOfMemory) → IfOk found (λ answer. IfNone answer (IsTrue true → WordsRight p (state_after p few)))
+    → (WordsRight p (state_after p few) → ⊥) → IfOk found (λ answer. IfNone answer (IsRightAlone p run))
+never_if p run few (Ok None) words wrong = absurd (wrong (words refl))
+never_if p run few (Ok (Some d)) words wrong = tt
+never_if p run few (Err fault) words wrong = tt

@@ -28,12 +28,12 @@ module _ (p : Listing) (s : State) (claims : Claims p s) (right : SeenRight p s)
 
   not_cut_off : (cut : _) → DoesHarm p s (harm.CutOff cut) → ⊥
   not_cut_off cut h =
-      let c = h.cut in
+      let c = h.1 in
       right.unlisted cut.at c.ends c.count c.last c.is_last c.is_read (subst (NamesItsPlace p) (sym c.is_from) c.names)
 
   no_stale_word : (held : _) → DoesHarm p s (harm.Held held) → ⊥
   no_stale_word held h =
-      let w = h.holds in
+      let w = h.2 in
       let is : value w.head held.register ≡ Some ((plain_of p (length (seen s))).regs held.register) =
       claims.head w.head w.is_head held.register ∙ ap (λ (n : ℕ). Some ((plain_of p n).regs held.register)) (sym (seen_count p s claims)) in
       let same : Some held.word ≡ Some ((plain_of p (length (seen s))).regs held.register) = sym w.has_word ∙ is in
@@ -49,4 +49,4 @@ pub nothing_shown : (p : Listing) → length p.code ≤ 4096 → Sound p → Sho
 nothing_shown p fits sound = λ units events it shown.
     let s = shown.after in
     no_harm p s (every_replay_good p fits sound units events s shown.allowed).claims
-    (every_replay_seen p fits sound units events s shown.allowed) it.harm shown.harms
+    (every_replay_seen p fits sound units events s shown.allowed) it.harm shown.shows.0

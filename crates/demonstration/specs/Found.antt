@@ -9,7 +9,8 @@ use Rattle.demonstration.specs.Shown.{IsShown, DoesNoHarm, ReadsRight, WordsRigh
 use Rattle.demonstration.specs.declared.search.Demonstration.{Demonstration}
 
 pub record IsDemonstration (p : Listing) (d : Demonstration) : Type 0 where
-  pub units : 0 < d.units
+  pub some : 0 < d.units
+  pub few : d.units ≤ 16
   pub room : length d.events.items ≤ most_events
   pub shown : IsShown p d.units d.events.items d.evidence
 

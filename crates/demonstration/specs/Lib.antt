@@ -3,6 +3,5 @@ pub mod Rounds
 pub mod Driven
 pub mod Found
 pub mod Laws
-pub mod Judging
 pub mod LastWriter
 pub mod DemonstrateText

@@ -1,13 +1,22 @@
 //! A machine together with the events that changed it.
 
-use crate::judge::is_memory;
-use machine_model::event::Event;
+ghost use Rattle.std.specs.Prelude.{◌≡◌, ◌↔◌, IsTrue};
+ghost use Rattle.machine_model.specs.declared.event.Refused.TheVariants as refused;
+
+use machine_model::event::{Event, Refused};
 use machine_model::laws::replays_join;
 use mips_plain::outcome::OutOfMemory;
 use open_machine::machine::OpenMachine;
 use std::alloc::Global;
 use std::marker::Model;
 use task_descriptor::program::Program;
+
+/// Whether it is want of memory that refused an event.
+fn is_memory(why: Refused) -> bool
+    ensures { IsTrue result ↔ (why ≡ refused.OutOfMemory) }
+{
+    matches!(why, Refused::OutOfMemory)
+}
 
 /// A machine, and the events that changed it, the first one first.
 #[derive(Drop)]
@@ -27,11 +36,11 @@ impl<'a> Model for Driven<'a> {
 }
 
 impl<'a> Driven<'a> {
-    ghost use Rattle.std.specs.Prelude.{◌≡◌, ◌≤◌, [], length, IfOk, OnOk};
+    ghost use Rattle.std.specs.Prelude.{◌≤◌, [], length, IfOk, OnOk};
     ghost use Rattle.machine_model.specs.Answer.{most_events};
     ghost use Rattle.machine_model.specs.Replay.{Replays};
     ghost use Rattle.open_machine.specs.Machines.{state, units_of};
-    ghost use Rattle.demonstration.specs.Rounds.{state_after, tried};
+    ghost use Rattle.demonstration.specs.Rounds.{is_allowed, state_after, tried};
 
     /// A machine with this many units at the start of the program.
     #[tactic(auto, using(crate::proofs::Driving::opened_driven))]
@@ -50,20 +59,15 @@ impl<'a> Driven<'a> {
         })
     }
 
-    /// The machine.
+    /// The machine, in the state that the events leave, which are as many as a machine allows.
     pub(crate) fn machine(&self) -> &OpenMachine<'a>
         ensures program { result.now.program ≡ self.now.program }
         ensures units { units_of result.now ≡ self.now.units }
         ensures state { state result.now ≡ state_after self.now.program self.now.run }
+        ensures room { length self.now.run ≤ most_events }
+        ensures replays { Replays self.now.program self.now.units self.now.run (state_after self.now.program self.now.run) }
     {
         &self.machine
-    }
-
-    /// How many events there are.
-    pub(crate) fn count(&self) -> usize
-        ensures { result ≡ length self.now.run }
-    {
-        self.events.len()
     }
 
     /// The events.
@@ -73,32 +77,31 @@ impl<'a> Driven<'a> {
         &self.events
     }
 
-    /// The events alone, which are as many as a machine allows and leave the state.
+    /// The events alone.
     pub(crate) fn into_events(self) -> Vec<Event>
-        ensures events { result.items ≡ self.entry.run }
-        ensures room { length self.entry.run ≤ most_events }
-        ensures replays { Replays self.entry.program self.entry.units self.entry.run (state_after self.entry.program self.entry.run) }
+        ensures { result.items ≡ self.entry.run }
     {
         let Driven { machine: _, events } = self;
         events
     }
 
-    /// Tries an event: it is added where the machine allows it.
-    pub(crate) fn try_event(&mut self, event: Event) -> Result<(), OutOfMemory>
-        ensures { OnOk result (self.new ≡ record self.old { run = tried self.old.program self.old.units self.old.run event }) }
+    /// Tries an event: it is added where the machine allows it. The result says whether it was.
+    pub(crate) fn try_event(&mut self, event: Event) -> Result<bool, OutOfMemory>
+        ensures run { OnOk result (self.new ≡ record self.old { run = tried self.old.program self.old.units self.old.run event }) }
+        ensures allowed { IfOk result (λ allowed. allowed ≡ is_allowed self.old.program self.old.units self.old.run event) }
     {
         replays_join();
         self.events.reserve(1)?;
         match self.machine.apply(&event) {
             Ok(()) => {
                 self.events.push_reserved(event);
-                Ok(())
+                Ok(true)
             }
             Err(why) => {
                 if is_memory(why) {
                     return Err(OutOfMemory);
                 }
-                Ok(())
+                Ok(false)
             }
         }
     }

@@ -4,7 +4,7 @@ use annotated_asm::position::Position;
 use annotator::certify::certify;
 use event_script::writing::task_name;
 use event_trace::text::write_place;
-use finding_paths::shown::{ShownFinding, shown_findings};
+use finding_paths::shown::shown_findings;
 use mark_checker::finding::Finding;
 use std::alloc::{AllocError, Global};
 use task_descriptor::program::Program;
@@ -22,23 +22,13 @@ pub(crate) fn write_first_finding(
     let least = certify(alloc, program)?;
     let first = shown_findings(alloc, program, &least, 1)?;
     for shown in &first.list {
-        write_shown(text, program, places, shown)?;
+        text.push_str("the first of them: ")?;
+        write_finding(text, program, places, &shown.finding)?;
+        if let Some(path) = &shown.path {
+            write_path(text, places, path.as_slice())?;
+        }
     }
     Ok(())
-}
-
-fn write_shown(
-    text: &mut String,
-    program: &Program,
-    places: &[Position],
-    shown: &ShownFinding,
-) -> Result<(), AllocError> {
-    text.push_str("the first of them: ")?;
-    write_finding(text, program, places, &shown.finding)?;
-    match &shown.path {
-        Some(path) => write_path(text, places, path.as_slice()),
-        None => Ok(()),
-    }
 }
 
 // Where a finding is, of which task, and the rule that it breaks, with which register.

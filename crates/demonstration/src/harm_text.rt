@@ -102,20 +102,16 @@ fn write_wrong_word(
 // The operand of an instruction that is wrong: its first, or its second where the first is right.
 fn wrong_operand(op: &Op, number: usize, read: Read, right: Read) -> WrongWord {
     let (first, second) = op.sources();
-    if read.a == right.a {
-        WrongWord {
-            number,
-            register: register_of(second),
-            word: read.b,
-            right: right.b,
-        }
+    let (source, word, right) = if read.a == right.a {
+        (second, read.b, right.b)
     } else {
-        WrongWord {
-            number,
-            register: register_of(first),
-            word: read.a,
-            right: right.a,
-        }
+        (first, read.a, right.a)
+    };
+    WrongWord {
+        number,
+        register: register_of(source),
+        word,
+        right,
     }
 }
 

@@ -1,28 +1,20 @@
 //! The judgement of a list of events: whether it shows the harm of a wrong mark. What was read is compared with what the
 //! sequential machine reads, and the end of the run with where the sequential machine continues.
 
-ghost use Rattle.std.specs.Prelude.{◌≡◌, ℕ, ◌<◌, ◌≤◌, Some, None, IfSome, IfNone, IfOk, IfErr, length, unwrap_or, option_to_list, IsTrue, ◌↔◌};
+ghost use Rattle.std.specs.Prelude.{◌≡◌, ℕ, ◌<◌, ◌≤◌, ◌↔◌, IfSome, IfNone, IfOk, IfErr, IsTrue, length, unwrap_or, option_to_list};
 ghost use Rattle.mips_plain.specs.PlainMachine.{reads_when};
-ghost use Rattle.mips_plain.specs.PlainView.{machine_state};
+ghost use Rattle.mips_plain.specs.PlainView.{machine_state, IsAfter};
 ghost use Rattle.task_descriptor.specs.Listing.{input};
-ghost use Rattle.machine_model.specs.Answer.{most_events};
-ghost use Rattle.machine_model.specs.Replay.{Replays};
-ghost use Rattle.open_machine.specs.Machines.{state};
-ghost use Rattle.mips_plain.specs.PlainView.{IsAfter};
 ghost use Rattle.task_graph.specs.Edges.{is_indirect as is_indirect_of};
-ghost use Rattle.demonstration.specs.Shown.{AreRight, IsFirstStale, IsCutAt, HoldsWrong, NamesItsPlace, ReadsRight, DoesHarm, DoesNoHarm, Shows, IsShown, harmed_task, head_task, reading_task, seen as seen_in};
-ghost use Rattle.unit_core.specs.Units.{active_of};
-ghost use Rattle.machine_model.specs.Machine.{value};
-ghost use Rattle.machine_model.specs.declared.event.Refused.TheVariants as refused;
-ghost use Rattle.mips_plain.specs.declared.outcome.Outcome.TheVariants as outcome;
-ghost use Rattle.demonstration.specs.Judging.{IsRefusedAt, IsRight, reads_agree, wrong_word as wrong_word_of};
+ghost use Rattle.machine_model.specs.Answer.{most_events};
+ghost use Rattle.open_machine.specs.Machines.{state};
+ghost use Rattle.demonstration.specs.Shown.{AreRight, IsFirstStale, IsCutAt, HoldsWrong, NamesItsPlace, ReadsRight, Shows, IsRefusedAt, IsRight, IsShown, WordsRight, reading_task, reads_agree, seen as seen_in, wrong_word as wrong_word_of};
 ghost use Rattle.demonstration.specs.declared.judge.Evidence.{Evidence};
 ghost use Rattle.demonstration.specs.declared.judge.Judgement.TheVariants as judged;
-ghost use Rattle.demonstration.specs.declared.judge.Harm.TheVariants as harms;
-ghost use Rattle.demonstration.specs.declared.judge.WrongWord.{WrongWord};
 
-use machine_model::event::{Commit, Event, Refused, Standing};
-use machine_model::laws::{answer_is_next, next_is_after, replays_join};
+use crate::driven::Driven;
+use machine_model::event::{Commit, Event, Standing};
+use machine_model::laws::{answer_is_next, next_is_after};
 use mips_instructions::instruction::Op;
 use mips_instructions::number::Reg;
 use mips_plain::outcome::{OutOfMemory, Outcome, Read};
@@ -96,45 +88,6 @@ pub enum Judgement {
     Shown(Evidence),
 }
 
-/// Whether it is want of memory that refused an event.
-pub(crate) fn is_memory(why: Refused) -> bool
-    ensures { IsTrue result ↔ (why ≡ refused.OutOfMemory) }
-{
-    matches!(why, Refused::OutOfMemory)
-}
-
-/// The machine after a list of events, or the index of the first event that is not allowed.
-fn play<'a>(
-    alloc: Global,
-    program: &'a Program,
-    units: u32,
-    events: &[Event],
-) -> Result<Result<OpenMachine<'a>, usize>, OutOfMemory>
-    requires { units ≤ 16 }
-    ensures played { IfOk result (λ played. IfOk played (λ machine. Replays program.now units events.now (state machine))) }
-    ensures few { IfOk result (λ played. IfOk played (λ machine. length events.now ≤ most_events)) }
-    ensures refused { IfOk result (λ played. IfErr played (λ index. IsRefusedAt program.now units events.now index)) }
-{
-    replays_join();
-    answer_is_next();
-    next_is_after();
-    // A program says that it is well formed, which the laws ask for, where its start is read.
-    let _ = program.start();
-    let mut machine = OpenMachine::new(alloc, program, units)?;
-    for index in 0..events.len() {
-        match machine.apply(&events[index]) {
-            Ok(()) => {}
-            Err(why) => {
-                if is_memory(why) {
-                    return Err(OutOfMemory);
-                }
-                return Ok(Err(index));
-            }
-        }
-    }
-    Ok(Ok(machine))
-}
-
 /// The word of the operand in a register of the plain machine; 0 where there is no operand.
 fn operand(plain: &Plain, source: Option<Reg>) -> u32
     ensures { result ≡ (machine_state plain.now).regs (unwrap_or source 0) }
@@ -143,13 +96,6 @@ fn operand(plain: &Plain, source: Option<Reg>) -> u32
         Some(register) => plain.reg(register),
         None => unreachable!(),
     }
-}
-
-/// Whether the plain machine has not ended.
-fn goes_on(plain: &Plain) -> bool
-    ensures { IsTrue result ↔ ((machine_state plain.now).outcome ≡ outcome.Running) }
-{
-    matches!(plain.outcome(), Outcome::Running)
 }
 
 /// Whether a read is the right one.
@@ -166,9 +112,9 @@ fn agrees(right: Option<Read>, read: Read) -> bool
 fn next_read(program: &Program, plain: &Plain) -> Option<Read>
     ensures { option_to_list result ≡ reads_when (machine_state plain.now).outcome (input program.now) (machine_state plain.now) }
 {
-    if !goes_on(plain) {
+    let Outcome::Running = plain.outcome() else {
         return None;
-    }
+    };
     let pc = plain.pc();
     let Some(index) = program.index(pc) else {
         return Some(Read { pc, a: 0, b: 0 });
@@ -236,37 +182,28 @@ fn names_its_place(program: &Program, pc: u32) -> bool
     }
 }
 
-/// Whether the plain machine goes on at an address, to which the instruction at `from` names the way.
-fn leads_on(program: &Program, from: u32, at: u32, plain: &Plain) -> bool
-    ensures { IsTrue result ↔ (((machine_state plain.now).outcome ≡ outcome.Running) × ((machine_state plain.now).pc ≡ at) × NamesItsPlace program.now from) }
+/// Whether the run ended too early, given what was seen and the plain machine after as many steps.
+#[tactic(auto, using(crate::proofs::Harmless::cut_so, crate::proofs::Harmless::not_cut))]
+fn cut_off(
+    program: &Program,
+    machine: &OpenMachine<'_>,
+    reads: &[Read],
+    plain: &Plain,
+) -> Option<CutOff>
+    requires reads { reads.now ≡ seen_in (state machine.now) }
+    requires plain { IsAfter (input program.now) (length reads.now) plain.now }
+    ensures some { IfSome result (λ cut. IsCutAt program.now (state machine.now) cut.from cut.at) }
+    ensures none { IfNone result ((from at : ℕ) → IsCutAt program.now (state machine.now) from at → ⊥) }
 {
-    if !goes_on(plain) {
-        return false;
-    }
-    if plain.pc() != at {
-        return false;
-    }
-    names_its_place(program, from)
-}
-
-/// Whether a run with this outcome after these reads ended too early, given the plain machine's state.
-#[tactic(auto, using(crate::proofs::Harmless::not_cut))]
-fn cut_off(program: &Program, standing: Standing, reads: &[Read], plain: &Plain) -> Option<CutOff>
-    ensures some { IfSome result (λ cut. IsCutAt program.now standing reads.now (machine_state plain.now) cut.from cut.at) }
-    ensures none { IfNone result ((from at : ℕ) → IsCutAt program.now standing reads.now (machine_state plain.now) from at → ⊥) }
-{
-    let Standing::Unlisted(at) = standing else {
+    let Standing::Unlisted(at) = machine.outcome() else {
         return None;
     };
-    if reads.is_empty() {
-        return None;
+    let from = reads.last()?.pc;
+    let goes_on = matches!(plain.outcome(), Outcome::Running) && plain.pc() == at;
+    if goes_on && names_its_place(program, from) {
+        return Some(CutOff { from, at });
     }
-    let from = reads[reads.len() - 1].pc;
-    if leads_on(program, from, at, plain) {
-        Some(CutOff { from, at })
-    } else {
-        None
-    }
+    None
 }
 
 /// The word, if there is one and it is not the right one.
@@ -305,40 +242,6 @@ pub(crate) fn wrong_word(machine: &OpenMachine<'_>, plain: &Plain, made: usize) 
     None
 }
 
-/// What the machine shows after events that it allowed, where all reads are the plain machine's, which has made as
-/// many steps.
-fn harm_after(
-    program: &Program,
-    machine: &OpenMachine<'_>,
-    reads: &[Read],
-    plain: &Plain,
-) -> Option<Harm>
-    requires right { AreRight program.now reads.now }
-    requires reads { reads.now ≡ seen_in (state machine.now) }
-    requires plain { IsAfter (input program.now) (length reads.now) plain.now }
-    ensures some { IfSome result (λ harm. DoesHarm program.now (state machine.now) harm) }
-    ensures held { IfSome result (λ harm. (held : WrongWord) → harm ≡ harms.Held held → ReadsRight program.now (state machine.now)) }
-    ensures none { IfNone result (DoesNoHarm program.now (state machine.now)) }
-{
-    match cut_off(program, machine.outcome(), reads, plain) {
-        Some(cut) => Some(Harm::CutOff(cut)),
-        None => match wrong_word(machine, plain, reads.len()) {
-            Some(held) => Some(Harm::Held(held)),
-            None => None,
-        },
-    }
-}
-
-/// The number of the head's task; 0 where there is no head.
-fn task_of_head(machine: &OpenMachine<'_>) -> u32
-    ensures { result ≡ head_task (state machine.now).queue }
-{
-    match machine.unit(0) {
-        Some(head) => head.task(),
-        None => 0,
-    }
-}
-
 /// The number of the task that made the read of this number: a retired one, else the head's.
 fn task_of_read(commits: &[Commit], head: u32, number: usize) -> u32
     ensures { result ≡ reading_task commits.now head number }
@@ -353,69 +256,44 @@ fn task_of_read(commits: &[Commit], head: u32, number: usize) -> u32
     head
 }
 
-/// A harm with the task that it is done to.
-fn with_task(machine: &OpenMachine<'_>, harm: Harm) -> Evidence
-    ensures harm { result.harm ≡ harm }
-    ensures task { result.task ≡ harmed_task (state machine.now) harm }
-{
-    let head = task_of_head(machine);
-    let task = match harm {
-        Harm::Stale(stale) => task_of_read(machine.commits(), head, stale.number),
-        Harm::CutOff(_) | Harm::Held(_) => head,
-    };
-    Evidence { harm, task }
-}
-
-/// What the machine shows of a program after events that it allowed.
-fn harm_on(
-    alloc: Global,
-    program: &Program,
-    machine: &OpenMachine<'_>,
-) -> Result<Option<Harm>, OutOfMemory>
-    ensures some { IfOk result (λ found. IfSome found (λ harm. DoesHarm program.now (state machine.now) harm)) }
-    ensures held { IfOk result (λ found. IfSome found (λ harm. (held : WrongWord) → harm ≡ harms.Held held → ReadsRight program.now (state machine.now))) }
-    ensures none { IfOk result (λ found. IfNone found (DoesNoHarm program.now (state machine.now))) }
-{
-    let reads = seen(alloc, machine)?;
-    match compare(alloc, program, &reads)? {
-        Ok(plain) => Ok(harm_after(program, machine, &reads, &plain)),
-        Err(stale) => Ok(Some(Harm::Stale(stale))),
-    }
-}
-
-/// What the machine shows of a program, and to which task; `None` where it shows no departure.
-#[tactic(auto, using(crate::proofs::Judging::shows_so))]
+/// What the machine shows of a program, and to which task; `None` where it shows no departure. Where `words` is false, a
+/// wrong word that no instruction has read is none.
 pub(crate) fn shows(
     alloc: Global,
     program: &Program,
     machine: &OpenMachine<'_>,
+    words: bool,
 ) -> Result<Option<Evidence>, OutOfMemory>
     ensures some { IfOk result (λ found. IfSome found (λ it. Shows program.now (state machine.now) it)) }
-    ensures none { IfOk result (λ found. IfNone found (DoesNoHarm program.now (state machine.now))) }
+    ensures reads { IfOk result (λ found. IfNone found (ReadsRight program.now (state machine.now))) }
+    ensures words { IfOk result (λ found. IfNone found (IsTrue words → WordsRight program.now (state machine.now))) }
 {
-    match harm_on(alloc, program, machine)? {
-        Some(harm) => Ok(Some(with_task(machine, harm))),
-        None => Ok(None),
+    let task = match machine.unit(0) {
+        Some(head) => head.task(),
+        None => 0,
+    };
+    let reads = seen(alloc, machine)?;
+    let plain = match compare(alloc, program, &reads)? {
+        Ok(plain) => plain,
+        Err(stale) => {
+            let task = task_of_read(machine.commits(), task, stale.number);
+            let harm = Harm::Stale(stale);
+            return Ok(Some(Evidence { harm, task }));
+        }
+    };
+    if let Some(cut) = cut_off(program, machine, &reads, &plain) {
+        let harm = Harm::CutOff(cut);
+        return Ok(Some(Evidence { harm, task }));
     }
-}
-
-/// What the machine shows of a program after these events, which it allowed.
-#[tactic(auto, using(crate::proofs::Judging::shown_so, crate::proofs::Judging::right_so))]
-fn judge_allowed(
-    alloc: Global,
-    program: &Program,
-    units: u32,
-    events: &[Event],
-    machine: &OpenMachine<'_>,
-) -> Result<Judgement, OutOfMemory>
-    requires { Replays program.now units events.now (state machine.now) }
-    ensures refused { IfOk result (λ judgement. (index : ℕ) → judgement ≡ judged.Refused index → ⊥) }
-    ensures right { IfOk result (λ judgement. judgement ≡ judged.Right → IsRight program.now units events.now) }
-    ensures shown { IfOk result (λ judgement. (it : Evidence) → judgement ≡ judged.Shown it → IsShown program.now units events.now it) }
-{
-    match shows(alloc, program, machine)? {
-        Some(evidence) => Ok(Judgement::Shown(evidence)),
-        None => Ok(Judgement::Right),
+    if !words {
+        return Ok(None);
+    }
+    match wrong_word(machine, &plain, reads.len()) {
+        Some(held) => {
+            let harm = Harm::Held(held);
+            Ok(Some(Evidence { harm, task }))
+        }
+        None => Ok(None),
     }
 }
 
@@ -437,8 +315,20 @@ pub fn judge(
     ensures shown { IfOk result (λ judgement. (it : Evidence) → judgement ≡ judged.Shown it → IsShown program.now units events.now it) }
     ensures few { IfOk result (λ judgement. (it : Evidence) → judgement ≡ judged.Shown it → length events.now ≤ most_events) }
 {
-    match play(alloc, program, units, events)? {
-        Ok(machine) => judge_allowed(alloc, program, units, events, &machine),
-        Err(index) => Ok(Judgement::Refused(index)),
+    answer_is_next();
+    next_is_after();
+    // A program says that it is well formed, which the laws ask for, where its start is read; and a driven machine says that
+    // its events are allowed where it is lent.
+    let _ = program.start();
+    let mut driven = Driven::new(alloc, program, units)?;
+    for index in 0..events.len() {
+        let _ = driven.machine();
+        if !driven.try_event(events[index])? {
+            return Ok(Judgement::Refused(index));
+        }
+    }
+    match shows(alloc, program, driven.machine(), true)? {
+        Some(evidence) => Ok(Judgement::Shown(evidence)),
+        None => Ok(Judgement::Right),
     }
 }

@@ -1,9 +1,10 @@
 //! Runs in rounds: the head retires if it may, each unit takes and sends what it can and executes one instruction, and a
 //! unit that is free begins with a task.
 
-ghost use Rattle.std.specs.Prelude.{◌≡◌, ℕ, ◌<◌, ◌≤◌, ◌↔◌, [], flat_map, length, IfOk, IsTrue, OnOk};
+ghost use Rattle.std.specs.Prelude.{◌≡◌, ℕ, ◌<◌, ◌≤◌, ◌↔◌, [], length, IfOk, IsTrue, OnOk};
+ghost use Rattle.std.specs.List.{fold};
 ghost use Rattle.open_machine.specs.Machines.{state, units_of};
-ghost use Rattle.demonstration.specs.Rounds.{begun, each_tried, first_begins, has_open_tail as has_open_tail_of, known_tasks as known_tasks_of, next_place as next_place_of, of_register, of_unit, registers, round as round_of, run_of, units_tried};
+ghost use Rattle.demonstration.specs.Rounds.{begun, first_begins, has_open_tail as has_open_tail_of, known_tasks as known_tasks_of, next_place as next_place_of, register_tried, registers, round as round_of, run_of, units_tried};
 
 use crate::driven::Driven;
 use machine_model::event::{Event, Spot};
@@ -13,19 +14,10 @@ use open_machine::machine::OpenMachine;
 use std::alloc::Global;
 use task_descriptor::program::Program;
 
-/// A run, and whether a unit was free each time that a task was to begin: on more units it is the same then.
-#[derive(Drop)]
-pub(crate) struct Course<'a> {
-    /// The run.
-    pub(crate) driven: Driven<'a>,
-    /// Whether a unit was free each time.
-    pub(crate) is_free: bool,
-}
-
 /// A unit takes and sends each register, if it may.
 #[tactic(auto, using(crate::proofs::Rounding::one_more_register, crate::proofs::Rounding::all_registers))]
 fn try_registers(driven: &mut Driven<'_>, position: u32) -> Result<(), OutOfMemory>
-    ensures { OnOk result (driven.new ≡ record driven.old { run = each_tried driven.old.program driven.old.units driven.old.run (flat_map (of_register position) registers) }) }
+    ensures { OnOk result (driven.new ≡ record driven.old { run = fold (register_tried driven.old.program driven.old.units position) driven.old.run registers }) }
 {
     for number in 0..34u8 {
         let Some(register) = Reg::new(number) else {
@@ -37,23 +29,15 @@ fn try_registers(driven: &mut Driven<'_>, position: u32) -> Result<(), OutOfMemo
     Ok(())
 }
 
-/// What is tried of a unit.
-#[tactic(auto, using(crate::proofs::Rounding::one_unit))]
-fn try_unit(driven: &mut Driven<'_>, position: u32) -> Result<(), OutOfMemory>
-    ensures { OnOk result (driven.new ≡ record driven.old { run = each_tried driven.old.program driven.old.units driven.old.run (of_unit position) }) }
-{
-    driven.try_event(Event::Squash(position))?;
-    try_registers(driven, position)?;
-    driven.try_event(Event::Exec(position))
-}
-
-/// What is tried of each unit at work.
-#[tactic(auto, using(crate::proofs::Rounding::one_more_unit, crate::proofs::Rounding::all_units))]
+/// What is tried of each unit at work: what follows it is squashed, and it executes an instruction.
+#[tactic(auto, using(crate::proofs::Rounding::one_more_unit))]
 fn try_units(driven: &mut Driven<'_>) -> Result<(), OutOfMemory>
     ensures { OnOk result (driven.new ≡ record driven.old { run = units_tried driven.old.program driven.old.units driven.old.run }) }
 {
     for position in 0..driven.machine().active() {
-        try_unit(driven, position)?;
+        driven.try_event(Event::Squash(position))?;
+        try_registers(driven, position)?;
+        driven.try_event(Event::Exec(position))?;
     }
     Ok(())
 }
@@ -72,10 +56,8 @@ fn has_open_tail(machine: &OpenMachine<'_>) -> bool
 fn begin_first(driven: &mut Driven<'_>) -> Result<(), OutOfMemory>
     ensures { OnOk result (driven.new ≡ record driven.old { run = first_begins driven.old.program driven.old.units driven.old.run 0 (length driven.old.program.tasks) }) }
 {
-    let before = driven.count();
     for task in 0..driven.machine().program().tasks().len() as u32 {
-        driven.try_event(Event::Assign(task))?;
-        if driven.count() > before {
+        if driven.try_event(Event::Assign(task))? {
             return Ok(());
         }
     }
@@ -102,7 +84,10 @@ fn begin_on_free(driven: &mut Driven<'_>, guesses: &[u32]) -> Result<(), OutOfMe
         return begin_first(driven);
     }
     match guesses.get(next_place(driven.machine())) {
-        Some(task) => driven.try_event(Event::Assign(*task)),
+        Some(task) => {
+            driven.try_event(Event::Assign(*task))?;
+            Ok(())
+        }
         None => Ok(()),
     }
 }
@@ -142,34 +127,35 @@ fn round(driven: &mut Driven<'_>, guesses: &[u32]) -> Result<bool, OutOfMemory>
 }
 
 /// The run on so many units with these guesses of the tasks that follow one another: rounds, until there are at least
-/// `steps` events, or no event is allowed.
-#[tactic(auto, using(crate::proofs::Rounding::no_rounds, crate::proofs::Rounding::ends_full, crate::proofs::Rounding::ends_still, crate::proofs::Rounding::goes_on_by, crate::proofs::MoreUnits::same_full, crate::proofs::MoreUnits::same_next, crate::proofs::MoreUnits::same_still))]
+/// `steps` events, or no event is allowed. And whether a unit was free each time that a task was to begin: on more units the
+/// run is the same then.
+#[tactic(auto, using(crate::proofs::Rounding::ends_full, crate::proofs::Rounding::ends_still, crate::proofs::Rounding::goes_on, crate::proofs::Rounding::ends_last))]
 pub(crate) fn drive<'a>(
     alloc: Global,
     program: &'a Program,
     units: u32,
     guesses: &[u32],
     steps: u32,
-) -> Result<Course<'a>, OutOfMemory>
+) -> Result<(Driven<'a>, bool), OutOfMemory>
     requires { units ≤ 16 }
-    ensures run { IfOk result (λ course. course.driven ≡ record { program = program.now; units = units; run = run_of program.now units guesses.now steps }) }
-    ensures free { IfOk result (λ course. IsTrue course.is_free → (more : ℕ) → units ≤ more
+    ensures run { IfOk result (λ course. course.0 ≡ record { program = program.now; units = units; run = run_of program.now units guesses.now steps }) }
+    ensures free { IfOk result (λ course. IsTrue course.1 → (more : ℕ) → units ≤ more
         → run_of program.now more guesses.now steps ≡ run_of program.now units guesses.now steps) }
 {
     let mut driven = Driven::new(alloc, program, units)?;
     let mut is_free = true;
     for _ in 0..steps {
-        let before = driven.count();
+        let before = driven.events().len();
         if before >= steps as usize {
-            return Ok(Course { driven, is_free });
+            return Ok((driven, is_free));
         }
         let was_free = round(&mut driven, guesses)?;
         is_free = is_free && was_free;
-        if driven.count() == before {
-            return Ok(Course { driven, is_free });
+        if driven.events().len() <= before {
+            return Ok((driven, is_free));
         }
     }
-    Ok(Course { driven, is_free })
+    Ok((driven, is_free))
 }
 
 /// The tasks of the run on two units in which each begins only once it is known.
@@ -180,8 +166,8 @@ pub(crate) fn known_tasks(
 ) -> Result<Vec<u32>, OutOfMemory>
     ensures { IfOk result (λ tasks. tasks.items ≡ known_tasks_of program.now steps) }
 {
-    let course = drive(alloc, program, 2, &[], steps)?;
-    let commits = course.driven.machine().commits();
+    let (driven, _) = drive(alloc, program, 2, &[], steps)?;
+    let commits = driven.machine().commits();
     let tasks = commits.iter().map(|commit| commit.task).collect(alloc)?;
     Ok(tasks)
 }

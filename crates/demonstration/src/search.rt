@@ -1,13 +1,12 @@
 //! A search for a list of events that shows the harm of a wrong mark. What it finds does show it: the judge says so. Where
 //! it finds none, each of its runs was judged right.
 
-ghost use Rattle.std.specs.Prelude.{◌≡◌, ◌<◌, ◌≤◌, ℕ, [], min, take, IfSome, IfNone, IfOk, OnOk, length};
+ghost use Rattle.std.specs.Prelude.{◌≡◌, ◌<◌, ◌≤◌, ℕ, [], min, take, IfSome, IfNone, IfOk, IsTrue, OnOk, length};
 ghost use Rattle.mips_plain.specs.PlainView.{IsAfter};
 ghost use Rattle.task_descriptor.specs.Listing.{input};
-ghost use Rattle.open_machine.specs.Machines.{state};
 ghost use Rattle.demonstration.specs.Found.{IsDemonstration, IsRightAlone, IsSearched};
 ghost use Rattle.demonstration.specs.Rounds.{each_tried, run_of, state_after};
-ghost use Rattle.demonstration.specs.Shown.{DoesNoHarm, HasWrongWord, ReadsRight, Shows, WordsRight, seen};
+ghost use Rattle.demonstration.specs.Shown.{ReadsRight, WordsRight};
 
 use crate::driven::Driven;
 use crate::judge::{Evidence, Harm, Judgement, judge, shows, wrong_word};
@@ -46,7 +45,7 @@ const LONG: usize = 16_384;
 /// # Errors
 ///
 /// `OutOfMemory` where memory was refused.
-#[tactic(auto, using(crate::proofs::Searching::searched_so))]
+#[tactic(auto, using(crate::proofs::Searching::none_found))]
 pub fn demonstrate(
     alloc: Global,
     program: &Program,
@@ -58,15 +57,18 @@ pub fn demonstrate(
     ensures { IfOk result (IsSearched program.now most_units steps) }
 {
     let tasks = known_tasks(alloc, program, steps)?;
-    match shown_on_any(alloc, program, most_units, &tasks, steps)? {
-        Some(found) => Ok(Some(found)),
-        None => word_shown(alloc, program, steps),
+    if let Some(found) = read_shown(alloc, program, most_units, &tasks, steps)? {
+        return Ok(Some(shortened(alloc, program, found)?));
+    }
+    match word_shown(alloc, program, steps)? {
+        Some(found) => Ok(Some(shortened(alloc, program, found)?)),
+        None => Ok(None),
     }
 }
 
 /// A wrong read or end, on 2 units, on 3, and so on, with these guesses. Where a unit was free each time that a task was to
 /// begin, the run is the same on more units.
-fn shown_on_any(
+fn read_shown(
     alloc: Global,
     program: &Program,
     most_units: u32,
@@ -80,9 +82,8 @@ fn shown_on_any(
         → ReadsRight program.now (state_after program.now (run_of program.now units guesses.now steps)))) }
 {
     for units in most_units.min(2)..most_units + 1 {
-        let course = drive(alloc, program, units, guesses, steps)?;
-        let is_free = course.is_free;
-        if let Some(found) = read_shown(alloc, program, course.driven)? {
+        let (driven, is_free) = drive(alloc, program, units, guesses, steps)?;
+        if let Some(found) = shown_by(alloc, program, driven, false)? {
             return Ok(Some(found));
         }
         if is_free {
@@ -90,30 +91,6 @@ fn shown_on_any(
         }
     }
     Ok(None)
-}
-
-/// A wrong read or end that a run shows.
-fn read_shown(
-    alloc: Global,
-    program: &Program,
-    driven: Driven<'_>,
-) -> Result<Option<Demonstration>, OutOfMemory>
-    requires program { driven.program ≡ program.now }
-    requires some { 0 < driven.units }
-    requires few { driven.units ≤ 16 }
-    ensures some { IfOk result (λ found. IfSome found (λ d. IsDemonstration program.now d × d.units ≡ driven.entry.units)) }
-    ensures none { IfOk result (λ found. IfNone found (ReadsRight program.now (state_after program.now driven.entry.run))) }
-{
-    let Some(evidence) = shows(alloc, program, driven.machine())? else {
-        return Ok(None);
-    };
-    match evidence.harm {
-        Harm::Held(_) => Ok(None),
-        Harm::Stale(_) | Harm::CutOff(_) => {
-            let found = of_driven(program, driven, evidence);
-            Ok(Some(shortened(alloc, program, found)?))
-        }
-    }
 }
 
 /// A wrong word with which a task begins, on one unit: where no unit executes ahead, no task can have put the right
@@ -126,75 +103,37 @@ fn word_shown(
     ensures some { IfOk result (λ found. IfSome found (λ d. IsDemonstration program.now d × d.units ≡ 1)) }
     ensures none { IfOk result (λ found. IfNone found (IsRightAlone program.now (run_of program.now 1 [] steps))) }
 {
-    let driven = drive(alloc, program, 1, &[], steps)?.driven;
+    let (driven, _) = drive(alloc, program, 1, &[], steps)?;
     match until_held(alloc, program, driven.events())? {
-        Some(few) => shown_by(alloc, program, few),
-        None => shown_by(alloc, program, driven),
+        Some(few) => shown_by(alloc, program, few, true),
+        None => shown_by(alloc, program, driven, true),
     }
 }
 
-/// What a run shows, if anything.
+/// What a run shows, if anything; a wrong word that no instruction has read only where `words` says so.
+#[tactic(auto, using(crate::proofs::Searching::shown_of))]
 fn shown_by(
     alloc: Global,
     program: &Program,
     driven: Driven<'_>,
+    words: bool,
 ) -> Result<Option<Demonstration>, OutOfMemory>
     requires program { driven.program ≡ program.now }
     requires some { 0 < driven.units }
-    requires few { driven.units ≤ 16 }
     ensures some { IfOk result (λ found. IfSome found (λ d. IsDemonstration program.now d × d.units ≡ driven.entry.units)) }
-    ensures none { IfOk result (λ found. IfNone found (DoesNoHarm program.now (state_after program.now driven.entry.run))) }
+    ensures reads { IfOk result (λ found. IfNone found (ReadsRight program.now (state_after program.now driven.entry.run))) }
+    ensures words { IfOk result (λ found. IfNone found (IsTrue words → WordsRight program.now (state_after program.now driven.entry.run))) }
 {
-    match shows(alloc, program, driven.machine())? {
-        Some(evidence) => {
-            let found = of_driven(program, driven, evidence);
-            Ok(Some(shortened(alloc, program, found)?))
-        }
-        None => Ok(None),
-    }
-}
-
-/// A demonstration by the events of a machine, which show this.
-#[tactic(auto, using(crate::proofs::Searching::shown_of))]
-fn of_driven(program: &Program, driven: Driven<'_>, evidence: Evidence) -> Demonstration
-    requires program { driven.program ≡ program.now }
-    requires some { 0 < driven.units }
-    requires shows { Shows program.now (state_after program.now driven.run) evidence }
-    ensures shown { IsDemonstration program.now result }
-    ensures units { result.units ≡ driven.entry.units }
-{
-    let _ = program.start();
     let units = driven.machine().capacity();
-    Demonstration {
+    let Some(evidence) = shows(alloc, program, driven.machine(), words)? else {
+        return Ok(None);
+    };
+    let events = driven.into_events();
+    Ok(Some(Demonstration {
         units,
-        events: driven.into_events(),
+        events,
         evidence,
-    }
-}
-
-/// A demonstration with these events, where they show something: a wrong word that no instruction has read only
-/// where that is enough.
-fn of_events(
-    alloc: Global,
-    program: &Program,
-    units: u32,
-    events: Vec<Event>,
-    is_enough: bool,
-) -> Result<Option<Demonstration>, OutOfMemory>
-    requires some { 0 < units }
-    requires few { units ≤ 16 }
-    ensures { IfOk result (λ found. IfSome found (λ d. IsDemonstration program.now d × d.units ≡ units)) }
-{
-    match judge(alloc, program, units, &events)? {
-        Judgement::Shown(evidence) if is_enough || !is_held(evidence.harm) => {
-            Ok(Some(Demonstration {
-                units,
-                events,
-                evidence,
-            }))
-        }
-        _ => Ok(None),
-    }
+    }))
 }
 
 /// A demonstration without the events that it does not need, as far as they are found.
@@ -203,10 +142,8 @@ fn shortened(
     program: &Program,
     found: Demonstration,
 ) -> Result<Demonstration, OutOfMemory>
-    requires units { found.units ≤ 16 }
-    requires shown { IsDemonstration program.now found }
-    ensures units { IfOk result (λ d. d.units ≡ found.units) }
-    ensures shown { IfOk result (λ d. IsDemonstration program.now d) }
+    requires { IsDemonstration program.now found }
+    ensures { IfOk result (λ d. IsDemonstration program.now d × d.units ≡ found.units) }
 {
     let found = without_rest(alloc, program, found)?;
     let found = shortened_if_long(alloc, program, found)?;
@@ -221,10 +158,8 @@ fn shortened_if_long(
     program: &Program,
     found: Demonstration,
 ) -> Result<Demonstration, OutOfMemory>
-    requires units { found.units ≤ 16 }
-    requires shown { IsDemonstration program.now found }
-    ensures units { IfOk result (λ d. d.units ≡ found.units) }
-    ensures shown { IfOk result (λ d. IsDemonstration program.now d) }
+    requires { IsDemonstration program.now found }
+    ensures { IfOk result (λ d. IsDemonstration program.now d × d.units ≡ found.units) }
 {
     if found.events.len() <= LONG {
         return Ok(found);
@@ -234,22 +169,26 @@ fn shortened_if_long(
     without_each(alloc, program, found, 512)
 }
 
-/// A demonstration without the events after its harm.
-fn without_rest(
+/// A demonstration with these events, where they show something: a wrong word that no instruction has read only where
+/// `words` says so.
+fn of_events(
     alloc: Global,
     program: &Program,
-    found: Demonstration,
-) -> Result<Demonstration, OutOfMemory>
-    requires units { found.units ≤ 16 }
-    requires shown { IsDemonstration program.now found }
-    ensures units { IfOk result (λ d. d.units ≡ found.units) }
-    ensures shown { IfOk result (λ d. IsDemonstration program.now d) }
+    units: u32,
+    events: Vec<Event>,
+    words: bool,
+) -> Result<Option<Demonstration>, OutOfMemory>
+    requires some { 0 < units }
+    requires few { units ≤ 16 }
+    ensures { IfOk result (λ found. IfSome found (λ d. IsDemonstration program.now d × d.units ≡ units)) }
 {
-    let few = until_harm(alloc, program, &found)?;
-    let is_enough = shows_word_alone(&found);
-    match of_events(alloc, program, found.units, few, is_enough)? {
-        Some(shorter) => Ok(shorter),
-        None => Ok(found),
+    match judge(alloc, program, units, &events)? {
+        Judgement::Shown(evidence) if words || !is_held(evidence.harm) => Ok(Some(Demonstration {
+            units,
+            events,
+            evidence,
+        })),
+        _ => Ok(None),
     }
 }
 
@@ -263,6 +202,23 @@ fn is_held(harm: Harm) -> bool {
     matches!(harm, Harm::Held(_))
 }
 
+/// A demonstration without the events after its harm.
+fn without_rest(
+    alloc: Global,
+    program: &Program,
+    found: Demonstration,
+) -> Result<Demonstration, OutOfMemory>
+    requires { IsDemonstration program.now found }
+    ensures { IfOk result (λ d. IsDemonstration program.now d × d.units ≡ found.units) }
+{
+    let few = until_harm(alloc, program, &found)?;
+    let words = shows_word_alone(&found);
+    match of_events(alloc, program, found.units, few, words)? {
+        Some(shorter) => Ok(shorter),
+        None => Ok(found),
+    }
+}
+
 /// A demonstration without each group of `size` events that can be left out, the last groups first.
 fn without_each(
     alloc: Global,
@@ -271,10 +227,8 @@ fn without_each(
     size: usize,
 ) -> Result<Demonstration, OutOfMemory>
     requires size { 0 < size }
-    requires units { found.units ≤ 16 }
     requires shown { IsDemonstration program.now found }
-    ensures units { IfOk result (λ d. d.units ≡ found.units) }
-    ensures shown { IfOk result (λ d. IsDemonstration program.now d) }
+    ensures { IfOk result (λ d. IsDemonstration program.now d × d.units ≡ found.units) }
 {
     let length = found.events.len();
     let groups = length / size;
@@ -284,8 +238,8 @@ fn without_each(
     }
     for done in 0..groups + 1 {
         let few = without(alloc, &found.events, (groups - done) * size, size)?;
-        let is_enough = shows_word_alone(&found);
-        if let Some(shorter) = of_events(alloc, program, found.units, few, is_enough)? {
+        let words = shows_word_alone(&found);
+        if let Some(shorter) = of_events(alloc, program, found.units, few, words)? {
             found = shorter;
         }
     }
@@ -329,16 +283,9 @@ fn until_harm(
 /// Whether the stale read of a harm has been made.
 fn is_read(machine: &OpenMachine<'_>, harm: Harm) -> bool {
     match harm {
-        Harm::Stale(stale) => executed(machine) > stale.number,
+        Harm::Stale(stale) => machine.executed() > stale.number,
         _ => false,
     }
-}
-
-/// How many instructions the retired tasks and the head have executed.
-fn executed(machine: &OpenMachine<'_>) -> usize
-    ensures { result ≡ length (seen (state machine.now)) }
-{
-    machine.executed()
 }
 
 /// A machine with one unit after the first of these events after which the head has a wrong word.
@@ -347,7 +294,7 @@ fn until_held<'a>(
     program: &'a Program,
     events: &[Event],
 ) -> Result<Option<Driven<'a>>, OutOfMemory>
-    ensures some { IfOk result (λ few. IfSome few (λ few. (few.program ≡ program.now) × (few.units ≡ 1) × HasWrongWord program.now (state_after program.now few.run))) }
+    ensures some { IfOk result (λ few. IfSome few (λ few. (few.program ≡ program.now) × (few.units ≡ 1) × (WordsRight program.now (state_after program.now few.run) → ⊥))) }
     ensures none { IfOk result (λ few. IfNone few ((count : ℕ) → count ≤ length events.now
         → WordsRight program.now (state_after program.now (each_tried program.now 1 [] (take count events.now))))) }
 {
@@ -356,7 +303,7 @@ fn until_held<'a>(
     let mut made = 0;
     for event in events {
         few.try_event(*event)?;
-        let count = executed(few.machine());
+        let count = few.machine().executed();
         catch_up(alloc, program, &mut plain, made, count)?;
         made = count;
         if wrong_word(few.machine(), &plain, made).is_some() {

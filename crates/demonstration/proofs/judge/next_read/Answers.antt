@@ -3,19 +3,19 @@ use Rattle.std.proofs.Common.{◌≡◌, ℕ, Option, Some, None, [], ◌∷◌,
 use Rattle.demonstration.proofs.Judging.{running_reads, no_fetch, fetch_found, index_within}
 use Rattle.demonstration.proofs.judge.next_read.Goals as goal
 
-pub returns-in_default : goal.returns-in_default
-returns-in_default c =
+pub returns-in_default-index : goal.returns-in_default-index
+returns-in_default-index c =
     let p = c.args.program.now in
     let s = machine_state c.args.plain.now in
-    let runs = c.goes_on.ensures.0 c.if-not-goes_on.false in
-    let none : None ≡ instruction_at p s.pc = c.in_default.ensures ∙ ap (λ (at : ℕ). instruction_at p at) c.pc-pc.ensures in
+    let runs = sym c.outcome.ensures ∙ c.in-Running.is in
+    let none : None ≡ instruction_at p s.pc = c.in_default-index.ensures ∙ ap (λ (at : ℕ). instruction_at p at) c.pc-pc.ensures in
     (λ j. record { pc = c.pc-pc.ensures j; a = 0; b = 0 } ∷ []) ∙ running_reads s.outcome (input p) s None runs (no_fetch p s.pc none)
 
 pub returns : goal.returns
 returns c =
     let p = c.args.program.now in
     let s = machine_state c.args.plain.now in
-    let runs = c.goes_on.ensures.0 c.if-not-goes_on.false in
+    let runs = sym c.outcome.ensures ∙ c.in-Running.is in
     let i = c.in-Some.index in
     let m = c.index-code-index.result in
     let at : Some i ≡ instruction_at p s.pc = c.in-Some.ensures ∙ ap (λ (n : ℕ). instruction_at p n) c.pc-pc.ensures in

@@ -1,28 +1,47 @@
 -- The first that may begin is among those that are left.
-use Rattle.demonstration.proofs.Imports.{ap, ◌∙◌, arith, Listing}
-use Rattle.std.proofs.Common.{◌≡◌, List, length}
+use Rattle.demonstration.proofs.Imports.{sym, ap, ◌∙◌, arith, ◌-◌, ◌+◌, Listing, Event, Assign, DrivenView, first_begins, is_allowed, tried}
+use Rattle.std.proofs.Common.{◌≡◌, Bool, true, false, ℕ, suc, List, length}
 use Rattle.task_descriptor.specs.declared.descriptor.Descriptor.{Descriptor}
-use Rattle.demonstration.proofs.Rounding.{first_begins_now, first_is_among, first_of_all}
+use Rattle.demonstration.proofs.Rounding.{first_later, first_now, first_of_none, not_tried}
 use Rattle.demonstration.proofs.rounds.begin_first.Goals as goal
 
-pub returns-then-count-before : goal.returns-then-count-before
-returns-then-count-before c =
-    let tasks : length c.tasks.result.now ≡ length c.args.driven.now.program.tasks =
+pub returns-then-branch : goal.returns-then-branch
+returns-then-branch c =
+    let d = c.args.driven.now in
+    let task = c.loop-task.task in
+    let inv = c.loop-task.invariant in
+    let tasks : length c.tasks.result.now ≡ length d.program.tasks =
     ap (λ (xs : List Descriptor). length xs) c.tasks.ensures.value ∙ ap (λ (p : Listing). length p.tasks) (c.program.ensures ∙ c.machine.ensures.program) in
-    first_begins_now c.loop-task.driven c.args.driven.now c.try_event.new.self c.loop-task.task c.loop-task.invariant.same c.loop-task.invariant.rest
-    c.in_ok-try_event.ensures (omega arith) (omega arith)
+    let may : is_allowed d.program d.units d.run (Assign task) ≡ true =
+    ap (λ (x : DrivenView). is_allowed x.program x.units x.run (Assign task)) (sym inv.same) ∙ sym c.in_ok-try_event.ensures.allowed ∙ c.if-branch.true in
+    c.in_ok-try_event.ensures.run
+    ∙ ap (λ (x : DrivenView). record x { run = tried x.program x.units x.run (Assign task) }) inv.same
+    ∙ ap (λ (run : List Event). record d { run = run })
+    (sym (first_now d.program d.units d.run task (length d.program.tasks - task) (omega arith) may) ∙ inv.rest)
 
 pub loop-task-preserved : goal.loop-task-preserved
 loop-task-preserved c =
-    let tasks : length c.tasks.result.now ≡ length c.args.driven.now.program.tasks =
+    let d = c.args.driven.now in
+    let task = c.loop-task.task in
+    let inv = c.loop-task.invariant in
+    let tasks : length c.tasks.result.now ≡ length d.program.tasks =
     ap (λ (xs : List Descriptor). length xs) c.tasks.ensures.value ∙ ap (λ (p : Listing). length p.tasks) (c.program.ensures ∙ c.machine.ensures.program) in
-    let both =
-    first_is_among c.loop-task.driven c.args.driven.now c.try_event.new.self c.loop-task.task c.loop-task.invariant.same c.loop-task.invariant.rest
-    c.in_ok-try_event.ensures (omega arith) (omega arith) in
-    record { same = both.0; rest = both.1 }
+    let never : is_allowed d.program d.units d.run (Assign task) ≡ false =
+    ap (λ (x : DrivenView). is_allowed x.program x.units x.run (Assign task)) (sym inv.same) ∙ sym c.in_ok-try_event.ensures.allowed ∙ c.if-branch.false in
+    record {
+      same =
+          c.in_ok-try_event.ensures.run
+          ∙ ap (λ (x : DrivenView). record x { run = tried x.program x.units x.run (Assign task) }) inv.same
+          ∙ ap (λ (run : List Event). record d { run = run }) (not_tried d.program d.units d.run (Assign task) never);
+      rest = sym (first_later d.program d.units d.run task (length d.program.tasks - task) (length d.program.tasks - (task + 1)) (omega arith) never) ∙ inv.rest;
+    }
 
 pub returns : goal.returns
 returns c =
-    let tasks : length c.tasks.result.now ≡ length c.args.driven.now.program.tasks =
+    let d = c.args.driven.now in
+    let task = c.loop-task.task in
+    let inv = c.loop-task.invariant in
+    let tasks : length c.tasks.result.now ≡ length d.program.tasks =
     ap (λ (xs : List Descriptor). length xs) c.tasks.ensures.value ∙ ap (λ (p : Listing). length p.tasks) (c.program.ensures ∙ c.machine.ensures.program) in
-    first_of_all c.loop-task.driven c.args.driven.now c.loop-task.task c.loop-task.invariant.same c.loop-task.invariant.rest (omega arith)
+    inv.same
+    ∙ ap (λ (run : List Event). record d { run = run }) (sym (first_of_none d.program d.units d.run task (length d.program.tasks - task) (omega arith)) ∙ inv.rest)

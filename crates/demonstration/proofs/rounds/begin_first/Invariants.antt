@@ -6,6 +6,6 @@ abbrev pub invariant-loop-task : goal.invariant-loop-task
 invariant-loop-task l = record {
   same : l.driven ≡ l.initial.driven;
   rest :
-      first_begins l.driven.program l.driven.units l.driven.run l.task (length l.driven.program.tasks - l.task)
-      ≡ first_begins l.driven.program l.driven.units l.driven.run 0 (length l.driven.program.tasks);
+      first_begins l.initial.driven.program l.initial.driven.units l.initial.driven.run l.task (length l.initial.driven.program.tasks - l.task)
+      ≡ first_begins l.initial.driven.program l.initial.driven.units l.initial.driven.run 0 (length l.initial.driven.program.tasks);
 }
