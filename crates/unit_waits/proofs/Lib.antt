@@ -4,3 +4,4 @@ pub mod Applying
 pub mod Stepping
 pub mod Counting
 pub mod Masks
+pub mod SomeSteps

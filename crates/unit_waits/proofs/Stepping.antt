@@ -1,7 +1,8 @@
 -- A machine on its way over the steps of a history.
-use Rattle.std.proofs.Common.{◌≡◌, ℕ, suc, ◌+◌, ◌<◌, ◌≤◌, List, [], ◌++◌, length, take, drop, Some, None, sym, ap, subst, ◌∙◌, arith, add-one, append_assoc, append-nil}
+use Rattle.std.proofs.Common.{◌≡◌, ℕ, suc, ◌+◌, ◌<◌, ◌≤◌, Bool, List, [], ◌++◌, length, take, drop, filter, Some, None, sym, ap, subst, ◌∙◌, arith, add-one, append_assoc, append-nil}
 use Rattle.std.specs.List.{position}
 use Rattle.std.proofs.lemmas.List.{drop_all, drop-drop, length-drop, length-take-le, take-append-drop}
+use Rattle.std.proofs.lemmas.List.Elements.{filter-append}
 use Rattle.std.proofs.lemmas.List.Quantifiers.{position-Some}
 use Rattle.machine_model.specs.Machine.{State, opening}
 use Rattle.machine_model.specs.Laws.{NextIsAfter}
@@ -96,12 +97,13 @@ step_on a units active all left events start number m m' on is step some within 
 found_by : (active : ℕ) (m : MachineView) (es : List Event) (last : ℕ) → active ≡ length (state m).queue → position (λ e. ends_step active e) es ≡ Some last → position (λ e. ends_step (length (state m).queue) e) es ≡ Some last
 found_by active m es last same is = ap (λ (n : ℕ). position (λ e. ends_step n e) es) (sym same) ∙ is
 
-pub waits_more : (a : Checked) (units active : ℕ) (all left events : List Event) (start number : ℕ) (m m' : MachineView) (waited more whole : List Waiting)
+-- the waits that are left: those of the next step, and those behind it
+pub next_waits : (a : Checked) (units active : ℕ) (all left events : List Event) (start number : ℕ) (m m' : MachineView)
     → m.accepted ≡ a → left ≡ drop start all → active ≡ length (state m).queue → IsStepOf active left events
-    → more ≡ waits_in a.program units number (state m) events → state m' ≡ after_all m.accepted.program (state m) events
-    → waited ++ waits_from a.program units number (state m) [] (drop start all) ≡ whole
-    → (waited ++ more) ++ waits_from a.program units (number + 1) (state m') [] (drop (start + length events) all) ≡ whole
-waits_more a units active all left events start number m m' waited more whole over is same step waits applied before =
+    → state m' ≡ after_all m.accepted.program (state m) events
+    → waits_from a.program units number (state m) [] (drop start all)
+    ≡ waits_in a.program units number (state m) events ++ waits_from a.program units (number + 1) (state m') [] (drop (start + length events) all)
+next_waits a units active all left events start number m m' over is same step applied =
     let p = a.program in
     let s = state m in
     let wide : length events ≡ suc step.last = step_wide active left events step ∙ add-one step.last in
@@ -109,32 +111,76 @@ waits_more a units active all left events start number m m' waited more whole ov
     let behind : drop (suc step.last) left ≡ drop (start + length events) all =
     ap (λ (k : ℕ). drop k left) (sym wide) ∙ ap (λ (es : List Event). drop (length events) es) is ∙ drop-drop (length events) start all in
     let now : state m' ≡ after_all p s events = applied ∙ ap (λ (c : Checked). after_all c.program s events) over in
-    let rest : List Waiting = waits_from p units (number + 1) (state m') [] (drop (start + length events) all) in
-    let here : waits_from p units number s [] (drop start all) ≡ more ++ rest =
     ap (λ (es : List Event). waits_from p units number s [] es) (sym is)
     ∙ step_found p units number s Retire step.last left (found_by active m left step.last same step.found)
     ∙ (λ j. waits_in p units number s (taken j) ++ waits_from p units (sym (add-one number) j) (after_all p s (taken j)) [] (behind j))
-    ∙ (λ j. sym waits j ++ waits_from p units (number + 1) (sym now j) [] (drop (start + length events) all)) in
-    append_assoc waited more rest ∙ ap (λ (ws : List Waiting). waited ++ ws) (sym here) ∙ before
+    ∙ (λ j. waits_in p units number s events ++ waits_from p units (number + 1) (sym now j) [] (drop (start + length events) all))
+
+pub waits_more : (a : Checked) (units active : ℕ) (all left events : List Event) (start number : ℕ) (m m' : MachineView) (waited more whole : List Waiting)
+    → m.accepted ≡ a → left ≡ drop start all → active ≡ length (state m).queue → IsStepOf active left events
+    → more ≡ waits_in a.program units number (state m) events → state m' ≡ after_all m.accepted.program (state m) events
+    → waited ++ waits_from a.program units number (state m) [] (drop start all) ≡ whole
+    → (waited ++ more) ++ waits_from a.program units (number + 1) (state m') [] (drop (start + length events) all) ≡ whole
+waits_more a units active all left events start number m m' waited more whole over is same step are applied before =
+    let rest : List Waiting = waits_from a.program units (number + 1) (state m') [] (drop (start + length events) all) in
+    append_assoc waited more rest
+    ∙ ap (λ (ws : List Waiting). waited ++ (ws ++ rest)) are
+    ∙ ap (λ (ws : List Waiting). waited ++ ws) (sym (next_waits a units active all left events start number m m' over is same step applied)) ∙ before
+
+-- the same where only those count that pass a test
+pub passed_more : (test : Waiting → Bool) (a : Checked) (units active : ℕ) (all left events : List Event) (start number : ℕ) (m m' : MachineView) (waited more whole : List Waiting)
+    → m.accepted ≡ a → left ≡ drop start all → active ≡ length (state m).queue → IsStepOf active left events
+    → more ≡ filter test (waits_in a.program units number (state m) events) → state m' ≡ after_all m.accepted.program (state m) events
+    → waited ++ filter test (waits_from a.program units number (state m) [] (drop start all)) ≡ whole
+    → (waited ++ more) ++ filter test (waits_from a.program units (number + 1) (state m') [] (drop (start + length events) all)) ≡ whole
+passed_more test a units active all left events start number m m' waited more whole over is same step are applied before =
+    let here : List Waiting = waits_in a.program units number (state m) events in
+    let rest : List Waiting = waits_from a.program units (number + 1) (state m') [] (drop (start + length events) all) in
+    append_assoc waited more (filter test rest)
+    ∙ ap (λ (ws : List Waiting). waited ++ (ws ++ filter test rest)) are
+    ∙ ap (λ (ws : List Waiting). waited ++ ws)
+    (sym (ap (filter test) (next_waits a units active all left events start number m m' over is same step applied) ∙ filter-append test here rest)) ∙ before
 
 none_waits : (waited left whole : List Waiting) → left ≡ [] → waited ++ left ≡ whole → waited ≡ whole
 none_waits waited left whole none before = sym (append-nil waited) ∙ ap (λ (ws : List Waiting). waited ++ ws) (sym none) ∙ before
 
 -- no step is left
+pub none_left : (a : Checked) (units active : ℕ) (all left : List Event) (start number : ℕ) (m : MachineView)
+    → left ≡ drop start all → active ≡ length (state m).queue → position (λ e. ends_step active e) left ≡ None
+    → waits_from a.program units number (state m) [] (drop start all) ≡ []
+none_left a units active all left start number m is same none =
+    let found : position (λ e. ends_step (length (state m).queue) e) (drop start all) ≡ None =
+    (λ j. position (λ e. ends_step (sym same j) e) (sym is j)) ∙ none in
+    none_found a.program units number (state m) Retire (drop start all) found
+
 pub waits_done : (a : Checked) (units active : ℕ) (all left : List Event) (start number : ℕ) (m : MachineView) (waited whole : List Waiting)
     → left ≡ drop start all → active ≡ length (state m).queue → position (λ e. ends_step active e) left ≡ None
     → waited ++ waits_from a.program units number (state m) [] (drop start all) ≡ whole → waited ≡ whole
 waits_done a units active all left start number m waited whole is same none before =
-    let found : position (λ e. ends_step (length (state m).queue) e) (drop start all) ≡ None =
-    (λ j. position (λ e. ends_step (sym same j) e) (sym is j)) ∙ none in
-    none_waits waited (waits_from a.program units number (state m) [] (drop start all)) whole (none_found a.program units number (state m) Retire (drop start all) found) before
+    none_waits waited (waits_from a.program units number (state m) [] (drop start all)) whole (none_left a units active all left start number m is same none) before
+
+pub passed_done : (test : Waiting → Bool) (a : Checked) (units active : ℕ) (all left : List Event) (start number : ℕ) (m : MachineView) (waited whole : List Waiting)
+    → left ≡ drop start all → active ≡ length (state m).queue → position (λ e. ends_step active e) left ≡ None
+    → waited ++ filter test (waits_from a.program units number (state m) [] (drop start all)) ≡ whole → waited ≡ whole
+passed_done test a units active all left start number m waited whole is same none before =
+    none_waits waited (filter test (waits_from a.program units number (state m) [] (drop start all))) whole
+    (ap (filter test) (none_left a units active all left start number m is same none)) before
 
 -- no event is left
+past_end : (a : Checked) (units : ℕ) (all : List Event) (start number : ℕ) (m : MachineView)
+    → length all ≤ start → waits_from a.program units number (state m) [] (drop start all) ≡ []
+past_end a units all start number m past = ap (λ (es : List Event). waits_from a.program units number (state m) [] es) (drop_all start all past)
+
 pub waits_all : (a : Checked) (units : ℕ) (all : List Event) (start number : ℕ) (m : MachineView) (waited whole : List Waiting)
     → length all ≤ start → waited ++ waits_from a.program units number (state m) [] (drop start all) ≡ whole → waited ≡ whole
 waits_all a units all start number m waited whole past before =
-    none_waits waited (waits_from a.program units number (state m) [] (drop start all)) whole
-    (ap (λ (es : List Event). waits_from a.program units number (state m) [] es) (drop_all start all past)) before
+    none_waits waited (waits_from a.program units number (state m) [] (drop start all)) whole (past_end a units all start number m past) before
+
+pub passed_all : (test : Waiting → Bool) (a : Checked) (units : ℕ) (all : List Event) (start number : ℕ) (m : MachineView) (waited whole : List Waiting)
+    → length all ≤ start → waited ++ filter test (waits_from a.program units number (state m) [] (drop start all)) ≡ whole → waited ≡ whole
+passed_all test a units all start number m waited whole past before =
+    none_waits waited (filter test (waits_from a.program units number (state m) [] (drop start all))) whole
+    (ap (filter test) (past_end a units all start number m past)) before
 
 -- ---- where the machine stands at the end
 

@@ -1,6 +1,6 @@
 -- Who waits in the steps of a history. In a run in steps each unit does at most one event in a step, the head last,
 -- and the head always does one: so an event at position 0 ends a step.
-use Rattle.std.specs.Prelude.{ℕ, suc, List, [], ◌∷◌, ◌++◌, Bool, nat_eq, if◌then◌else◌, length, drop}
+use Rattle.std.specs.Prelude.{ℕ, suc, List, [], ◌∷◌, ◌++◌, Bool, ◌&&◌, nat_eq, nat_le, if◌then◌else◌, length, drop, filter}
 use Rattle.std.specs.List.{fold, list_any}
 use Rattle.task_descriptor.specs.Listing.{Listing}
 use Rattle.machine_model.specs.Machine.{Active, State, opening}
@@ -59,3 +59,11 @@ waits_from p units step s begun (e ∷ es) =
 -- the waits of a history, step after step, and within a step from the head back
 abbrev pub waits : Listing → (units : ℕ) → (history : List Event) → List Waiting
 waits p units history = waits_from p units 1 (opening p) [] history
+
+-- the waits in the steps from the number `first` to `last`
+
+abbrev pub is_between : (first last step : ℕ) → Bool
+is_between first last step = nat_le first step && nat_le step last
+
+abbrev pub waits_between : Listing → (units first last : ℕ) → (history : List Event) → List Waiting
+waits_between p units first last history = filter (λ w. is_between first last w.step) (waits p units history)
