@@ -7,7 +7,7 @@ use Rattle.report_texts.specs.OutputTexts.{Report}
 use Rattle.report_texts.specs.AnnotateText.{IsAnnotateReport}
 use Rattle.report_texts.specs.CertificateTexts.{OfCertificate}
 use Rattle.report_texts.specs.CheckText.{check_text}
-use Rattle.explain_report.specs.ExplainText.{IsExplainReport}
+use Rattle.explain_report.specs.Explained.{IsExplainReport}
 use Rattle.verdict_report.specs.CurveText.{IsCurveText}
 use Rattle.strict_replay.specs.StrictReplay.{IsStrictReport}
 use Rattle.verdict_report.specs.ReplayText.{IsReplayText}

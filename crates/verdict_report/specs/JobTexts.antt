@@ -13,7 +13,7 @@ use Rattle.verdict_report.specs.Delivering.{IsAdded, IsBegun}
 use Rattle.report_texts.specs.AnnotateText.{IsAnnotateReport}
 use Rattle.report_texts.specs.CertificateTexts.{OfCertificate}
 use Rattle.demonstration.specs.DemonstrateText.{IsDemonstrateReport}
-use Rattle.explain_report.specs.ExplainText.{IsExplainReport}
+use Rattle.explain_report.specs.Explained.{IsExplainReport}
 use Rattle.strict_replay.specs.StrictReplay.{IsStrictReport}
 use Rattle.jobs.specs.declared.job.Job.{Job}
 use Rattle.jobs.specs.declared.job.Job.TheVariants.{Seq, Print, Annotate, Explain, Check, Replay, ReplayStrictly, Run, Curve, Demonstrate}

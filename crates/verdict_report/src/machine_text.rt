@@ -1,7 +1,9 @@
 //! The text of a multiscalar machine's state.
-ghost use Rattle.std.specs.Prelude.{◌≡◌, ◌≤◌, ◌++◌, OnOk};
+ghost use Rattle.std.specs.Prelude.{◌≡◌, ◌≤◌, ◌++◌, IfOk, OnOk};
 ghost use Rattle.std.specs.String.{string_bytes};
 ghost use Rattle.sequencer.specs.Machines.{state, units_of};
+ghost use Rattle.step_picture.specs.StepCharts.{AreWaits};
+ghost use Rattle.step_picture.specs.Steps.{count_of, steps_of};
 ghost use Rattle.verdict_report.specs.MachineText.{machine_text, retired_text, standing_status, standing_text};
 
 use event_trace::notes::notes;
@@ -178,6 +180,8 @@ pub fn single_waits(
 ) -> Result<Vec<Wait>, AllocError>
     requires over { machine.now.accepted ≡ accepted.now }
     requires units { (units_of machine.now ≤ 16) × (units_of machine.now ≡ units) }
+    ensures { IfOk result (λ waits. count_of (steps_of machine.now.history) ≤ 2000
+        → AreWaits accepted.now.program units machine.now.history waits.items) }
 {
     let standing = machine.outcome();
     let chart = chart_of_steps(alloc, accepted, units.get(), standing, machine.history())?;

@@ -17,6 +17,7 @@ use crate::machine_text::{picture_of, standing_status_of, summary_of, timeline_o
 use crate::replay_form::{MachineForm, ReplayForm, ToldForm, form_of};
 use event_script::fault::ScriptFault;
 use event_script::reading::read;
+use event_trace::places::places;
 use event_trace::ring::Ring;
 use event_trace::source::EventSource;
 use event_trace::streaming::{StreamFault, stream_trace, trace};
@@ -278,7 +279,8 @@ fn state_of(
     let mut told = String::new(alloc);
     write_machine(&mut told, machine)?;
     let ring = Ring::of(machine, units.get());
-    let stand = stand(alloc, accepted.program(), text, &ring, machine)?;
+    let places = places(alloc, text)?;
+    let stand = stand(alloc, accepted.program(), &places, &ring, machine)?;
     told.push_str(stand.as_str())?;
     Ok(told.into_bytes())
 }
