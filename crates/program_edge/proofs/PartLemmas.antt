@@ -10,7 +10,7 @@ use Rattle.jobs.specs.declared.job.Job.{Job}
 use Rattle.jobs.specs.declared.job.Job.TheVariants.{Annotate, Check, Curve, Demonstrate, Explain, Print, Replay, ReplayStrictly, Run, Seq}
 use Rattle.jobs.specs.declared.job.Texts.{Texts}
 use Rattle.jobs.specs.declared.job.Warnings.{Warnings}
-use Rattle.explain_report.specs.ExplainText.{IsExplainReport}
+use Rattle.explain_report.specs.Explained.{IsExplainReport}
 use Rattle.report_texts.specs.OutputTexts.{Report}
 use Rattle.verdict_report.specs.JobTexts.{IsReportOf}
 use Rattle.verdict_report.specs.declared.fault.ServeFault.{ServeFault}

@@ -1,7 +1,6 @@
 -- What becomes of a job.
-use Rattle.std.proofs.Common.{◌≡◌, ◌∙◌, ap, ap₂, subst, sym, inl, refl, ℕ, Bool, false, true, List, [], ◌⊎◌, ◌||◌, append-nil}
+use Rattle.std.proofs.Common.{◌≡◌, ◌∙◌, ap, ap₂, subst, sym, inl, inr, refl, ℕ, Bool, false, true, List, [], ◌⊎◌, ◌||◌, append-nil}
 use Rattle.std.specs.Prelude.{None, Option}
-use Rattle.std.specs.Io.KnownBytes.{Keeps}
 use Rattle.std.specs.declared.alloc.Global.{Global}
 use Rattle.std.specs.declared.string.String.{String}
 use Rattle.std.proofs.KnownBytes.{Keeps-refl}
@@ -14,16 +13,16 @@ use Rattle.jobs.specs.declared.job.Texts.{Texts}
 use Rattle.jobs.specs.declared.job.Warnings.{Warnings}
 use Rattle.report_texts.specs.OutputTexts.{Report}
 use Rattle.explain_report.specs.LeftOvers.{IsLeftOver}
-use Rattle.explain_report.specs.declared.left.LeftOver.{LeftOver}
+use Rattle.explain_report.specs.declared.proposal.LeftOver.{LeftOver}
 use Rattle.verdict_report.specs.Delivering.{is_cut}
-use Rattle.verdict_report.specs.JobTexts.{IsDone}
+use Rattle.verdict_report.specs.JobTexts.{IsDone, IsReportOf}
 use Rattle.verdict_report.specs.declared.fault.ServeFault.{ServeFault}
 use Rattle.verdict_report.specs.declared.fault.ServeFault.TheVariants as serve
 use Rattle.result_files.specs.Files.{Same}
 use Rattle.shown_names.specs.Shown.{shown as shown_name}
 use Rattle.program_edge.specs.declared.fault.Fault.TheVariants.{Serve}
 use Rattle.program_edge.specs.declared.told.Answered.{Answered}
-use Rattle.program_edge.specs.Answering.{IsDelivered, IsFixed, IsNotDone, IsRepairDelivered, IsServed}
+use Rattle.program_edge.specs.Answering.{IsDelivered, IsFixed, IsGiven, IsNotDone, IsRepairDelivered, IsServed}
 use Rattle.program_edge.specs.Beside.{Audience, IsRest, is_played, rest_said}
 use Rattle.program_edge.specs.Hints.{IsHint, IsSaid}
 use Rattle.program_edge.specs.Streams.{IsToldAlone, World}
@@ -88,17 +87,19 @@ pub streamed : (watched : Bool) (audience : Audience) (job : Job) (texts : Texts
 streamed watched audience job texts hint ending old new played done silent said same = record {
   report = done.report;
   right = done.right;
-  beside = hint;
-  told = record {
-    hint = hint;
-    silent = subst (λ (s : ℕ). IsHint audience.is_terminal job s hint) done.answered silent;
-    rest = [];
-    left = played_rest (audience.is_terminal || audience.wants_rest) audience.wants_rest job texts.program.items audience.name done.report played;
-    both = sym (append-nil hint);
+  given = record {
+    beside = hint;
+    told = record {
+      hint = hint;
+      silent = subst (λ (s : ℕ). IsHint audience.is_terminal job s hint) done.answered silent;
+      rest = [];
+      left = played_rest (audience.is_terminal || audience.wants_rest) audience.wants_rest job texts.program.items audience.name done.report played;
+      all = sym (append-nil hint);
+    };
+    taker = None;
+    taken = refl;
+    delivery = inl (record { answered = done.answered; filed = same; written = done.written; told = said });
   };
-  taker = None;
-  taken = refl;
-  delivery = inl (record { answered = done.answered; filed = same; written = done.written; told = said });
 }
 
 -- a job that was not done for want of memory
@@ -113,6 +114,19 @@ not_done job texts fault ending old new is told same = record {
   told = told;
   files = same;
 }
+
+-- a report of the job was given, or there was no memory for what is told beside it
+pub given_or_not : (watched : Bool) (audience : Audience) (place : Option (String Global)) (job : Job) (texts : Texts) (report : Report) (line : List ℕ) (ending : Answered) (old new : World)
+    → line ≡ [] → IsReportOf job texts report
+    → IsGiven watched audience line place job texts.program.items report ending old new ⊎ IsToldAlone (Serve serve.OutOfMemory) ending old new
+    → IsDelivered watched audience place job texts ending old new ⊎ IsNotDone job texts ending old new
+given_or_not watched audience place job texts report line ending old new none right (inl given) = inl (record {
+  report = report;
+  right = right;
+  given = subst (λ (l : List ℕ). IsGiven watched audience l place job texts.program.items report ending old new) none given;
+})
+given_or_not watched audience place job texts report line ending old new none right (inr alone) =
+    inr (not_done job texts serve.OutOfMemory ending old new refl alone.0 alone.1)
 
 abbrev report_of : List ℕ → ℕ → Report
 report_of bytes status = record { bytes = bytes; status = status }

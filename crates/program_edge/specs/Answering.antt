@@ -11,7 +11,7 @@ use Rattle.jobs.specs.declared.job.Texts.{Texts}
 use Rattle.jobs.specs.declared.job.Warnings.{Warnings}
 use Rattle.command_line.specs.declared.request.Request.{Request}
 use Rattle.report_texts.specs.OutputTexts.{Report}
-use Rattle.explain_report.specs.declared.repaired.Repaired.{Repaired}
+use Rattle.explain_report.specs.declared.repairing.Repaired.{Repaired}
 use Rattle.explain_report.specs.Repairs.{IsRepaired}
 use Rattle.verdict_report.specs.declared.fault.ServeFault.{ServeFault}
 use Rattle.verdict_report.specs.declared.fault.ServeFault.TheVariants as serve
@@ -87,15 +87,19 @@ abbrev pub said_at : (place : Option (String Global)) → (bytes : List ℕ) →
 said_at None bytes = bytes
 said_at (Some path) bytes = []
 
--- the job has its report, which went where it was asked for, and what is told beside it
-pub record IsDelivered (watched : Bool) (audience : Audience) (place : Option (String Global)) (job : Job) (texts : Texts) (ending : Answered) (old new : World) : Type 0 where
-  pub report : Report
-  pub right : IsReportOf job texts report
+-- a report went where it was asked for, and what is told beside it, behind a line
+pub record IsGiven (watched : Bool) (audience : Audience) (line : List ℕ) (place : Option (String Global)) (job : Job) (program : List ℕ) (report : Report) (ending : Answered) (old new : World) : Type 0 where
   pub beside : List ℕ
-  pub told : IsBeside audience job texts.program.items report beside
+  pub told : IsBeside audience line job program report beside
   pub taker : Option (String Global)
   pub taken : taker ≡ place_of place (is_refusal job report.status report.bytes)
   pub delivery : IsDelivery watched taker report.bytes (said_at taker report.bytes) beside report.status ending old new
+
+-- the job has its report, which was given
+pub record IsDelivered (watched : Bool) (audience : Audience) (place : Option (String Global)) (job : Job) (texts : Texts) (ending : Answered) (old new : World) : Type 0 where
+  pub report : Report
+  pub right : IsReportOf job texts report
+  pub given : IsGiven watched audience [] place job texts.program.items report ending old new
 
 -- it was delivered, or not done, after standard error had heard how far the job is, if `progress` asks for that
 pub record IsServed (progress watched : Bool) (audience : Audience) (place : Option (String Global)) (job : Job) (texts : Texts) (ending : Answered) (old new : World) : Type 0 where
@@ -111,23 +115,16 @@ pub record IsRepairDelivered (watched : Bool) (path : String Global) (certificat
   pub right : IsRepaired (option_map string_bytes certificate) (option_map string_bytes script) warnings texts.program.items texts.certificate texts.script.items repaired
   pub delivery : IsDelivery watched (Some path) repaired.text repaired.said.items repaired.line.items repaired.status ending old new
 
--- the job has its report with the releases that pay, which went where it was asked for; what is told beside it is not said here
-pub record IsReleaseDelivered (watched : Bool) (place : Option (String Global)) (job : Job) (texts : Texts) (ending : Answered) (old new : World) : Type 0 where
+-- the job has its report with the releases that pay, which was given; how the line says that is tested
+pub record IsReleaseDelivered (watched : Bool) (audience : Audience) (place : Option (String Global)) (job : Job) (texts : Texts) (ending : Answered) (old new : World) : Type 0 where
   pub report : Report
   pub right : IsReportWith job texts report
-  pub beside : List ℕ
-  pub taker : Option (String Global)
-  pub taken : taker ≡ place_of place (is_refusal job report.status report.bytes)
-  pub delivery : IsDelivery watched taker report.bytes (said_at taker report.bytes) beside report.status ending old new
+  pub line : List ℕ
+  pub given : IsGiven watched audience line place job texts.program.items report ending old new
 
-abbrev pub IsReleaseServed : (watched : Bool) → (place : Option (String Global)) → Job → Texts → Answered → World → World → Type 0
-IsReleaseServed watched place job texts ending old new =
-    IsReleaseDelivered watched place job texts ending old new ⊎ IsToldAlone (Serve serve.OutOfMemory) ending old new
-
--- with releases or without
-abbrev pub IsServedBy : (releases progress watched : Bool) → Audience → (place : Option (String Global)) → Job → Texts → Answered → World → World → Type 0
-IsServedBy true progress watched audience place job texts ending old new = IsReleaseServed watched place job texts ending old new
-IsServedBy false progress watched audience place job texts ending old new = IsServed progress watched audience place job texts ending old new
+abbrev pub IsReleaseServed : (watched : Bool) → Audience → (place : Option (String Global)) → Job → Texts → Answered → World → World → Type 0
+IsReleaseServed watched audience place job texts ending old new =
+    IsReleaseDelivered watched audience place job texts ending old new ⊎ IsToldAlone (Serve serve.OutOfMemory) ending old new
 
 -- a program text was read to its end
 abbrev pub is_whole : Texts → Bool
@@ -139,17 +136,19 @@ IsFixed true progress watched audience path (Explain name certificate script war
     IsRepairDelivered watched path certificate script warnings texts ending old new ⊎ IsToldAlone (Serve serve.OutOfMemory) ending old new
 IsFixed whole progress watched audience path job texts ending old new = IsServed progress watched audience None job texts ending old new
 
--- how the program ends on the texts of a request, with a file for the text with fixes or without
-abbrev pub IsServedWith : (fixes : Option (String Global)) → (watched : Bool) → Audience → Request → Texts → Answered → World → World → Type 0
-IsServedWith None watched audience request texts ending old new =
-    IsServedBy request.releases request.progress watched audience request.output request.job texts ending old new
-IsServedWith (Some path) watched audience request texts ending old new =
+-- how the program ends on the texts of a request, with a file for the text with fixes, with releases, or with neither
+abbrev pub IsServedWith : (fixes : Option (String Global)) → (releases watched : Bool) → Audience → Request → Texts → Answered → World → World → Type 0
+IsServedWith None true watched audience request texts ending old new =
+    IsReleaseServed watched audience request.output request.job texts ending old new
+IsServedWith None false watched audience request texts ending old new =
+    IsServed request.progress watched audience request.output request.job texts ending old new
+IsServedWith (Some path) releases watched audience request texts ending old new =
     IsFixed (is_whole texts) request.progress watched audience path request.job texts ending old new
 
 -- the hint beside the report names the program's file; `is_terminal` says whether standard error is a terminal
 abbrev pub IsEnding : (watched is_terminal : Bool) → Request → Result Texts Unread → Answered → World → World → Type 0
 IsEnding watched is_terminal request (Ok texts) ending old new =
-    IsServedWith request.fixes watched (record { is_terminal = is_terminal; wants_rest = request.report; name = string_bytes request.paths.program }) request texts ending old new
+    IsServedWith request.fixes request.releases watched (record { is_terminal = is_terminal; wants_rest = request.report; name = string_bytes request.paths.program }) request texts ending old new
 IsEnding watched is_terminal request (Err unread) ending old new = IsToldAlone (unread_fault request.job unread) ending old new
 
 -- the texts of the job were read, and the job served

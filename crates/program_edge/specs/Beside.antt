@@ -5,7 +5,7 @@ use Rattle.jobs.specs.declared.job.Job.TheVariants.{Replay}
 use Rattle.jobs.specs.declared.job.ReplayEmit.TheVariants.{Json, Trace}
 use Rattle.report_texts.specs.OutputTexts.{Report}
 use Rattle.explain_report.specs.LeftOvers.{IsLeftOver}
-use Rattle.explain_report.specs.declared.left.LeftOver.{LeftOver}
+use Rattle.explain_report.specs.declared.proposal.LeftOver.{LeftOver}
 use Rattle.shown_names.specs.Shown.{shown}
 use Rattle.program_edge.specs.Hints.{IsHint}
 
@@ -28,13 +28,13 @@ IsRest false asked job program name written said = said ≡ []
 IsRest true asked job program name written said =
     (left : Option LeftOver) × IsLeftOver job program (shown name) written left × (said ≡ rest_said asked left)
 
--- the hint beside a report: a terminal hears of what is left unasked
-pub record IsBeside (audience : Audience) (job : Job) (program : List ℕ) (written : Report) (said : List ℕ) : Type 0 where
+-- beside a report, behind a line, its hint: a terminal hears of what is left unasked
+pub record IsBeside (audience : Audience) (line : List ℕ) (job : Job) (program : List ℕ) (written : Report) (said : List ℕ) : Type 0 where
   pub hint : List ℕ
   pub silent : IsHint audience.is_terminal job written.status hint
   pub rest : List ℕ
   pub left : IsRest (audience.is_terminal || audience.wants_rest) audience.wants_rest job program audience.name written rest
-  pub both : said ≡ hint ++ rest
+  pub all : said ≡ line ++ hint ++ rest
 
 -- what is told of each event is written while the events are played, unless a file is to take it
 abbrev pub is_played : Job → Bool

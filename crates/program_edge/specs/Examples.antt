@@ -12,7 +12,7 @@ use Rattle.jobs.specs.declared.job.Job.TheVariants.{Check, Explain, Print, Seq}
 use Rattle.jobs.specs.declared.job.Warnings.{Warnings}
 use Rattle.std.specs.declared.string.String.{String}
 use Rattle.std.specs.declared.alloc.Global.{Global}
-use Rattle.explain_report.specs.declared.left.LeftOver.{LeftOver}
+use Rattle.explain_report.specs.declared.proposal.LeftOver.{LeftOver}
 use Rattle.program_edge.specs.Asking.{input_of}
 use Rattle.program_edge.specs.Beside.{rest_said}
 use Rattle.program_edge.specs.FileTexts.{program_name}

@@ -1,5 +1,5 @@
 -- What `annotate --releases` writes.
-use Rattle.std.specs.Prelude.{◌≡◌, ◌≢◌, ℕ}
+use Rattle.std.specs.Prelude.{◌≡◌, ◌≢◌}
 use Rattle.jobs.specs.declared.job.Job.{Job}
 use Rattle.jobs.specs.declared.job.Texts.{Texts}
 use Rattle.release_proposals.specs.Paying.{IsReleased}

@@ -1,18 +1,18 @@
 //! From what was asked and its files to what is written and the status.
-ghost use Rattle.std.specs.Prelude.{◌≡◌, ◌⊎◌, ◌∷◌, Bool, true, None, IfErr, IfOk, OnOk};
+ghost use Rattle.std.specs.Prelude.{◌≡◌, ◌⊎◌, ◌∷◌, Bool, true, None, IfErr, OnOk};
 ghost use Rattle.result_files.specs.Files.{Files};
-ghost use Rattle.program_edge.specs.Answering.{IsAnswered, IsDelivered, IsDelivery, IsFiled, IsFixed, IsNotDone, IsRead, IsReleaseServed, IsServed, IsServedBy, IsUnfiled, is_whole, place_of, said_at};
+ghost use Rattle.program_edge.specs.Answering.{IsAnswered, IsDelivered, IsDelivery, IsFiled, IsFixed, IsGiven, IsNotDone, IsRead, IsReleaseServed, IsServed, IsUnfiled, is_whole, place_of, said_at};
 ghost use Rattle.program_edge.specs.Beside.{is_played};
 ghost use Rattle.program_edge.specs.Several.{IsEach};
+ghost use Rattle.program_edge.specs.Streams.{IsToldAlone};
 ghost use Rattle.program_edge.specs.Telling.{told_as, unread_fault};
-ghost use Rattle.verdict_report.specs.JobTexts.{IsReportOf};
 
 use crate::each::answer_each;
 use crate::fault::Fault;
 use crate::named_files::NamedFiles;
 use crate::reader::{Reader, hint_unkept, is_played, told_beside};
 use crate::refusal::is_refusal;
-use crate::releases::report_with_releases;
+use crate::releases::{Made, report_with_releases};
 use crate::reports::report_heard;
 use crate::streams::{say, write_whole};
 use crate::texts::{MOST_PROGRAM, NamedTexts, read_texts};
@@ -103,10 +103,10 @@ fn answer_request<F: NamedFiles, D: Folder, O: Write, E: Write, R: Threads + Wai
         paths,
         output: place,
         fixes,
-        further: _,
         releases,
         report: wants_rest,
         progress,
+        ..
     } = request;
     match read_texts(rt, alloc, files, &job, paths) {
         Ok(NamedTexts { name, texts }) => {
@@ -119,40 +119,15 @@ fn answer_request<F: NamedFiles, D: Folder, O: Write, E: Write, R: Threads + Wai
                 Some(path) => fix(
                     progress, rt, alloc, &job, &texts, path, &reader, folder, output, errors,
                 ),
-                None => serve_with(
-                    releases, progress, rt, alloc, &job, &texts, place, &reader, folder, output,
-                    errors,
+                None if releases => release(
+                    rt, alloc, &job, &texts, place, &reader, folder, output, errors,
+                ),
+                None => deliver(
+                    progress, rt, alloc, &job, &texts, place, &reader, folder, output, errors,
                 ),
             }
         }
         Err(unread) => tell(&fault_of_file(&job, unread), output, errors),
-    }
-}
-
-// Does a job with its texts, and puts the releases that pay into the text that it writes, if `releases` says so.
-fn serve_with<D: Folder, O: Write, E: Write, R: Threads + Wait + Sync>(
-    releases: bool,
-    progress: bool,
-    rt: &R,
-    alloc: Global,
-    job: &Job,
-    texts: &Texts,
-    place: Option<String>,
-    reader: &Reader,
-    folder: &mut D,
-    output: &mut O,
-    errors: &mut E,
-) -> Answered
-    ensures { IsServedBy releases progress D.is_watched reader.now place job.now texts.now result
-        record { output = O.contents output.old; errors = E.contents errors.old; files = D.known folder.old }
-        record { output = O.contents output.new; errors = E.contents errors.new; files = D.known folder.new } }
-{
-    if releases {
-        release(rt, alloc, job, texts, place, reader, folder, output, errors)
-    } else {
-        deliver(
-            progress, rt, alloc, job, texts, place, reader, folder, output, errors,
-        )
     }
 }
 
@@ -168,20 +143,14 @@ fn release<D: Folder, O: Write, E: Write, R: Threads + Wait + Sync>(
     output: &mut O,
     errors: &mut E,
 ) -> Answered
-    ensures { IsReleaseServed D.is_watched place job.now texts.now result
+    ensures { IsReleaseServed D.is_watched reader.now place job.now texts.now result
         record { output = O.contents output.old; errors = E.contents errors.old; files = D.known folder.old }
         record { output = O.contents output.new; errors = E.contents errors.new; files = D.known folder.new } }
 {
     match report_with_releases(rt, alloc, job, texts, reader) {
-        Ok(made) => {
-            let (text, end) = (made.report.bytes(), made.report.status());
-            let place = place_of(place, is_refusal(job, end, text));
-            let said = said_at(&place, text);
-            let beside = made.beside.as_slice();
-            hand_over(
-                alloc, place, text, said, beside, end, folder, output, errors,
-            )
-        }
+        Ok(Made { report, line }) => give(
+            alloc, job, texts, &report, line, place, reader, folder, output, errors,
+        ),
         Err(lack) => tell(&Fault::Serve(lack), output, errors),
     }
 }
@@ -203,35 +172,17 @@ fn answer_several<F: NamedFiles, O: Write, E: Write, R: Threads + Wait + Sync>(
     let Request {
         job,
         paths,
-        output: _,
-        fixes: _,
         further,
-        releases: _,
-        report: _,
-        progress: _,
+        ..
     } = request;
-    match names_of(further, paths.program) {
-        Ok(names) => answer_each(
-            rt,
-            alloc,
-            &job,
-            names.as_slice(),
-            files,
-            output,
-            errors,
-            is_terminal,
-        ),
-        Err(AllocError) => tell(&Fault::Serve(ServeFault::OutOfMemory), output, errors),
-    }
-}
-
-// The names of all programs, the first one first.
-fn names_of(further: Vec<String>, program: String) -> Result<Vec<String>, AllocError>
-    ensures { IfOk result (λ names. names.items ≡ program ∷ further.items) }
-{
     let mut names = further;
-    names.insert(0, program)?;
-    Ok(names)
+    match names.insert(0, paths.program) {
+        Ok(()) => {
+            let names = names.as_slice();
+            answer_each(rt, alloc, &job, names, files, output, errors, is_terminal)
+        }
+        Err(_) => tell(&Fault::Serve(ServeFault::OutOfMemory), output, errors),
+    }
 }
 
 // The fault that is reported of a file that gives no text: `explain` and `check --least` say why.
@@ -269,7 +220,7 @@ fn fix<D: Folder, O: Write, E: Write, R: Threads + Wait + Sync>(
         record { output = O.contents output.old; errors = E.contents errors.old; files = D.known folder.old }
         record { output = O.contents output.new; errors = E.contents errors.new; files = D.known folder.new } }
 {
-    if !is_whole(texts) {
+    if texts.program.len() as u64 > MOST_PROGRAM {
         return deliver(
             progress, rt, alloc, job, texts, None, reader, folder, output, errors,
         );
@@ -304,13 +255,6 @@ fn fix<D: Folder, O: Write, E: Write, R: Threads + Wait + Sync>(
     }
 }
 
-// Whether a program text was read to its end.
-fn is_whole(texts: &Texts) -> bool
-    ensures { result ≡ is_whole texts.now }
-{
-    texts.program.len() as u64 <= MOST_PROGRAM
-}
-
 // Does a job with its texts; its report goes to a file, if there is one. What is told of events goes to standard output
 // while they are played; any other report is made whole first, and if `progress` says so, `errors` hears on the way how
 // far it is.
@@ -335,9 +279,12 @@ fn deliver<D: Folder, O: Write, E: Write, R: Threads + Wait + Sync>(
         place => {
             let name = reader.name.as_str();
             match report_heard(progress, rt, alloc, job, texts, name, errors) {
-                Ok(report) => give(
-                    alloc, job, texts, &report, place, reader, folder, output, errors,
-                ),
+                Ok(report) => {
+                    let none = Vec::new(alloc);
+                    give(
+                        alloc, job, texts, &report, none, place, reader, folder, output, errors,
+                    )
+                }
                 Err(lack) => tell(&Fault::Serve(lack), output, errors),
             }
         }
@@ -374,28 +321,28 @@ fn stream<O: Write, E: Write, R: Threads + Wait + Sync>(
     }
 }
 
-// Delivers the report of a job, and what is told beside it. That of a refusal goes to no file.
+// Delivers a report; beside it a line is told, and what there is to tell of the report. That of a refusal goes to no file.
 fn give<D: Folder, O: Write, E: Write>(
     alloc: Global,
     job: &Job,
     texts: &Texts,
     report: &JobReport,
+    line: Vec<u8>,
     place: Option<String>,
     reader: &Reader,
     folder: &mut D,
     output: &mut O,
     errors: &mut E,
 ) -> Answered
-    requires { IsReportOf job.now texts.now report.now }
-    ensures { IsDelivered D.is_watched reader.now place job.now texts.now result
+    ensures { IsGiven D.is_watched reader.now line.items place job.now texts.now.program.items report.now result
         record { output = O.contents output.old; errors = E.contents errors.old; files = D.known folder.old }
         record { output = O.contents output.new; errors = E.contents errors.new; files = D.known folder.new }
-        ⊎ IsNotDone job.now texts.now result
+        ⊎ IsToldAlone (Fault.Serve ServeFault.OutOfMemory) result
         record { output = O.contents output.old; errors = E.contents errors.old; files = D.known folder.old }
         record { output = O.contents output.new; errors = E.contents errors.new; files = D.known folder.new } }
 {
     let (bytes, status) = (report.bytes(), report.status());
-    match told_beside(alloc, job, texts, reader, report) {
+    match told_beside(alloc, job, texts, reader, report, line) {
         Ok(beside) => {
             let place = place_of(place, is_refusal(job, status, bytes));
             let said = said_at(&place, bytes);

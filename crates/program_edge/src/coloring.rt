@@ -1,5 +1,5 @@
 //! Whether lines for a person have colours, where the options leave that to the program.
-ghost use Rattle.program_edge.specs.Colouring.{IsButColors, IsSettled};
+ghost use Rattle.program_edge.specs.Colouring.{IsSettled};
 
 use crate::fault::Fault;
 use command_line::request::Request;
@@ -28,38 +28,16 @@ pub(crate) fn settle_asked(
 ) -> Result<Request, Fault>
     ensures { IsSettled asked result }
 {
-    let request = asked?;
+    let mut request = asked?;
     let is_colored = shows_colors && request.output.is_none();
-    Ok(Request {
-        job: settle_job(request.job, is_colored),
-        ..request
-    })
-}
-
-// A job, with nothing left open.
-fn settle_job(job: Job, is_colored: bool) -> Job
-    ensures { IsButColors job result }
-{
-    match job {
-        Job::Explain {
-            name,
-            certificate,
-            script,
-            warnings,
-            format,
-            colors,
-        } => Job::Explain {
-            name,
-            certificate,
-            script,
-            warnings,
-            format,
-            colors: match colors {
-                Colors::Auto if is_colored => Colors::Always,
-                Colors::Auto => Colors::Never,
-                other => other,
-            },
-        },
-        other => other,
+    if let Job::Explain { colors, .. } = &mut request.job {
+        if *colors == Colors::Auto {
+            *colors = if is_colored {
+                Colors::Always
+            } else {
+                Colors::Never
+            };
+        }
     }
+    Ok(request)
 }

@@ -2,7 +2,7 @@
 ghost use Rattle.std.specs.Prelude.{◌≡◌, IfOk};
 ghost use Rattle.program_edge.specs.Hints.{IsHint, explains};
 
-use crate::refusal::last_line;
+use crate::refusal::{last_line, refuses};
 use jobs::job::Job;
 use report_texts::unlisted::unlisted_exit;
 use shown_names::name::shown_name;
@@ -50,20 +50,16 @@ fn line_hint(
     program: &[u8],
     line: &[u8],
 ) -> Result<Vec<u8>, AllocError> {
-    let mut hint = Vec::new(alloc);
-    if !has_more(line) && !says_all(line) {
-        return Ok(hint);
+    if !refuses(line) && !line.starts_with(b"trapped ") && !line.starts_with(b"unlisted ") {
+        return Ok(Vec::new(alloc));
     }
     let shown = shown_name(alloc, name)?;
-    hint.extend_from_slice(b"multiscalar: ")?;
-    hint.extend_from_slice(shown.as_str().as_bytes())?;
-    hint.extend_from_slice(b": ")?;
+    let mut hint = format!(in alloc; "multiscalar: {shown}: ")?.into_bytes();
     hint.extend_from_slice(&line[..line.len().saturating_sub(1)])?;
-    if has_more(line) {
+    if line.starts_with(b"program refused: ") || line.starts_with(b"refused ") {
         let word = shell_word(alloc, name)?;
-        hint.extend_from_slice(b"; multiscalar explain ")?;
-        hint.extend_from_slice(word.as_str().as_bytes())?;
-        hint.extend_from_slice(b" says more")?;
+        let more = format!(in alloc; "; multiscalar explain {word} says more")?;
+        hint.extend_from_slice(more.as_str().as_bytes())?;
     }
     if line.starts_with(b"unlisted ") {
         if let Some(exit) = unlisted_exit(alloc, program)? {
@@ -73,18 +69,4 @@ fn line_hint(
     }
     hint.push(b'\n')?;
     Ok(hint)
-}
-
-// Whether `explain` says more of a program with this last line.
-fn has_more(line: &[u8]) -> bool {
-    line.starts_with(b"program refused: ") || line.starts_with(b"refused ")
-}
-
-// Whether the line says all.
-fn says_all(line: &[u8]) -> bool {
-    line.starts_with(b"certificate refused: ")
-        || line.starts_with(b"script refused: ")
-        || line.starts_with(b"marks refused: ")
-        || line.starts_with(b"trapped ")
-        || line.starts_with(b"unlisted ")
 }

@@ -1,6 +1,6 @@
 //! The part of one of several programs on the two streams.
 ghost use Rattle.std.specs.Prelude.{◌≡◌, [], None, Err, IfOk, OnErr};
-ghost use Rattle.explain_report.specs.ExplainText.{IsExplainReport};
+ghost use Rattle.explain_report.specs.Explained.{IsExplainReport};
 ghost use Rattle.report_texts.specs.OutputTexts.{Report};
 ghost use Rattle.std.specs.String.{string_bytes};
 ghost use Rattle.verdict_report.specs.JobTexts.{IsReportOf};
@@ -117,7 +117,14 @@ fn judged_part<R: Threads + Wait + Sync>(
                 colors: *colors,
             };
             match format {
-                Format::Sarif => logged_part(alloc, *warnings, name, texts, log),
+                Format::Sarif => {
+                    let status = add_program(alloc, log, *warnings, name, texts)?;
+                    Ok(Part {
+                        output: Vec::new(alloc),
+                        errors: Vec::new(alloc),
+                        judged: judged_by(status),
+                    })
+                }
                 Format::Text | Format::Json => {
                     reported_part(rt, alloc, &own, name, texts, is_terminal)
                 }
@@ -146,27 +153,6 @@ fn reported_part<R: Threads + Wait + Sync>(
     Ok(Part {
         output: among_others(alloc, job, name, bytes)?,
         errors: hint_for(alloc, is_terminal, job, name, program, status, bytes)?,
-        judged: judged_by(status),
-    })
-}
-
-// The part of a program that a log has.
-fn logged_part(
-    alloc: Global,
-    warnings: Warnings,
-    name: &str,
-    texts: &Texts,
-    log: &mut Vec<LoggedProgram>,
-) -> Result<Part, ServeFault>
-    ensures part { IfOk result (λ part. (report : Report)
-        × IsExplainReport None None warnings texts.now.program.items texts.now.certificate texts.now.script.items report
-        × (seen part ≡ record { output = []; errors = []; judged = judged_by report.status })) }
-    ensures memory { OnErr result (result ≡ Err ServeFault.OutOfMemory) }
-{
-    let status = add_program(alloc, log, warnings, name, texts)?;
-    Ok(Part {
-        output: Vec::new(alloc),
-        errors: Vec::new(alloc),
         judged: judged_by(status),
     })
 }

@@ -5,8 +5,7 @@ ghost use Rattle.program_edge.specs.Hints.{IsHint};
 
 use crate::hint::hint_for;
 use crate::reports::report_of;
-use explain_report::left::LeftOver;
-use explain_report::proposal::left_over;
+use explain_report::proposal::{LeftOver, left_over};
 use jobs::job::{Job, ReplayEmit, TableFormat, Texts};
 use report_texts::report::JobReport;
 use shown_names::name::shown_name;
@@ -59,23 +58,26 @@ pub(crate) fn is_played(job: &Job) -> bool
     )
 }
 
-/// What is told beside a report of this job.
+/// What is told beside a report of this job, behind a line.
 pub(crate) fn told_beside(
     alloc: Global,
     job: &Job,
     texts: &Texts,
     reader: &Reader,
     report: &JobReport,
+    line: Vec<u8>,
 ) -> Result<Vec<u8>, AllocError>
-    ensures { IfOk result (λ told. IsBeside reader.now job.now texts.now.program.items report.now told.items) }
+    ensures { IfOk result (λ told. IsBeside reader.now line.items job.now texts.now.program.items report.now told.items) }
 {
     let name = reader.name.as_str();
     let program = texts.program.as_slice();
     let (bytes, status) = (report.bytes(), report.status());
-    let mut hint = hint_for(alloc, reader.is_terminal, job, name, program, status, bytes)?;
+    let hint = hint_for(alloc, reader.is_terminal, job, name, program, status, bytes)?;
     let rest = rest_of(alloc, job, texts, reader, report)?;
-    hint.extend_from_slice(rest.as_slice())?;
-    Ok(hint)
+    let mut told = line;
+    told.extend_from_slice(hint.as_slice())?;
+    told.extend_from_slice(rest.as_slice())?;
+    Ok(told)
 }
 
 /// The hint beside a report with this status that was not kept. Of what a replay tells, only a refusal has one, which

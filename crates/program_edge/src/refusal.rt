@@ -20,7 +20,7 @@ fn judges(job: &Job) -> bool
 }
 
 // Whether a last line is one that refuses.
-fn refuses(line: &[u8]) -> bool
+pub(crate) fn refuses(line: &[u8]) -> bool
     ensures { result ≡ refuses line.now }
 {
     line.starts_with(b"program refused: ")

@@ -1,8 +1,8 @@
 //! The text of `annotate` with the releases that pay.
 ghost use Rattle.std.specs.Prelude.{◌≡◌, Err, IfOk, OnErr};
-ghost use Rattle.program_edge.specs.Releases.{IsReportWith, IsWith};
+ghost use Rattle.program_edge.specs.Releases.{IsReportWith};
 
-use crate::reader::{Reader, told_beside};
+use crate::reader::Reader;
 use crate::reports::report_of;
 use jobs::job::{Job, Texts};
 use release_proposals::releasing::{Released, with_releases};
@@ -14,14 +14,14 @@ use std::sync::Wait;
 use std::thread::Threads;
 use verdict_report::fault::ServeFault;
 
-/// A report with the releases that pay, and what is told beside it.
+/// A report with the releases that pay, and what is told of them.
 #[derive(Drop)]
-pub(crate) struct MadeReport {
+pub(crate) struct Made {
     pub(crate) report: JobReport,
-    pub(crate) beside: Vec<u8>,
+    pub(crate) line: Vec<u8>,
 }
 
-/// What a job with its texts writes, with the releases that pay.
+/// What a job with its texts writes, with the releases that pay; that of a refusal as it is.
 ///
 /// # Errors
 ///
@@ -32,38 +32,19 @@ pub(crate) fn report_with_releases<R: Threads + Wait + Sync>(
     job: &Job,
     texts: &Texts,
     reader: &Reader,
-) -> Result<MadeReport, ServeFault>
+) -> Result<Made, ServeFault>
     ensures made { IfOk result (λ made. IsReportWith job.now texts.now made.report) }
     ensures memory { OnErr result (result ≡ Err ServeFault.OutOfMemory) }
 {
-    let marked = report_of(rt, alloc, job, texts)?;
-    let made = with_all(alloc, job, texts, reader, marked)?;
-    Ok(made)
-}
-
-// A report with the releases that pay; that of a refusal as it is.
-fn with_all(
-    alloc: Global,
-    job: &Job,
-    texts: &Texts,
-    reader: &Reader,
-    marked: JobReport,
-) -> Result<MadeReport, AllocError>
-    ensures { IfOk result (λ made. IsWith marked made.report) }
-{
-    if marked.status() != 0 {
-        let beside = told_beside(alloc, job, texts, reader, &marked)?;
-        return Ok(MadeReport {
-            report: marked,
-            beside,
-        });
+    let report = report_of(rt, alloc, job, texts)?;
+    let line = Vec::new(alloc);
+    if report.status() != 0 {
+        return Ok(Made { report, line });
     }
-    let released = with_releases(alloc, marked.bytes())?;
-    let mut beside = line_of(alloc, reader, &released)?.into_bytes();
+    let released = with_releases(alloc, report.bytes())?;
+    let line = line_of(alloc, reader, &released)?.into_bytes();
     let report = JobReport::new(released.text, 0);
-    let rest = told_beside(alloc, job, texts, reader, &report)?;
-    beside.extend_from_slice(rest.as_slice())?;
-    Ok(MadeReport { report, beside })
+    Ok(Made { report, line })
 }
 
 // Whether releases were put in, and what for, where that is asked for.

@@ -54,39 +54,25 @@ pub fn read_texts<F: NamedFiles, R: Threads + Sync>(
         certificate,
         script,
     } = paths;
-    let ReadProgram { path, name, text } = read_program(alloc, files, program)?;
+    let (text, name) = match read_named(alloc, files, program.as_str()) {
+        Ok(read) => read,
+        Err(reason) => {
+            return Err(Unread {
+                path: program,
+                reason,
+            });
+        }
+    };
     let texts = Texts {
         name,
         program: text,
         certificate: read_certificate(rt, alloc, files, certificate, job)?,
         script: read_other(alloc, files, script, job.has_script())?,
     };
-    Ok(NamedTexts { name: path, texts })
-}
-
-// A program text, with its name and its file's path.
-#[derive(Drop)]
-struct ReadProgram {
-    path: String,
-    name: String,
-    text: Vec<u8>,
-}
-
-// The program text with its name, or why there is none.
-fn read_program<F: NamedFiles>(
-    alloc: Global,
-    files: &F,
-    path: String,
-) -> Result<ReadProgram, Unread>
-    ensures { (found : Result (List ℕ) UnreadReason) × IsFound (F.known files.now (string_bytes path)) most_program found
-        × MatchResult result
-        (λ read. (found ≡ Ok read.text.items) × (read.path ≡ path) × (string_bytes read.name ≡ program_name (string_bytes path)))
-        (λ unread. (found ≡ Err unread.reason) × (unread.path ≡ path)) }
-{
-    match read_named(alloc, files, path.as_str()) {
-        Ok((text, name)) => Ok(ReadProgram { path, name, text }),
-        Err(reason) => Err(Unread { path, reason }),
-    }
+    Ok(NamedTexts {
+        name: program,
+        texts,
+    })
 }
 
 // The program text in the file of this path, and the program's name; or why there is none.
@@ -100,16 +86,8 @@ fn read_named<F: NamedFiles>(
         (λ reason. found ≡ Err reason) }
 {
     let text = read_file(alloc, files, path, MOST_PROGRAM)?;
-    let name = copied(alloc, program_name(path))?;
-    Ok((text, name))
-}
-
-// A copy of a name, or that memory ran out.
-fn copied(alloc: Global, name: &str) -> Result<String, UnreadReason>
-    ensures { MatchResult result (λ copy. string_bytes copy ≡ name.now) (λ reason. reason ≡ UnreadReason.OutOfMemory) }
-{
-    match String::from_str(alloc, name) {
-        Ok(copy) => Ok(copy),
+    match String::from_str(alloc, program_name(path)) {
+        Ok(name) => Ok((text, name)),
         Err(AllocError) => Err(UnreadReason::OutOfMemory),
     }
 }
@@ -206,10 +184,9 @@ fn read_pieces<F: NamedFiles, R: Threads + Sync>(
     let mut opened = files
         .open(name)
         .map_err(|error| reason_of_opening(error.kind()))?;
-    match fetch_shared(rt, alloc, &mut opened, MOST_FILE, workers) {
-        Ok(text) => Ok(text),
-        Err(fault) => Err(files.why_unread(name, fault)),
-    }
+    fetch_shared(rt, alloc, &mut opened, MOST_FILE, workers).map_err(|fault| files.why_unread(
+        name, fault,
+    ))
 }
 
 // The file of this name, or its first `most + 1` bytes; or why it can't be read.
@@ -225,8 +202,5 @@ pub(crate) fn read_file<F: NamedFiles>(
     let mut file = files
         .open(name)
         .map_err(|error| reason_of_opening(error.kind()))?;
-    match fetch(alloc, &mut file, most) {
-        Ok(text) => Ok(text),
-        Err(fault) => Err(files.why_unread(name, fault)),
-    }
+    fetch(alloc, &mut file, most).map_err(|fault| files.why_unread(name, fault))
 }

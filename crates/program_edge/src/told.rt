@@ -6,7 +6,7 @@ ghost use Rattle.program_edge.specs.Telling.{IsTold, file_line, line, said_of};
 
 use crate::fault::Fault;
 use crate::shown::write_shown;
-use crate::unread::{Unread, UnreadReason};
+use crate::unread::UnreadReason;
 use result_files::unwritten::Unwritten;
 use result_files::writing::write_text;
 use std::io;
@@ -77,13 +77,26 @@ fn write_fault<W: Write>(fault: &Fault, writer: &mut W) -> io::Result<()>
         }
         Fault::Serve(fault) => write_line(fault.name(), writer),
         Fault::File(path) => write_file(path.as_str(), writer),
-        Fault::Explained(unread) => write_reason(
-            unread.path.as_str(),
-            unread.reason.words(),
-            writer,
-        ),
-        Fault::NoProgram(unread) => write_unread(unread, writer),
-        Fault::NotWritten(path, reason) => write_unwritten(path.as_str(), reason, writer),
+        Fault::NoProgram(unread) if unread.reason == UnreadReason::IsDirectory => {
+            let path = unread.path.as_str();
+            write_reason(
+                path,
+                "is a directory; name its files, as in ",
+                path,
+                "/*.s",
+                writer,
+            )
+        }
+        Fault::Explained(unread) | Fault::NoProgram(unread) => {
+            write_reason(unread.path.as_str(), unread.reason.words(), "", "", writer)
+        }
+        Fault::NotWritten(path, Unwritten::Link(file)) => {
+            let reason = "is a link; name the file itself, ";
+            write_reason(path.as_str(), reason, file.as_str(), "", writer)
+        }
+        Fault::NotWritten(path, reason) => {
+            write_reason(path.as_str(), reason.words(), "", "", writer)
+        }
     }
 }
 
@@ -107,36 +120,19 @@ fn write_file<W: Write>(path: &str, writer: &mut W) -> io::Result<()>
     write_text("\n", writer)
 }
 
-// Writes why the file of this name is of no use.
-fn write_reason<W: Write>(path: &str, reason: &str, writer: &mut W) -> io::Result<()> {
+// Writes why the file of this name is of no use, where another name is part of the reason, or none.
+fn write_reason<W: Write>(
+    path: &str,
+    reason: &str,
+    other: &str,
+    rest: &str,
+    writer: &mut W,
+) -> io::Result<()> {
     write_text("multiscalar: file ", writer)?;
     write_shown(path, writer)?;
     write_text(": ", writer)?;
     write_text(reason, writer)?;
-    write_text("\n", writer)
-}
-
-// Writes why a file gives no program: of a folder, how its files are named.
-fn write_unread<W: Write>(unread: &Unread, writer: &mut W) -> io::Result<()> {
-    let path = unread.path.as_str();
-    if unread.reason != UnreadReason::IsDirectory {
-        return write_reason(path, unread.reason.words(), writer);
-    }
-    write_text("multiscalar: file ", writer)?;
-    write_shown(path, writer)?;
-    write_text(": is a directory; name its files, as in ", writer)?;
-    write_shown(path, writer)?;
-    write_text("/*.s\n", writer)
-}
-
-// Writes why a file takes no result: of a link, which file to name.
-fn write_unwritten<W: Write>(path: &str, reason: &Unwritten, writer: &mut W) -> io::Result<()> {
-    let Unwritten::Link(file) = reason else {
-        return write_reason(path, reason.words(), writer);
-    };
-    write_text("multiscalar: file ", writer)?;
-    write_shown(path, writer)?;
-    write_text(": is a link; name the file itself, ", writer)?;
-    write_shown(file.as_str(), writer)?;
+    write_shown(other, writer)?;
+    write_text(rest, writer)?;
     write_text("\n", writer)
 }

@@ -1,16 +1,17 @@
 -- By whether the text was cut, and by the job.
-use Rattle.std.proofs.Common.{◌∙◌, inl, inr, refl, sym}
+use Rattle.std.proofs.Common.{arith, inl, inr, refl}
+use Rattle.std.proofs.lemmas.Bool.{le-leb, lt-leb}
 use Rattle.program_edge.proofs.ReportLemmas.{cut_alone, explained_fixed, other_alone}
 use Rattle.program_edge.proofs.answer.fix.Goals as goal
 
-pub returns-then-not-is_whole : goal.returns-then-not-is_whole
-returns-then-not-is_whole g c = cut_alone _ c.args.progress g.D.Folder.is_watched c.args.reader.now c.args.path c.args.job.now c.args.texts.now c.deliver.result _ _
-    (sym c.is_whole.ensures ∙ c.if-not-is_whole.true) c.deliver.ensures
+pub returns-then-len-gt-MOST_PROGRAM : goal.returns-then-len-gt-MOST_PROGRAM
+returns-then-len-gt-MOST_PROGRAM g c = cut_alone _ c.args.progress g.D.Folder.is_watched c.args.reader.now c.args.path c.args.job.now c.args.texts.now c.deliver.result _ _
+    (lt-leb _ _ (omega (arith, c.len.ensures, c.if-len-gt-MOST_PROGRAM.true))) c.deliver.ensures
 
 pub returns-in-Ok : goal.returns-in-Ok
 returns-in-Ok g c = explained_fixed _ c.args.progress g.D.Folder.is_watched c.args.reader.now c.args.path c.args.job.now c.in-Explain.name c.in-Explain.certificate
     c.in-Explain.script c.in-Explain.warnings c.in-Explain.format c.in-Explain.colors c.args.texts.now c.hand_over.result _ _
-    (sym c.is_whole.ensures ∙ c.if-not-is_whole.false) c.in-Explain.is
+    (le-leb _ _ (omega (arith, c.len.ensures, c.if-len-gt-MOST_PROGRAM.false))) c.in-Explain.is
     (inl (record {
       repaired = c.in-Ok.repaired;
       right = c.in-Ok.ensures;
@@ -20,7 +21,7 @@ returns-in-Ok g c = explained_fixed _ c.args.progress g.D.Folder.is_watched c.ar
 pub returns-in-Err : goal.returns-in-Err
 returns-in-Err g c = explained_fixed _ c.args.progress g.D.Folder.is_watched c.args.reader.now c.args.path c.args.job.now c.in-Explain.name c.in-Explain.certificate
     c.in-Explain.script c.in-Explain.warnings c.in-Explain.format c.in-Explain.colors c.args.texts.now c.tell.result _ _
-    (sym c.is_whole.ensures ∙ c.if-not-is_whole.false) c.in-Explain.is
+    (le-leb _ _ (omega (arith, c.len.ensures, c.if-len-gt-MOST_PROGRAM.false))) c.in-Explain.is
     (inr (c.tell.ensures, λ _. refl))
 
 pub returns-in_default : goal.returns-in_default
