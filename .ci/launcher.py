@@ -450,7 +450,8 @@ def try_shipped(folder):
 def try_three_unpack(folder):
     place = Place(folder)
     place.ship()
-    answers = [ended(it) for it in [place.begin("seq", env=place.bare()) for _ in range(3)]]
+    settings = place.bare()  # once: it links the commands anew, which no call may see
+    answers = [ended(it) for it in [place.begin("seq", env=settings) for _ in range(3)]]
     expect(all(it[:2] == (0, "shipped\n") for it in answers), answers)
     expect(sorted(it.name.split("-")[0] for it in (place.out / "shipped").iterdir()) == ["multiscalar", "seen"], list((place.out / "shipped").iterdir()))
 
