@@ -39,6 +39,8 @@ PAGES = [("README.md", ".", ""), ("docs/TUTORIAL.md", "examples/tutorial", "tuto
 MAIN = '#include "multiscalar.h"\nint main(void) { out(1); return 0; }\n'
 NAMED = {"one.c": MAIN, "two.c": "", "rest.S": "", "program.c": MAIN, "LINKS..": "#v=1-7a0f1157&exercise=1\n"}
 CORE = "crates/multiscalar_c/out/libmultiscalar_c.a"
+# What the scripts of the page call.
+CALLED = {"web/build.sh": ["rt"], "web/compare": ["chromium", "chromedriver"], "web/test": ["chromium", "chromedriver", "firefox-esr"]}
 END = "----- the end of what a command says -----"
 
 
@@ -77,13 +79,10 @@ def lacking(page):
 def needed(command):
     """What a command without an answer needs and is not there."""
     script, gcc = command.split()[0], re.search(r"--gcc (\S+)", command)
-    if script in ("web/compare", "web/test"):
-        return "a browser"
-    if script == "web/build.sh":
-        return "rt"
     if "/" in script and not (TOP / script).is_file():
         return script
-    return gcc[1] if gcc and not shutil.which(gcc[1]) else None
+    programs = [gcc[1]] if gcc else CALLED.get(script, ())
+    return next((it for it in programs if not shutil.which(it)), None)
 
 
 def copied(folder, program, copy):
