@@ -28,9 +28,9 @@ ALLOWED = {
     "mips_plain/src/memory.rt": 1,
     # The condition calls a function whose contract says that the fault is want of memory.
     "demonstration/src/driven.rt": 1,
-    "demonstration/src/judge.rt": 1,
-    # What a refused push gives, without the value that it hands back.
+    # What a refused push or insertion gives, without the value that it hands back.
     "parallel_check/src/checking.rt": 1,
+    "program_edge/src/answer.rt": 1,
     # A write to memory failed, which it does for want of it alone.
     "event_trace/src/streaming.rt": 1,
     # Noted when a call or a thread was refused.
