@@ -1,7 +1,7 @@
 #!/usr/bin/env python3
 """Runs the commands that documents print and compares what they say.
 
-    pages.py PROGRAM
+    pages.py PROGRAM [--browsers]
 
 PROGRAM is the built `multiscalar`. In a block of a page a line `$ COMMAND` is a
 command of the shell, and the lines up to the next one are what it prints. The
@@ -15,8 +15,8 @@ A line that begins with four blanks and `multiscalar`, `compiler/` or `web/` is 
 command, up to two blanks, of which the page does not print the answer. It runs after
 these, and must be neither wrong usage nor without a file; of scripts the status is 0.
 
-What needs a compiler, the built library, rt or a browser is not tried where that is not
-there; a line says so.
+What needs a compiler, the built library or rt is not tried where that is not there; nor
+without --browsers what needs a browser, which takes up to an hour. A line says so.
 """
 import argparse
 import collections
@@ -39,8 +39,9 @@ PAGES = [("README.md", ".", ""), ("docs/TUTORIAL.md", "examples/tutorial", "tuto
 MAIN = '#include "multiscalar.h"\nint main(void) { out(1); return 0; }\n'
 NAMED = {"one.c": MAIN, "two.c": "", "rest.S": "", "program.c": MAIN, "LINKS..": "#v=1-7a0f1157&exercise=1\n"}
 CORE = "crates/multiscalar_c/out/libmultiscalar_c.a"
-# What the scripts of the page call.
-CALLED = {"web/build.sh": ["rt"], "web/compare": ["chromium", "chromedriver"], "web/test": ["chromium", "chromedriver", "firefox-esr"]}
+# What the scripts of the page call; a browser only where it is asked for.
+CALLED = {"web/build.sh": ["rt"], "web/compare": ["a browser"], "web/test": ["a browser"]}
+BROWSERS = {"web/compare": ["chromium", "chromedriver"], "web/test": ["chromium", "chromedriver", "firefox-esr"]}
 END = "----- the end of what a command says -----"
 
 
@@ -163,7 +164,10 @@ def faults(program, page, folder, begins):
 def main():
     options = argparse.ArgumentParser(description=__doc__, formatter_class=argparse.RawDescriptionHelpFormatter)
     options.add_argument("program", metavar="PROGRAM", type=pathlib.Path)
+    options.add_argument("--browsers", action="store_true", help="try what needs a browser, too")
     given = options.parse_args()
+    if given.browsers:
+        CALLED.update(BROWSERS)
     if not given.program.is_file():
         options.error(f"there is no program {given.program}")
     failed = 0
